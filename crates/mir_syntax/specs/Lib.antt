@@ -1,0 +1,5 @@
+pub mod formers
+pub mod Table
+pub mod Tree
+pub mod Crate
+pub mod Shapes

@@ -1,0 +1,36 @@
+//! The syntax of a crate of MIR bodies: types, places, statements, blocks, and the `Program` that holds them over one table of types.
+//!
+//! Everything else stands on this crate. Contracts see a `Program` through `crate_of` (`specs/Crate.antt`), in which each id is replaced
+//! by the type that it stands for (`specs/Tree.antt`), so the order of the table is no part of a program. The main contracts are
+//! `Program::intern` and `Program::ty` (equal types have one id, and an id keeps its type), `Program::place_ty` (the type of a place,
+//! by `specs/Shapes.antt`) and `Body::copy` (an equal body).
+#![tactic(auto)]
+
+mod body;
+mod copied;
+mod lines;
+mod list;
+mod number;
+mod program;
+mod stage;
+mod types;
+
+pub use body::{
+    Arm, BinOp, Block, Body, Callee, Const, Function, Inline, Operand, OverOp, Place, Proj, Rvalue,
+    Stmt, Term, UnOp,
+};
+pub use copied::Copied;
+pub use lines::{BlockLines, FnLines, Lines};
+pub use list::List;
+pub use number::Number;
+pub use program::Program;
+pub use stage::Stage;
+pub use types::{Def, Field, FnId, Form, IntTy, OutId, Outside, ScalarTy, Ty, TyId, Variant};
+
+/// Memory was asked for and not given.
+#[derive(Clone, Copy, Debug, PartialEq, Eq, thiserror::Error)]
+#[error("out of memory")]
+pub struct OutOfMemory;
+
+/// A name or a path, as its bytes.
+pub type Name = List<u8>;
