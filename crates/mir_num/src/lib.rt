@@ -7,6 +7,8 @@
 
 mod arith;
 mod operators;
+#[cfg(test)]
+mod tests;
 mod values;
 mod widths;
 
