@@ -2,7 +2,8 @@
 //!
 //! `Refines` is `mir_semantics`' (`specs/Refines.antt`). It is reflexive and transitive (`refines_reflexive`, `refines_transitive`), and a
 //! simulation (`specs/Simulation.antt`: each step of the source is followed by steps of the target) that relates the starts of each entry
-//! gives it: `refines_by` of `proofs/Refine.antt`, which a clause can't state, since it ranges over relations. The functions here run
+//! gives it: `refines_by` of `proofs/Refine.antt`, which a clause cannot state, since it ranges over relations. So does a crate whose bodies
+//! have the same statements under other jumps (`specs/Jumps.antt`): `jumps_refine` of `proofs/Jumps.antt`. The functions here run
 //! nothing; their contracts are the laws.
 #![tactic(auto)]
 
