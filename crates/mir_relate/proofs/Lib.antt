@@ -2,3 +2,5 @@ pub mod Traces
 pub mod Law
 pub mod Refine
 pub mod Jumps
+pub mod Hops
+pub mod OneBody

@@ -1,2 +1,4 @@
 pub mod Simulation
 pub mod Jumps
+pub mod Hops
+pub mod OneBody

@@ -7,8 +7,12 @@
 //! nothing; their contracts are the laws.
 #![tactic(auto)]
 
-ghost use Rattle.mir_syntax.specs.Crate.{Crate};
-ghost use Rattle.mir_semantics.specs.Refines.{Refines};
+ghost use Rattle.std.specs.Prelude.{◌≡◌, ℕ, map};
+ghost use Rattle.mir_syntax.specs.Crate.{Crate, TypedBody};
+ghost use Rattle.mir_semantics.specs.Step.{body_in};
+ghost use Rattle.mir_semantics.specs.Refines.{Refines, header};
+ghost use Rattle.mir_relate.specs.Hops.{Hops, AllHop};
+ghost use Rattle.mir_relate.specs.OneBody.{with_body, Replaces};
 
 /// A crate refines itself.
 pub fn refines_reflexive()
@@ -18,4 +22,14 @@ pub fn refines_reflexive()
 /// What refines a crate that refines another one refines that other one.
 pub fn refines_transitive()
     ensures { (a b c : Crate) → Refines a b → Refines b c → Refines a c }
+{}
+
+/// A crate whose bodies are the source's with edges that skip empty gotos refines it.
+pub fn hops_refine()
+    ensures { (a b : Crate) → AllHop (map body_in a.functions) (map body_in b.functions) → a.defs ≡ b.defs → a.outsides ≡ b.outsides → map header a.functions ≡ map header b.functions → Refines a b }
+{}
+
+/// A crate with such a body at one function refines the crate with the body that stood there.
+pub fn body_hops_refine()
+    ensures { (c : Crate) (f : ℕ) (target source : TypedBody) → Replaces c f target source → Hops target source → Refines (with_body c f target) c }
 {}
