@@ -1,18 +1,18 @@
 -- Bodies with the same statements under other jumps: the memories are equal, and only where frames stand differs.
-use Rattle.std.proofs.Common.{◌≡◌, ◌⊎◌, inl, inr, refl, sym, ap, ap₂, ◌∙◌, subst, ℕ, zero, suc, ◌+◌, ◌<◌, Bool, true, false, List, [], ◌∷◌, map, Option, Some, None, slice_get, arith}
+use Rattle.std.proofs.Common.{◌≡◌, inl, inr, refl, sym, ap, ap₂, ◌∙◌, subst, ℕ, suc, Bool, true, false, List, [], ◌∷◌, map, Option, Some, None, slice_get, arith}
 use Rattle.mir_syntax.specs.declared.body.Operand.{Operand}
 use Rattle.mir_syntax.specs.declared.body.Place.{Place}
 use Rattle.mir_syntax.specs.declared.body.Callee.{Callee}
 use Rattle.mir_syntax.specs.declared.body.Callee.TheVariants as callee
 use Rattle.mir_syntax.specs.declared.body.Term.{Term}
 use Rattle.mir_syntax.specs.declared.body.Term.TheVariants.{Goto, Switch, Return, Unreachable, Drop, Call, Assert}
-use Rattle.mir_syntax.specs.Tree.{Tree, scalar, empty, more, ref, ref_mut, named}
+use Rattle.mir_syntax.specs.Tree.{Tree, scalar}
 use Rattle.mir_syntax.specs.Crate.{TypedBody, TypedBlock, TypedStmt, Crate}
-use Rattle.mir_syntax.specs.Shapes.{Shape, ◌>>=◌, destructor_of, needs_drop}
+use Rattle.mir_syntax.specs.Shapes.{◌>>=◌, destructor_of, needs_drop}
 use Rattle.mir_num.specs.Numbers.{wrap}
 use Rattle.mir_semantics.specs.Values.{Value, is_hole}
 use Rattle.mir_semantics.specs.Memory.{Memory, open_frame}
-use Rattle.mir_semantics.specs.Step.{Code, code_of, body_in, Dest, Visit, Dropping, Control, Called, State, Outcome, Next, on, stop, fail, Here, to_block, next_stmt, go_on, take_arm, calling, answered, entered, enter, ask, call, new_slots, work_on, visit, visit_unless, visit_if, work_off, begun, destroyed_at, destroyed, return_to, check, finish, perform, step, resolve, type_of}
+use Rattle.mir_semantics.specs.Step.{Code, code_of, body_in, Dest, Visit, Dropping, Control, State, Next, on, stop, fail, Here, to_block, next_stmt, go_on, take_arm, calling, answered, entered, enter, ask, call, new_slots, work_on, visit, visit_unless, visit_if, work_off, begun, destroyed_at, destroyed, return_to, check, finish, perform, step, resolve, type_of}
 use Rattle.mir_semantics.specs.Run.{Entry, start, slots_at}
 use Rattle.mir_semantics.specs.Entry.{IsEntry}
 use Rattle.mir_semantics.specs.Refines.{Refines, header}

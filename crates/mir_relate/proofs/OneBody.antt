@@ -1,11 +1,11 @@
 -- Two crates that differ in the body of one function.
-use Rattle.std.proofs.Common.{◌≡◌, ◌⊎◌, inl, inr, ⊎_elim, refl, sym, ap, ap₂, ◌∙◌, subst, ℕ, zero, suc, ◌+◌, ◌<◌, Bool, true, false, nat_eq, List, [], ◌∷◌, map, take, Option, Some, None, slice_get, arith}
+use Rattle.std.proofs.Common.{◌≡◌, ◌⊎◌, inl, inr, ⊎_elim, refl, sym, ap, ap₂, ◌∙◌, subst, ℕ, zero, suc, List, [], ◌∷◌, map, take, Option, Some, None, slice_get, arith}
 use Rattle.std.proofs.lemmas.Bool.{cases_eq}
 use Rattle.mir_syntax.specs.Crate.{TypedBody, TypedBlock, TypedStmt, TypedFunction, Crate}
 use Rattle.mir_syntax.specs.declared.body.Term.{Term}
-use Rattle.mir_semantics.specs.Step.{Code, code_of, body_in}
-use Rattle.mir_semantics.specs.Refines.{Refines, Header, header}
-use Rattle.mir_relate.specs.Jumps.{SameTerm, To, Meets, Jumps}
+use Rattle.mir_semantics.specs.Step.{code_of, body_in}
+use Rattle.mir_semantics.specs.Refines.{Refines, header}
+use Rattle.mir_relate.specs.Jumps.{To, Meets, Jumps}
 use Rattle.mir_relate.specs.Hops.{Hops, AllHop}
 use Rattle.mir_relate.specs.OneBody.{change_body, with_body, Replaces, BodyJumps}
 use Rattle.mir_relate.proofs.Jumps.{jumps_refine}

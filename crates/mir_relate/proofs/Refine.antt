@@ -1,10 +1,10 @@
 -- Refinement is reflexive and transitive, and what a simulation gives.
-use Rattle.std.proofs.Common.{◌≡◌, ◌⊎◌, inl, inr, refl, sym, ap, ap₂, ◌∙◌, subst, ℕ, zero, suc, ◌+◌, Bool, true, false, ◌&&◌, not, nat_eq, if◌then◌else◌, IsTrue, List, [], ◌∷◌, map, length, take, drop, Option, Some, None, slice_get, arith}
+use Rattle.std.proofs.Common.{◌≡◌, ◌⊎◌, inl, inr, refl, sym, ap, ap₂, ◌∙◌, subst, ℕ, zero, suc, Bool, false, ◌&&◌, not, nat_eq, if◌then◌else◌, IsTrue, List, [], ◌∷◌, map, take, drop, Option, Some, None, slice_get, arith}
 use Rattle.mir_syntax.specs.Tree.{Tree, scalar, empty, more, ref, ref_mut, named, tuple_of}
 use Rattle.mir_syntax.specs.Crate.{TypedBody, TypedFunction, TypedDef, Crate}
-use Rattle.mir_syntax.specs.Shapes.{Shape, shapes_of, shapes_from, shape_of, destructor_from, is_destructor_of, drops_locals, fields_tuple}
+use Rattle.mir_syntax.specs.Shapes.{shapes_of, shapes_from, destructor_from, is_destructor_of, drops_locals, fields_tuple}
 use Rattle.mir_semantics.specs.Values.{listed}
-use Rattle.mir_semantics.specs.Step.{Code, code_of, body_in, Called, State, Outcome, Next, on, stop, fail, step}
+use Rattle.mir_semantics.specs.Step.{Code, code_of, body_in, State, Next, on, stop, fail, step}
 use Rattle.mir_semantics.specs.Run.{Seen, going, ended, undefined, after, steps, Entry, run, start}
 use Rattle.mir_semantics.specs.Entry.{IsEntry, holds_reference, has_type, result_and_args, arg_types}
 use Rattle.mir_semantics.specs.Refines.{trace_of, Stops, IsUndefined, RunsRefine, Refines, Header, header}

@@ -1,11 +1,11 @@
 -- A step adds at most one call to the trace.
-use Rattle.std.proofs.Common.{◌≡◌, ◌⊎◌, inl, inr, refl, ℕ, zero, suc, Bool, true, false, List, [], ◌∷◌, ◌++◌, Option, Some, None, slice_get}
+use Rattle.std.proofs.Common.{◌≡◌, ◌⊎◌, inl, inr, refl, ℕ, Bool, true, false, List, [], ◌∷◌, Option, Some, None}
 use Rattle.mir_syntax.specs.declared.body.Operand.{Operand}
 use Rattle.mir_syntax.specs.declared.body.Callee.{Callee}
 use Rattle.mir_syntax.specs.declared.body.Callee.TheVariants as callee
 use Rattle.mir_syntax.specs.declared.body.Term.{Term}
 use Rattle.mir_syntax.specs.declared.body.Term.TheVariants.{Goto, Switch, Return, Unreachable, Drop, Call, Assert}
-use Rattle.mir_syntax.specs.Tree.{Tree, scalar, empty, more, ref, ref_mut, named}
+use Rattle.mir_syntax.specs.Tree.{Tree, scalar}
 use Rattle.mir_syntax.specs.Crate.{TypedStmt}
 use Rattle.mir_syntax.specs.Shapes.{Shape, ◌>>=◌, destructor_of, needs_drop}
 use Rattle.mir_num.specs.Numbers.{wrap}

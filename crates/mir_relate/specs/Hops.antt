@@ -1,5 +1,5 @@
 -- Edges that skip empty gotos. This project's own.
-use Rattle.std.specs.Prelude.{◌≡◌, ℕ, zero, suc, List, [], Option, Some, slice_get}
+use Rattle.std.specs.Prelude.{◌≡◌, ℕ, zero, suc, List, [], Some, slice_get}
 use Rattle.mir_syntax.specs.declared.body.Term.TheVariants.{Goto}
 use Rattle.mir_syntax.specs.Crate.{TypedBody, TypedBlock}
 use Rattle.mir_relate.specs.Jumps.{SameTerm}

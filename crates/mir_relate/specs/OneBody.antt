@@ -1,5 +1,5 @@
 -- Two crates that differ in the body of one function. This project's own.
-use Rattle.std.specs.Prelude.{◌≡◌, ◌⊎◌, ℕ, zero, suc, List, [], ◌∷◌, Some, slice_get}
+use Rattle.std.specs.Prelude.{◌≡◌, ℕ, zero, suc, List, [], ◌∷◌, Some, slice_get}
 use Rattle.mir_syntax.specs.Crate.{TypedBody, TypedBlock, TypedFunction, Crate}
 use Rattle.mir_relate.specs.Jumps.{Meets}
 

@@ -1,6 +1,6 @@
 -- How a run of a target follows a run of a source, one step of the source at a time. This project's own.
-use Rattle.std.specs.Prelude.{◌≡◌, ◌⊎◌, ℕ, zero, suc, ◌<◌, List, Option, Some, None}
-use Rattle.mir_semantics.specs.Step.{Code, Called, State, Next, on, stop, fail, step}
+use Rattle.std.specs.Prelude.{◌≡◌, ◌⊎◌, ℕ, zero, suc, ◌<◌, Option, Some, None}
+use Rattle.mir_semantics.specs.Step.{Code, State, Next, on, stop, fail, step}
 
 abbrev pub keep_on : (State → Option State) → Option Next → Option State
 keep_on f None = None

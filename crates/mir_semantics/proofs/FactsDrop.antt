@@ -1,14 +1,14 @@
 -- Runs of small crates with destructors.
-use Rattle.std.proofs.Common.{◌≡◌, refl, ℕ, Bool, true, false, List, [], ◌∷◌, Option, Some, None}
+use Rattle.std.proofs.Common.{◌≡◌, refl, ℕ, List, [], ◌∷◌, None}
 use Rattle.mir_syntax.specs.declared.types.IntTy.TheVariants.{U32}
-use Rattle.mir_syntax.specs.declared.body.Proj.TheVariants.{Field, Downcast, Deref}
-use Rattle.mir_syntax.specs.declared.body.Term.TheVariants.{Goto, Switch, Return, Unreachable, Drop, Call, Assert}
-use Rattle.mir_syntax.specs.Tree.{Tree, scalar, empty, more, ref, ref_mut, named}
+use Rattle.mir_syntax.specs.declared.body.Proj.TheVariants.{Field, Deref}
+use Rattle.mir_syntax.specs.declared.body.Term.TheVariants.{Switch, Return, Drop, Call}
+use Rattle.mir_syntax.specs.Tree.{empty, more, ref_mut, named}
 use Rattle.mir_syntax.specs.Crate.{TypedBody, TypedFunction, «use», tuple, build, assign, Crate}
 use Rattle.mir_syntax.specs.Crate as rvalue
-use Rattle.mir_semantics.specs.Values.{Value, number, nil, cons, variant}
+use Rattle.mir_semantics.specs.Values.{Value, number, nil}
 use Rattle.mir_semantics.specs.Step.{Code, code_of, Called, returned}
-use Rattle.mir_semantics.specs.Run.{Seen, going, ended, undefined, Entry, run}
+use Rattle.mir_semantics.specs.Run.{going, ended, undefined, Entry, run}
 use Rattle.mir_semantics.proofs.Opened.{Opened}
 use Rattle.mir_semantics.proofs.Sample.{int, bool, place, part_of, lit, copy, move, arm, to_function, to_outside, block, body, function, destructor, field, struct, variant_with, enum, outside}
 

@@ -1,18 +1,17 @@
 -- Runs of small crates: statements, calls, asserts, outside calls.
-use Rattle.std.proofs.Common.{◌≡◌, refl, ℕ, ◌^◌, ◌-◌, Bool, true, false, List, [], ◌∷◌, Option, Some, None, inl, inr}
-use Rattle.std.specs.Prelude.{ℤ, pos, negsuc, IsTrue, not}
-use Rattle.mir_syntax.specs.declared.types.IntTy.TheVariants.{I8, I32, Isize, U8, U32}
-use Rattle.mir_syntax.specs.declared.types.ScalarTy.TheVariants as scalar_ty
+use Rattle.std.proofs.Common.{◌≡◌, refl, ℕ, ◌^◌, ◌-◌, true, false, List, [], ◌∷◌, Some, None}
+use Rattle.std.specs.Prelude.{pos, negsuc}
+use Rattle.mir_syntax.specs.declared.types.IntTy.TheVariants.{I32, Isize, U8, U32}
 use Rattle.mir_syntax.specs.declared.body.BinOp.TheVariants.{Sub, AddUnchecked}
 use Rattle.mir_syntax.specs.declared.body.OverOp.TheVariants as over_op
 use Rattle.mir_syntax.specs.declared.body.Proj.TheVariants.{Field, Downcast, Deref}
-use Rattle.mir_syntax.specs.declared.body.Term.TheVariants.{Goto, Switch, Return, Unreachable, Drop, Call, Assert}
-use Rattle.mir_syntax.specs.Tree.{Tree, scalar, empty, more, ref, ref_mut, named}
+use Rattle.mir_syntax.specs.declared.body.Term.TheVariants.{Goto, Switch, Return, Unreachable, Call, Assert}
+use Rattle.mir_syntax.specs.Tree.{Tree, empty, more, ref, ref_mut, named}
 use Rattle.mir_syntax.specs.Crate.{TypedBody, «use», binary, overflow, discriminant, assign, storage_live, storage_dead, set_discriminant, Crate}
 use Rattle.mir_syntax.specs.Crate as rvalue
-use Rattle.mir_semantics.specs.Values.{Value, number, nil, cons, variant, hole}
+use Rattle.mir_semantics.specs.Values.{Value, number, nil, cons, variant}
 use Rattle.mir_semantics.specs.Step.{Code, code_of, Called, returned, aborted, no_answer}
-use Rattle.mir_semantics.specs.Run.{Seen, going, ended, undefined, Entry, run}
+use Rattle.mir_semantics.specs.Run.{going, ended, undefined, Entry, run}
 use Rattle.mir_semantics.specs.Entry.{flat, has_type, holds_reference}
 use Rattle.mir_semantics.proofs.Opened.{Opened}
 use Rattle.mir_semantics.proofs.Sample.{int, bool, place, part_of, lit, copy, move, arm, to_function, to_outside, block, body, function, field, variant_with, enum, outside}
