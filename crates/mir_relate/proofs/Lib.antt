@@ -4,3 +4,4 @@ pub mod Refine
 pub mod Jumps
 pub mod Hops
 pub mod OneBody
+pub mod Lines

@@ -7,11 +7,12 @@
 //! nothing; their contracts are the laws.
 #![tactic(auto)]
 
-ghost use Rattle.std.specs.Prelude.{◌≡◌, ℕ, map};
+ghost use Rattle.std.specs.Prelude.{◌≡◌, ℕ, List, map};
 ghost use Rattle.mir_syntax.specs.Crate.{Crate, TypedBody};
 ghost use Rattle.mir_semantics.specs.Step.{body_in};
 ghost use Rattle.mir_semantics.specs.Refines.{Refines, header};
 ghost use Rattle.mir_relate.specs.Hops.{Hops, AllHop};
+ghost use Rattle.mir_relate.specs.Lines.{Joins};
 ghost use Rattle.mir_relate.specs.OneBody.{with_body, Replaces};
 
 /// A crate refines itself.
@@ -32,4 +33,10 @@ pub fn hops_refine()
 /// A crate with such a body at one function refines the crate with the body that stood there.
 pub fn body_hops_refine()
     ensures { (c : Crate) (f : ℕ) (target source : TypedBody) → Replaces c f target source → Hops target source → Refines (with_body c f target) c }
+{}
+
+/// A crate with a body at one function whose blocks are lines of the blocks that stood there, joined, left out or renumbered, refines the
+/// crate with the body that stood there.
+pub fn body_joins_refine()
+    ensures { (c : Crate) (f : ℕ) (target source : TypedBody) (line : ℕ → List ℕ) → Replaces c f target source → Joins target source line → Refines (with_body c f target) c }
 {}
