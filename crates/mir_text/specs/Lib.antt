@@ -2,7 +2,14 @@ pub mod Bytes
 pub mod Pieces
 pub mod Words
 pub mod Symbols
+pub mod Grammar
+pub mod GrammarTypes
+pub mod GrammarPlaces
+pub mod GrammarStatements
+pub mod GrammarTerms
+pub mod GrammarItems
 pub mod Numbers
+pub mod Nesting
 pub mod TypeText
 pub mod PlaceText
 pub mod StatementText
