@@ -10,6 +10,9 @@ pub mod GrammarTerms
 pub mod GrammarItems
 pub mod Numbers
 pub mod Nesting
+pub mod Names
+pub mod NamedBodies
+pub mod Naming
 pub mod TypeText
 pub mod PlaceText
 pub mod StatementText
