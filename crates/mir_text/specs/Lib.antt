@@ -13,6 +13,8 @@ pub mod Nesting
 pub mod Names
 pub mod NamedBodies
 pub mod Naming
+pub mod PartLines
+pub mod NameFaults
 pub mod TypeText
 pub mod PlaceText
 pub mod StatementText
