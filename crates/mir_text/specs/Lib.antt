@@ -15,6 +15,8 @@ pub mod NamedBodies
 pub mod Naming
 pub mod PartLines
 pub mod NameFaults
+pub mod ReadLines
+pub mod Reads
 pub mod TypeText
 pub mod PlaceText
 pub mod StatementText
