@@ -84,7 +84,7 @@ added = block
 abbrev taken : TypedBlock
 taken = block (C.assign (of_local 0) (C.«use» (operand.Move (at 3 (Field 0 ∷ [])))) ∷ []) term.Return
 
-abbrev adding : Crate
+abbrev pub adding : Crate
 adding = record { defs = []; outsides = []; functions = fun (codes "add") 2 (i32 ∷ i32 ∷ i32 ∷ more i32 (more bool empty) ∷ []) (added ∷ taken ∷ []) ∷ [] }
 
 text-of-adding : text adding ≡
