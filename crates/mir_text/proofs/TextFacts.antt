@@ -33,16 +33,16 @@ use Rattle.mir_text.specs.Text.{local_decl, more_args, args_text, let_line, lets
 
 -- ---- makers
 
-abbrev of_local : ℕ → Place
+abbrev pub of_local : ℕ → Place
 of_local x = record { local = x; proj = [] }
 
-abbrev at : ℕ → List Proj → Place
+abbrev pub at : ℕ → List Proj → Place
 at x ps = record { local = x; proj = ps }
 
-abbrev block : List TypedStmt → Term → TypedBlock
+abbrev pub block : List TypedStmt → Term → TypedBlock
 block ss t = record { stmts = ss; term = t }
 
-abbrev fun : List ℕ → ℕ → List Tree → List TypedBlock → TypedFunction
+abbrev pub fun : List ℕ → ℕ → List Tree → List TypedBlock → TypedFunction
 fun path args locals blocks = record { path = path; inlining = inlining.Plain; is_drop = false; body = record { args = args; locals = locals; blocks = blocks } }
 
 -- ---- a function that returns
@@ -63,16 +63,16 @@ text-of-returning = rw (decimal_digit 0 (omega arith)) refl
 
 -- ---- a checked addition
 
-abbrev i32 : Tree
+abbrev pub i32 : Tree
 i32 = scalar (scalar_ty.Int i.I32)
 
-abbrev u32 : Tree
+abbrev pub u32 : Tree
 u32 = scalar (scalar_ty.Int i.U32)
 
-abbrev u8 : Tree
+abbrev pub u8 : Tree
 u8 = scalar (scalar_ty.Int i.U8)
 
-abbrev bool : Tree
+abbrev pub bool : Tree
 bool = scalar scalar_ty.Bool
 
 abbrev added : TypedBlock
