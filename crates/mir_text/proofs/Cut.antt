@@ -112,7 +112,7 @@ abbrev when : {A B : Type 0} → (A → B) → Option A → Option B
 when f None = None
 when f (Some a) = Some (f a)
 
-abbrev if_all : (p : ℕ → Bool) (bs : List ℕ) → Option (AreAll p bs)
+abbrev pub if_all : (p : ℕ → Bool) (bs : List ℕ) → Option (AreAll p bs)
 if_all p [] = Some tt
 if_all p (b ∷ bs) = both (if_true (p b)) (if_all p bs)
 
@@ -180,7 +180,7 @@ abbrev pub if_stand : (ps : List Piece) (left : List ℕ) → Option (Stand ps l
 if_stand [] left = Some tt
 if_stand (p ∷ ps) left = all_three (if_piece p) (if_ends p (text_of ps ++ left)) (if_stand ps left)
 
-from_some : {A : Type 0} → (o : Option A) → is_some o ≡ true → A
+pub from_some : {A : Type 0} → (o : Option A) → is_some o ≡ true → A
 from_some None e = absurd cc
 from_some (Some a) e = a
 
