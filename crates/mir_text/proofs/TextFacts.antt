@@ -123,7 +123,7 @@ walked = block
      C.assign (of_local 0) (C.«use» (operand.Copy (at 2 (Field 0 ∷ [])))) ∷ [])
     term.Return
 
-abbrev walking : Crate
+abbrev pub walking : Crate
 walking = record { defs = node_def ∷ []; outsides = []; functions = fun (codes "h") 1 (i32 ∷ ref (named 0) ∷ named 0 ∷ []) (walked ∷ []) ∷ [] }
 
 text-of-walking : text walking ≡
@@ -188,7 +188,7 @@ moves = fun (codes "f") 1 (empty ∷ bool ∷ named 0 ∷ empty ∷ [])
      block [] (term.Drop (of_local 2) 3) ∷
      just_returns ∷ [])
 
-abbrev moving : Crate
+abbrev pub moving : Crate
 moving = record { defs = guard_def ∷ []; outsides = note_fn ∷ []; functions = drop_g ∷ eat ∷ moves ∷ [] }
 
 text-of-moving : text moving ≡
@@ -264,7 +264,7 @@ looks = fun (codes "k") 1 (u8 ∷ named 0 ∷ scalar (scalar_ty.Int i.Isize) ∷
      block [] term.Unreachable ∷
      just_returns ∷ [])
 
-abbrev looking : Crate
+abbrev pub looking : Crate
 looking = record { defs = either_def ∷ []; outsides = []; functions = looks ∷ [] }
 
 text-of-looking : text looking ≡
