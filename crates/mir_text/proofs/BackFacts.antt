@@ -20,7 +20,8 @@ use Rattle.mir_text.specs.GrammarItems as n
 use Rattle.mir_text.specs.GrammarItems.{ArgRule, AttrRule, DeclsRule, ItemRule, FileRule, file_put}
 use Rattle.mir_text.specs.Nesting.{PlaceGood, FileGood}
 use Rattle.mir_text.specs.Naming.{crate_named}
-use Rattle.mir_text.specs.Reads.{Derivation, wrong_field, Reads, faults_in}
+use Rattle.mir_text.specs.ReadLines.{wrong_field_in}
+use Rattle.mir_text.specs.Reads.{Derivation, Reads, faults_in, names_in, items_in}
 use Rattle.mir_text.proofs.Cut.{cut, cut_from, piece_at, number_piece, if_stand, stands}
 use Rattle.mir_text.proofs.TextFacts.{walking, moving, looking}
 
@@ -239,3 +240,26 @@ reads-looking : Reads (
     codes "}\n") looking
 unfolding cut cut_from piece_at number_piece suffix_at word_token block_digits word_place ◌>>=◌
 reads-looking = read_as _ looking_file looking refl refl refl looking-good refl refl
+
+-- ---- a field that is written with another type than its own
+
+abbrev wrong_text : List ℕ
+wrong_text = codes "fn f(_1: (u8, u8)) -> u8 {\n    let _0: u8;\n    bb0: {\n        _0 = (_1.1: bool);\n        return;\n    }\n}\n"
+
+abbrev wrong_file : FileRule
+wrong_file =
+    fun n.none false 8 (g.last (1, t.tuple u8 (t.last u8))) u8 (n.decls (n.«let» false 0 u8) n.no_decls)
+        (block 0 (r.assign (of_local 0) (r.«use» (p.bare (p.field (of_local 1) 1 t.bool))) ∷ []) m.returns ∷ []) ∷ []
+
+wrong-derives : symbols_of (cut wrong_text) ≡ file_put wrong_file []
+unfolding cut cut_from piece_at number_piece suffix_at word_token block_digits word_place ◌>>=◌
+wrong-derives = refl
+
+-- its names have no fault, and the line of the field is kept
+wrong-line : wrong_field_in (names_in (cut wrong_text) wrong_file) (items_in (cut wrong_text) wrong_file) ≡ Some 4
+unfolding cut cut_from piece_at number_piece suffix_at word_token block_digits word_place ◌>>=◌
+wrong-line = refl
+
+wrong-names : faults_in (cut wrong_text) wrong_file ≡ []
+unfolding cut cut_from piece_at number_piece suffix_at word_token block_digits word_place ◌>>=◌
+wrong-names = refl
