@@ -1,5 +1,5 @@
 -- Canonical texts read as their crates.
-use Rattle.std.proofs.Common.{◌≡◌, refl, ◌≤◌, ℕ, Bool, true, false, List, [], ◌∷◌, ◌++◌, codes, None, Some, is_some, arith}
+use Rattle.std.proofs.Common.{◌≡◌, refl, ℕ, Bool, true, false, List, [], ◌∷◌, ◌++◌, codes, Some, is_some, arith}
 use Rattle.mir_syntax.specs.declared.types.IntTy.TheVariants as i
 use Rattle.mir_syntax.specs.Crate.{Crate}
 use Rattle.mir_syntax.specs.Shapes.{◌>>=◌}
@@ -11,7 +11,7 @@ use Rattle.mir_text.specs.Grammar as g
 use Rattle.mir_text.specs.GrammarTypes as t
 use Rattle.mir_text.specs.GrammarTypes.{TypeRule}
 use Rattle.mir_text.specs.GrammarPlaces as p
-use Rattle.mir_text.specs.GrammarPlaces.{PlaceRule, OperandRule}
+use Rattle.mir_text.specs.GrammarPlaces.{PlaceRule}
 use Rattle.mir_text.specs.GrammarStatements as r
 use Rattle.mir_text.specs.GrammarStatements.{StmtRule}
 use Rattle.mir_text.specs.GrammarTerms as m
@@ -21,7 +21,7 @@ use Rattle.mir_text.specs.GrammarItems.{ArgRule, AttrRule, DeclsRule, ItemRule, 
 use Rattle.mir_text.specs.Nesting.{PlaceGood, FileGood}
 use Rattle.mir_text.specs.Naming.{crate_named}
 use Rattle.mir_text.specs.ReadLines.{wrong_field_in}
-use Rattle.mir_text.specs.Reads.{Derivation, Reads, faults_in, names_in, items_in}
+use Rattle.mir_text.specs.Reads.{Reads, faults_in, names_in, items_in}
 use Rattle.mir_text.proofs.Cut.{cut, cut_from, piece_at, number_piece, if_stand, stands}
 use Rattle.mir_text.proofs.TextFacts.{walking, moving, looking}
 

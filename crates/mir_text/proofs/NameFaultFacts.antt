@@ -1,5 +1,5 @@
 -- Texts whose names have a fault: S10 to S15, each with its line.
-use Rattle.std.proofs.Common.{◌≡◌, refl, sym, ℕ, Bool, true, false, List, [], ◌∷◌, ◌++◌, codes, None, Some, is_some, append-nil, inr, arith}
+use Rattle.std.proofs.Common.{◌≡◌, refl, sym, ℕ, true, false, List, [], ◌∷◌, ◌++◌, codes, Some, is_some, append-nil, inr, arith}
 use Rattle.mir_syntax.specs.declared.types.IntTy.TheVariants as i
 use Rattle.mir_syntax.specs.Shapes.{◌>>=◌}
 use Rattle.mir_text.specs.Bytes.{suffix_at}

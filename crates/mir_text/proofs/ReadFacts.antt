@@ -1,24 +1,20 @@
 -- Texts that are read, and the crates that they name.
-use Rattle.std.proofs.Common.{◌≡◌, refl, ◌≤◌, ℕ, Bool, true, false, List, [], ◌∷◌, ◌++◌, codes, map, length, None, Some, arith}
+use Rattle.std.proofs.Common.{◌≡◌, refl, ℕ, true, false, List, [], ◌∷◌, ◌++◌, codes, None, arith}
 use Rattle.mir_syntax.specs.declared.types.IntTy.TheVariants as i
 use Rattle.mir_syntax.specs.declared.body.Term.TheVariants as term
 use Rattle.mir_syntax.specs.declared.body.Proj.TheVariants.{Field}
 use Rattle.mir_syntax.specs.declared.body.Operand.TheVariants as operand
 use Rattle.mir_syntax.specs.declared.body.OverOp.TheVariants as over
 use Rattle.mir_syntax.specs.declared.body.Inline.TheVariants as inlining
-use Rattle.mir_syntax.specs.declared.lines.Lines.{Lines}
-use Rattle.mir_syntax.specs.declared.lines.FnLines.{FnLines}
-use Rattle.mir_syntax.specs.declared.lines.BlockLines.{BlockLines}
-use Rattle.mir_syntax.specs.Tree.{Tree, scalar, empty, more, ref, ref_mut, named}
+use Rattle.mir_syntax.specs.Tree.{empty, more, named}
 use Rattle.mir_syntax.specs.Crate as C
 use Rattle.mir_syntax.specs.Crate.{Crate}
 use Rattle.mir_syntax.specs.Shapes.{◌>>=◌}
-use Rattle.mir_text.specs.declared.symbol.Symbol.{Symbol}
 use Rattle.mir_text.specs.declared.symbol.Symbol.TheVariants as s
 use Rattle.mir_text.specs.Bytes.{suffix_at}
-use Rattle.mir_text.specs.Pieces.{Piece, text_of, Stand}
+use Rattle.mir_text.specs.Pieces.{Piece, Stand}
 use Rattle.mir_text.specs.Words.{word_place}
-use Rattle.mir_text.specs.Symbols.{word_token, block_digits, symbols_of, strings_of}
+use Rattle.mir_text.specs.Symbols.{word_token, block_digits, symbols_of}
 use Rattle.mir_text.specs.Grammar as g
 use Rattle.mir_text.specs.Grammar.{AllOf}
 use Rattle.mir_text.specs.GrammarTypes as t
@@ -29,10 +25,10 @@ use Rattle.mir_text.specs.GrammarStatements as r
 use Rattle.mir_text.specs.GrammarTerms as m
 use Rattle.mir_text.specs.GrammarTerms.{BlockRule}
 use Rattle.mir_text.specs.GrammarItems as n
-use Rattle.mir_text.specs.GrammarItems.{DebugSymbol, DeclRule, DeclsRule, FnRule, FileRule, file_put}
+use Rattle.mir_text.specs.GrammarItems.{DebugSymbol, DeclRule, DeclsRule, FileRule, file_put}
 use Rattle.mir_text.specs.Nesting.{PlaceGood, DebugSymbolGood, FileGood}
 use Rattle.mir_text.specs.Reads.{Derivation, lines_read, Reads}
-use Rattle.mir_text.proofs.Cut.{cut, cut_from, piece_at, number_piece, if_stand, stands}
+use Rattle.mir_text.proofs.Cut.{cut, cut_from, piece_at, number_piece, stands}
 use Rattle.mir_text.proofs.TextFacts.{of_local, at, block, i32, bool, returning}
 
 -- ---- a function that returns

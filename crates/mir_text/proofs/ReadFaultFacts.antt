@@ -1,12 +1,12 @@
 -- Texts that are refused with S01 to S05 and S07, and rules that aren't good: S06, S08 and S09.
-use Rattle.std.proofs.Common.{◌≡◌, refl, sym, ap, subst, ◌≤◌, ◌<◌, ◌^◌, ℕ, zero, suc, ◌==◌, Bool, true, false, List, [], ◌∷◌, ◌++◌, codes, None, Some, inl, inr, arith}
+use Rattle.std.proofs.Common.{◌≡◌, refl, sym, subst, ◌≤◌, ◌<◌, ◌^◌, ℕ, zero, suc, ◌==◌, Bool, true, false, List, [], ◌∷◌, ◌++◌, codes, inl, inr, arith}
 use Rattle.std.proofs.lemmas.Bool.{ltb-false}
 use Rattle.std.specs.Char.{is_ascii_digit, is_ascii_alphabetic}
 use Rattle.std.specs.Str.Parse.{digits_value}
 use Rattle.mir_syntax.specs.declared.types.IntTy.TheVariants as i
 use Rattle.mir_text.specs.declared.symbol.Symbol.{Symbol}
 use Rattle.mir_text.specs.declared.symbol.Symbol.TheVariants as s
-use Rattle.mir_text.specs.Bytes.{AreAll, is_blank, suffix_at}
+use Rattle.mir_text.specs.Bytes.{is_blank}
 use Rattle.mir_text.specs.Pieces.{Mark, open_paren, close_paren, open_brace, close_brace, open_bracket, close_bracket, comma, semicolon, colon, colons, dot, ampersand, star, exclamation, equals, hash, minus, arrow, fat_arrow, less, greater, bar, question, mark_text, Piece, blank, line, comment, local, number, typed, text, word, under, mark, spelled, IsContent, IsPiece, Ends}
 use Rattle.mir_text.specs.Words.{word_place}
 use Rattle.mir_text.specs.Symbols.{word_token, block_digits}
@@ -17,7 +17,7 @@ use Rattle.mir_text.specs.GrammarPlaces as p
 use Rattle.mir_text.specs.GrammarItems as n
 use Rattle.mir_text.specs.GrammarItems.{AttrRule, attr_put, drop_put, FileRule, file_put}
 use Rattle.mir_text.specs.Nesting.{TypeGood, PlaceGood, ValueFits, FirstGood}
-use Rattle.mir_text.specs.ReadFaults.{NoPiece, LargeNumber, OpenString, Viable, GoesOn, InDebug, Breaks, NoneRefused, Reading, IsReadFault}
+use Rattle.mir_text.specs.ReadFaults.{Viable, GoesOn, InDebug, Breaks, NoneRefused, Reading, IsReadFault}
 use Rattle.mir_text.proofs.Cut.{if_all, from_some}
 
 -- ---- S06, S08, S09: rules that aren't good

@@ -1,20 +1,16 @@
 -- The canonical texts of small crates, computed.
-use Rattle.std.specs.Prelude.{◌≡◌, refl, ℕ, Bool, true, false, List, [], ◌∷◌, ◌++◌, codes}
+use Rattle.std.specs.Prelude.{◌≡◌, refl, ℕ, true, false, List, [], ◌∷◌, ◌++◌, codes}
 use Rattle.std.proofs.Common.{arith}
 use Rattle.std.proofs.lemmas.Fmt.{decimal_digit}
 use Rattle.mir_syntax.specs.declared.types.IntTy.TheVariants as i
 use Rattle.mir_syntax.specs.declared.types.ScalarTy.TheVariants as scalar_ty
 use Rattle.mir_syntax.specs.declared.types.Form.TheVariants as form
-use Rattle.mir_syntax.specs.declared.types.FnId.{FnId}
-use Rattle.mir_syntax.specs.declared.types.OutId.{OutId}
 use Rattle.mir_syntax.specs.declared.body.Proj.{Proj}
 use Rattle.mir_syntax.specs.declared.body.Proj.TheVariants.{Field, Downcast, Deref}
 use Rattle.mir_syntax.specs.declared.body.Place.{Place}
-use Rattle.mir_syntax.specs.declared.body.Operand.{Operand}
 use Rattle.mir_syntax.specs.declared.body.Operand.TheVariants as operand
 use Rattle.mir_syntax.specs.declared.body.Const.TheVariants as const
 use Rattle.mir_syntax.specs.declared.body.OverOp.TheVariants as over
-use Rattle.mir_syntax.specs.declared.body.Inline.{Inline}
 use Rattle.mir_syntax.specs.declared.body.Inline.TheVariants as inlining
 use Rattle.mir_syntax.specs.declared.body.Callee.{Callee}
 use Rattle.mir_syntax.specs.declared.body.Callee.TheVariants as callee
@@ -22,7 +18,7 @@ use Rattle.mir_syntax.specs.declared.body.Term.{Term}
 use Rattle.mir_syntax.specs.declared.body.Term.TheVariants as term
 use Rattle.mir_syntax.specs.Tree.{Tree, scalar, empty, more, ref, ref_mut, named}
 use Rattle.mir_syntax.specs.Crate as C
-use Rattle.mir_syntax.specs.Crate.{TypedField, TypedVariant, TypedDef, TypedOutside, TypedBlock, TypedBody, TypedFunction, Crate, TypedStmt, TypedRvalue}
+use Rattle.mir_syntax.specs.Crate.{TypedDef, TypedOutside, TypedBlock, TypedFunction, Crate, TypedStmt}
 use Rattle.mir_syntax.specs.Shapes.{shapes_of, ◌>>=◌}
 use Rattle.mir_text.specs.Numbers.{is_negative, size_of}
 use Rattle.mir_text.specs.TypeText.{piece, more_items, comma_list, int_name, scalar_text, type_text, rest_text, parts_text, minus_text, const_text}

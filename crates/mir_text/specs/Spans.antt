@@ -6,7 +6,7 @@ use Rattle.mir_text.specs.GrammarTerms.{TermRule, term_put, ended_put}
 use Rattle.mir_text.specs.GrammarItems as m
 use Rattle.mir_text.specs.GrammarItems.{ArgRule, arg_put, DeclRule, DeclsRule, decl_put, FnRule, ItemRule, item_put, FileRule, file_put}
 use Rattle.mir_text.specs.NameFaults.{each}
-use Rattle.mir_text.specs.PartLines.{Lined, LinedBlock, LinedFn, fn_lined, scope_front, after_result, first_line, past}
+use Rattle.mir_text.specs.PartLines.{Lined, LinedBlock, fn_lined, scope_front, after_result, first_line, past}
 
 -- the places of a part's symbols among those of the file: from the first one on, up to one behind the last
 pub record Span : Type 0 where
