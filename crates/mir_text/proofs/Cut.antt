@@ -119,8 +119,11 @@ if_all p (b ∷ bs) = both (if_true (p b)) (if_all p bs)
 abbrev if_small : (n : ℕ) → Option (n < 2 ^ 128)
 if_small n = when (ltb-true n (2 ^ 128)) (if_true (nat_lt n (2 ^ 128)))
 
+pub apart : true ≡ false → ⊥
+apart e = absurd cc
+
 abbrev unless_taken : (taken : Bool) (b : ℕ) → Option (taken ≡ false → (b == 34) ≡ false)
-unless_taken true b = Some (λ e. absurd cc)
+unless_taken true b = Some (λ e. absurd (apart e))
 unless_taken false b = when (λ h e. h) (if_false (b == 34))
 
 abbrev if_content : (taken : Bool) (bs : List ℕ) → Option (IsContent taken bs)

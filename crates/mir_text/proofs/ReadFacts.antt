@@ -6,7 +6,7 @@ use Rattle.mir_syntax.specs.declared.body.Proj.TheVariants.{Field}
 use Rattle.mir_syntax.specs.declared.body.Operand.TheVariants as operand
 use Rattle.mir_syntax.specs.declared.body.OverOp.TheVariants as over
 use Rattle.mir_syntax.specs.declared.body.Inline.TheVariants as inlining
-use Rattle.mir_syntax.specs.Tree.{empty, more, named}
+use Rattle.mir_syntax.specs.Tree.{empty, more}
 use Rattle.mir_syntax.specs.Crate as C
 use Rattle.mir_syntax.specs.Crate.{Crate}
 use Rattle.mir_syntax.specs.Shapes.{◌>>=◌}

@@ -10,7 +10,6 @@ use Rattle.mir_text.specs.Bytes.{is_blank}
 use Rattle.mir_text.specs.Pieces.{Mark, open_paren, close_paren, open_brace, close_brace, open_bracket, close_bracket, comma, semicolon, colon, colons, dot, ampersand, star, exclamation, equals, hash, minus, arrow, fat_arrow, less, greater, bar, question, mark_text, Piece, blank, line, comment, local, number, typed, text, word, under, mark, spelled, IsContent, IsPiece, Ends}
 use Rattle.mir_text.specs.Words.{word_place}
 use Rattle.mir_text.specs.Symbols.{word_token, block_digits}
-use Rattle.mir_text.specs.Numbers.{fits}
 use Rattle.mir_text.specs.GrammarTypes as t
 use Rattle.mir_text.specs.GrammarTypes.{PathRule, path_put, TypeRule}
 use Rattle.mir_text.specs.GrammarPlaces as p
