@@ -1,3 +1,5 @@
 pub mod Memory
 pub mod Statements
 pub mod Types
+pub mod Frames
+pub mod Typed

@@ -1,5 +1,5 @@
 -- Statements under a renaming of locals.
-use Rattle.std.proofs.Common.{◌≡◌, ◌⊎◌, inl, inr, ⊎_elim, refl, sym, ap, ap₂, ◌∙◌, subst, ℕ, zero, suc, ◌+◌, Bool, true, false, not, nat_eq, ◌&&◌, ◌||◌, if◌then◌else◌, List, [], ◌∷◌, ◌++◌, map, length, Option, Some, None, is_some, slice_get, option_map, arith}
+use Rattle.std.proofs.Common.{◌≡◌, refl, sym, ap, ap₂, ◌∙◌, subst, ℕ, zero, suc, Bool, true, false, not, nat_eq, ◌&&◌, if◌then◌else◌, List, [], ◌∷◌, length, Option, Some, None, slice_get, arith}
 use Rattle.std.proofs.lemmas.Bool.{eqb-true}
 use Rattle.mir_syntax.specs.declared.body.Place.{Place}
 use Rattle.mir_syntax.specs.declared.body.Const.{Const}
@@ -11,11 +11,11 @@ use Rattle.mir_syntax.specs.Crate.{TypedRvalue, «use», binary, overflow, unary
 use Rattle.mir_syntax.specs.Crate as rvalue
 use Rattle.mir_syntax.specs.Shapes.{Shape, ◌>>=◌, struct_fields, needs_drop, variant_ty, path_ty, place_ty}
 use Rattle.mir_num.specs.Numbers as num
-use Rattle.mir_semantics.specs.Values.{Addr, Value, number, nil, cons, variant, pointer, hole, listed, is_hole, whole, put, is_unit, blank_by, blank_of, blank_def, blank, full_by, full_of, full_def, full}
+use Rattle.mir_semantics.specs.Values.{Addr, Value, number, cons, variant, pointer, hole, listed, is_hole, whole, is_unit, blank_by, blank_of, blank_def, blank, full_by, full_of, full_def, full}
 use Rattle.mir_semantics.specs.Memory.{Memory, local_at, value_at, write, walk}
-use Rattle.mir_semantics.specs.Step.{Dest, Here, Reading, only_if, local_addr, resolve, type_of, has_deref, guard_of, dest_of, allows, store, const_value, const_ty, read_at, read, read_all, number_in, read_number, operand_ty, scalar_in, scalar_ty_of, variant_in, built_by, built, read_two, pair_of, eval, set_blank, is_variant, write_unless, exec}
-use Rattle.mir_renaming.specs.Renaming.{Renaming, AddrRel, ValueRel, SomeRel, Sub, MemRel, AddrThere, RootOf, NoClash}
-use Rattle.mir_renaming.proofs.Memory.{bind_some, some_bind, whole_rel, sub_addr, value_at_rel, walk_rel, write_rel, write_back, write_again, put_rel}
+use Rattle.mir_semantics.specs.Step.{Dest, Here, only_if, local_addr, resolve, type_of, guard_of, dest_of, allows, store, const_value, const_ty, read_at, read, read_all, number_in, read_number, operand_ty, scalar_in, scalar_ty_of, variant_in, built_by, built, read_two, pair_of, eval, set_blank, is_variant, write_unless, exec}
+use Rattle.mir_renaming.specs.Renaming.{Renaming, AddrRel, ValueRel, SomeRel, Sub, MemRel, AddrThere, NoClash}
+use Rattle.mir_renaming.proofs.Memory.{bind_some, some_bind, whole_rel, value_at_rel, walk_rel, write_rel, write_back, write_again}
 
 -- a value without references is related to itself
 blank_by_rel : (j : Renaming) (of_def : ℕ → Value) → ((d : ℕ) → ValueRel j (of_def d) (of_def d)) → (t : Tree) → ValueRel j (blank_by of_def t) (blank_by of_def t)
