@@ -6,20 +6,20 @@ use Rattle.mir_semantics.specs.Values.{Value}
 use Rattle.mir_semantics.specs.Memory.{Store, Memory, slots_of, local_at, open_frame, close_frame}
 use Rattle.mir_renaming.proofs.Memory.{same_or_not}
 
-if_true : {A : Type 0} {b : Bool} (x y : A) → b ≡ true → (if b then x else y) ≡ x
+pub if_true : {A : Type 0} {b : Bool} (x y : A) → b ≡ true → (if b then x else y) ≡ x
 if_true x y e = ap (λ b. if b then x else y) e
 
-if_false : {A : Type 0} {b : Bool} (x y : A) → b ≡ false → (if b then x else y) ≡ y
+pub if_false : {A : Type 0} {b : Bool} (x y : A) → b ≡ false → (if b then x else y) ≡ y
 if_false x y e = ap (λ b. if b then x else y) e
 
-unequal : (a b : ℕ) → (a ≡ b → ⊥) → nat_eq a b ≡ false
+pub unequal : (a b : ℕ) → (a ≡ b → ⊥) → nat_eq a b ≡ false
 unequal a b ne = go (same_or_not a b)
   where
     go : ((nat_eq a b ≡ true) × (a ≡ b)) ⊎ ((nat_eq a b ≡ false) × (a ≡ b → ⊥)) → nat_eq a b ≡ false
     go (inl e) = absurd (ne e.1)
     go (inr n) = n.0
 
-equal : (a b : ℕ) → a ≡ b → nat_eq a b ≡ true
+pub equal : (a b : ℕ) → a ≡ b → nat_eq a b ≡ true
 equal a b e = go (same_or_not a b)
   where
     go : ((nat_eq a b ≡ true) × (a ≡ b)) ⊎ ((nat_eq a b ≡ false) × (a ≡ b → ⊥)) → nat_eq a b ≡ true

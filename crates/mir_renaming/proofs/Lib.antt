@@ -3,3 +3,4 @@ pub mod Statements
 pub mod Types
 pub mod Frames
 pub mod Typed
+pub mod Ghosts
