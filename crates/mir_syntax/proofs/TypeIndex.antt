@@ -2,11 +2,12 @@
 use Rattle.std.proofs.Common.{◌≡◌, ◌≢◌, ℕ, suc, zero, ◌+◌, ◌%◌, ◌<◌, ◌≤◌, Bool, true, false, cond, nat_eq, eq-eqb, List, [], ◌∷◌, ◌++◌, map, length, take, get_or, set, slice_get, Some, refl, sym, ap, subst, ◌∙◌, ◌⊎◌, inl, inr, arith, rules, length-append, length-set, length-take-le, mod-lt, replicate, ◌-◌, add-one}
 use Rattle.std.proofs.lemmas.Bool.Decides.{nat_tests}
 use Rattle.std.proofs.lemmas.Bool.{false≢true, cases_lt, eqb-false, eqb-true}
-use Rattle.std.proofs.lemmas.List.{get_or_append_left,  get_or-set_same, get_or-set_other, get_or-replicate, length-replicate, map-append, length-map, take_more}
+use Rattle.std.proofs.lemmas.List.{get_or_append_left, get_or-set_same, get_or-set_other, get_or-replicate, length-replicate, map-append, length-map, take_more}
 use Rattle.std.proofs.lemmas.Grind.{get_or_default_zero}
 use Rattle.std.proofs.lemmas.Option.{slice_get_read}
 use Rattle.std.proofs.Math.Seq.{get_or-append_seam}
 use Rattle.mir_syntax.specs.declared.types.Ty.{Ty}
+use Rattle.mir_syntax.proofs.Trees.{slice_get-below}
 use Rattle.mir_syntax.specs.TypeIndex.{type_hash, slot_of, slots_of, latest, is_at, IsIndex}
 
 cond-cases : {A : Type 0} (b : Bool) (x y : A) → ((b ≡ true) × (cond b x y ≡ x)) ⊎ ((b ≡ false) × (cond b x y ≡ y))
@@ -24,7 +25,7 @@ latest-last : (test : ℕ → Bool) (n k : ℕ) → latest test n ≤ k → k < 
 latest-last test zero k low h = absurd (omega arith)
 latest-last test (suc n) k low h =
     elim (cond-cases (test n) (suc n) (latest test n)) [
-        inl c ↦ absurd (omega arith)
+      | inl c ↦ absurd (omega arith)
       | inr c ↦ elim (cases_lt k n) [ inl below ↦ latest-last test n k (rw c.1 at low) below | inr above ↦ let same : k ≡ n = omega arith in rw same c.0 ]
     ]
 
@@ -32,19 +33,13 @@ latest-in : (test : ℕ → Bool) (n k : ℕ) → latest test n ≡ suc k → te
 latest-in test zero k e = absurd (omega arith)
 latest-in test (suc n) k e =
     elim (cond-cases (test n) (suc n) (latest test n)) [
-        inl c ↦ let same : k ≡ n = omega arith in rw same c.0
+      | inl c ↦ let same : k ≡ n = omega arith in rw same c.0
       | inr c ↦ latest-in test n k (sym c.1 ∙ e)
     ]
 
 latest-same : (test other : ℕ → Bool) (n : ℕ) → ((k : ℕ) → k < n → test k ≡ other k) → latest test n ≡ latest other n
 latest-same test other zero same = refl
 latest-same test other (suc n) same = rw (same n (omega arith), latest-same test other n (λ k h. same k (omega arith))) refl
-
--- a place of a list lies before its end
-slice_get-below : {X : Type 0} (xs : List X) (k : ℕ) (x : X) → slice_get xs k ≡ Some x → k < length xs
-slice_get-below [] k x h = absurd cc
-slice_get-below (y ∷ xs) zero x h = omega arith
-slice_get-below (y ∷ xs) (suc k) x h = let below = slice_get-below xs k x h in omega arith
 
 get_or-map : {X : Type 0} (f : X → ℕ) (xs : List X) (k : ℕ) (x : X) → slice_get xs k ≡ Some x → get_or (map f xs) k 0 ≡ f x
 get_or-map f [] k x h = absurd cc
@@ -66,7 +61,7 @@ passed-latest types n ty m h absent =
       within = omega arith;
       stays = λ k e. eqb-true _ _ (latest-in test m k e);
       absent = λ k above here. elim (cases_lt k m) [
-          inl below ↦ false≢true (sym (latest-last test m k above below) ∙ eq-eqb _ _ (get_or-map (slot_of n) types k ty here))
+        | inl below ↦ false≢true (sym (latest-last test m k above below) ∙ eq-eqb _ _ (get_or-map (slot_of n) types k ty here))
         | inr from ↦ absent k from here
       ];
     }
@@ -75,17 +70,17 @@ pub passed-first : (types : List Ty) (heads next : List ℕ) (ty : Ty) → IsInd
     → Passed types (length heads) ty (get_or heads (slot_of (length heads) ty) 0)
 passed-first types heads next ty index h =
     rw (index.begins (slot_of (length heads) ty) (omega arith))
-      (passed-latest types (length heads) ty (length types) (omega arith) (λ k past here. absurd (let below = slice_get-below types k ty here in omega arith)))
+    (passed-latest types (length heads) ty (length types) (omega arith) (λ k past here. absurd (let below = slice_get-below types k ty here in omega arith)))
 
 pub passed-next : (types : List Ty) (heads next : List ℕ) (ty : Ty) (k : ℕ) → IsIndex types heads next → Passed types (length heads) ty (suc k)
     → (slice_get types k ≡ Some ty → ⊥) → Passed types (length heads) ty (get_or next k 0)
 passed-next types heads next ty k index passed other =
     let within = passed.within in
     rw (index.goes_on k (omega arith), passed.stays k refl)
-      (passed-latest types (length heads) ty k (omega arith) (λ j from here. elim (cases_lt k j) [
-          inl past ↦ passed.absent j (omega arith) here
-        | inr to ↦ let same : j ≡ k = omega arith in other (rw same at here)
-      ]))
+    (passed-latest types (length heads) ty k (omega arith) (λ j from here. elim (cases_lt k j) [
+      | inl past ↦ passed.absent j (omega arith) here
+      | inr to ↦ let same : j ≡ k = omega arith in other (rw same at here)
+    ]))
 
 -- a list of slots that goes on passes the same tests at its first places
 is_at-front : (slots more : List ℕ) (s k : ℕ) → k < length slots → is_at (slots ++ more) s k ≡ is_at slots s k
@@ -116,7 +111,7 @@ begins-more : (slots heads : List ℕ) (own s : ℕ) → s < length heads → ge
     → get_or (set heads own (suc (length slots))) s 0 ≡ latest (is_at (slots ++ own ∷ []) s) (suc (length slots))
 begins-more slots heads own s h was =
     elim (cond-cases {A = ℕ} (nat_eq own s) 0 0) [
-        inl c ↦
+      | inl c ↦
           let same : own ≡ s = eqb-true own s c.0 in
           rw same (get_or-set_same heads s (suc (length slots)) 0 h) ∙ sym (begins-own slots own s same)
       | inr c ↦
@@ -129,14 +124,14 @@ goes-on-more : (slots heads next : List ℕ) (own k : ℕ) → k < suc (length s
     → get_or (set next (length slots) (get_or heads own 0)) k 0 ≡ latest (is_at (slots ++ own ∷ []) (get_or (slots ++ own ∷ []) k 0)) k
 goes-on-more slots heads next own k h room was old =
     elim (cases_lt k (length slots)) [
-        inl below ↦
+      | inl below ↦
           let differs : k ≡ length slots → ⊥ = λ e. omega arith in
           rw (get_or_append_left slots (own ∷ []) 0 k below)
-            (get_or-set_other next (length slots) k (get_or heads own 0) 0 differs ∙ old k below ∙ sym (latest-front slots (own ∷ []) (get_or slots k 0) k (omega arith)))
+          (get_or-set_other next (length slots) k (get_or heads own 0) 0 differs ∙ old k below ∙ sym (latest-front slots (own ∷ []) (get_or slots k 0) k (omega arith)))
       | inr last ↦
           let same : k ≡ length slots = omega arith in
           rw (same, at-end slots own)
-            (get_or-set_same next (length slots) (get_or heads own 0) 0 room ∙ was ∙ sym (latest-front slots (own ∷ []) own (length slots) (omega arith)))
+          (get_or-set_same next (length slots) (get_or heads own 0) 0 room ∙ was ∙ sym (latest-front slots (own ∷ []) own (length slots) (omega arith)))
     ]
 
 length-more : {X : Type 0} (xs : List X) (x : X) → length (xs ++ x ∷ []) ≡ suc (length xs)
@@ -158,7 +153,7 @@ index-link types heads next ty index h =
       paired = omega (arith, kept, index.paired, length-set next (length types) (get_or heads own 0));
       begins = λ s within. rw (kept, more, length-more types ty, ← long) (begins-more slots heads own s (omega (arith, kept)) (was s (omega (arith, kept))));
       goes_on = λ k within. rw (kept, more, ← long)
-        (goes-on-more slots heads next own k (omega (arith, length-more types ty)) (omega (arith, index.paired)) (was own below)
+          (goes-on-more slots heads next own k (omega (arith, length-more types ty)) (omega (arith, index.paired)) (was own below)
           (λ j before. index.goes_on j (omega arith)));
     }
 
@@ -221,7 +216,7 @@ next-read types heads next ty link x after index passed h read other goes =
     let differs : slice_get types (link - 1) ≡ Some ty → ⊥ = λ is. other (cc (here, is)) in
     let P : ℕ → Type 0 = λ m. Passed types (length heads) ty m in
     rw (next-is types heads next ty link after index passed h goes)
-      (passed-next types heads next ty (link - 1) index (subst P (one-before link h) passed) differs)
+    (passed-next types heads next ty (link - 1) index (subst P (one-before link h) passed) differs)
 
 pub link-read : (types : List Ty) (heads next : List ℕ) (at : ℕ) (x : Ty) (s link : ℕ) → at < length types → at < length heads → IsIndex (take at types) heads next
     → x ≡ get_or types at x → s ≡ slot_of (length heads) x → link ≡ get_or heads s link

@@ -3,4 +3,5 @@ pub mod Table
 pub mod TypeIndex
 pub mod Tree
 pub mod Crate
+pub mod Ids
 pub mod Shapes

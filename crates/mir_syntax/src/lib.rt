@@ -10,6 +10,7 @@ ghost use Rattle.std.specs.Prelude.{◌≡◌};
 
 mod body;
 mod copied;
+mod intern;
 mod lines;
 mod list;
 mod number;
@@ -29,9 +30,8 @@ pub use list::List;
 pub use number::Number;
 pub use program::Program;
 pub use stage::Stage;
-pub use types::{Def, Field, FnId, Form, IntTy, OutId, Outside, ScalarTy, Ty, TyId, Variant};
-
 use std::alloc::{AllocError, AllocFailed};
+pub use types::{Def, Field, FnId, Form, IntTy, OutId, Outside, ScalarTy, Ty, TyId, Variant};
 
 /// Memory was asked for and not given.
 #[derive(Clone, Copy, Debug, PartialEq, Eq, thiserror::Error)]

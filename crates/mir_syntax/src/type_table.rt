@@ -46,7 +46,7 @@ impl TypeTable {
     pub fn place(&mut self, ty: Ty) -> Result<u32, OutOfMemory>
         requires { length self.old < 2 ^ 32 - 1 }
         ensures found { IfOk result (λ at. slice_get self.new at ≡ Some ty) }
-        ensures types { OnOk result (Grows self.old self.new ty) }
+        ensures types { Grows self.old self.new ty }
         ensures once { OnOk result ((self.new ≡ self.old) ⊎ ((k : ℕ) → slice_get self.old k ≡ Some ty → ⊥)) }
         ensures err { OnErr result (self.new ≡ self.old) }
     {

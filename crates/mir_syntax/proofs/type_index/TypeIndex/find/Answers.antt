@@ -13,16 +13,16 @@ loop-link-init c =
 pub returns-then-same_type : goal.returns-then-same_type
 returns-then-same_type c =
     here-read c.args.types.now (length c.args.self.now.heads.items) c.args.ty.now c.loop-link.link c.index-types-at.result c.loop-link.invariant c.loop-link-test.true
-      c.index-types-at.is (c.same_type.ensures.0 c.if-same_type.true)
+    c.index-types-at.is (c.same_type.ensures.0 c.if-same_type.true)
 
 pub loop-link-smaller : goal.loop-link-smaller
 loop-link-smaller c =
     let s = c.args.self.now in
     next-falls c.args.types.now s.heads.items s.next.items c.args.ty.now c.loop-link.link c.index-link-in-loop-link.result.now c.requires.index c.loop-link.invariant
-      c.loop-link-test.true c.index-link-in-loop-link.ensures
+    c.loop-link-test.true c.index-link-in-loop-link.ensures
 
 pub loop-link-preserved : goal.loop-link-preserved
 loop-link-preserved c =
     let s = c.args.self.now in
     next-read c.args.types.now s.heads.items s.next.items c.args.ty.now c.loop-link.link c.index-types-at.result c.index-link-in-loop-link.result.now c.requires.index
-      c.loop-link.invariant c.loop-link-test.true c.index-types-at.is (λ same. false≢true (sym c.if-same_type.false ∙ c.same_type.ensures.1 same)) c.index-link-in-loop-link.ensures
+    c.loop-link.invariant c.loop-link-test.true c.index-types-at.is (λ same. false≢true (sym c.if-same_type.false ∙ c.same_type.ensures.1 same)) c.index-link-in-loop-link.ensures
