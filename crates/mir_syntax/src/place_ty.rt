@@ -1,5 +1,8 @@
-ghost use Rattle.std.specs.Prelude.{◌≡◌, ℕ, List, ◌∷◌, ◌<◌, None, MatchOption, IfSome, map, length, slice_get, option_copied, option_map};
+ghost use Rattle.std.specs.Prelude.{◌≡◌, ℕ, IsTrue, List, ◌∷◌, ◌<◌, None, MatchOption, IfSome, map, length, slice_get, option_copied, option_map};
 ghost use Rattle.mir_syntax.specs.Tree.{scalar, named, at_id, trees_of, node};
+ghost use Rattle.std.specs.List.{list_all};
+ghost use Rattle.mir_syntax.specs.Table.{ids_below};
+ghost use Rattle.mir_syntax.specs.Ids.{field_below, IdsInTable, BodyInTable};
 ghost use Rattle.mir_syntax.specs.Crate.{crate_of, body_of};
 ghost use Rattle.mir_syntax.specs.Shapes.{shapes_of, fields_of, variant_ty, proj_ty, whole_path_ty, whole_place_ty, fields_tree, field_id};
 ghost use Rattle.mir_syntax.specs.declared.body.Proj.{Proj};
@@ -29,16 +32,18 @@ fn split_field<'a>(projs: &'a [Proj]) -> Option<(u32, &'a [Proj])>
 impl Program {
     /// The type of an id; an id that is not in the table has none.
     fn ty_at(&self, id: TyId) -> Option<&Ty>
-        ensures { MatchOption result
+        ensures stands { MatchOption result
             (at_id (trees_of self.now.types) id ≡ scalar scalar_ty.Bool)
             (λ ty. at_id (trees_of self.now.types) id ≡ node (trees_of self.now.types) ty.now) }
+        ensures made { IfSome result (λ ty. IsTrue (ids_below (length self.now.types) ty.now)) }
     {
         self.types.get(id.0 as usize)
     }
 
     /// The fields of a struct; an enum has none of its own.
     fn struct_fields(&self, def: u32) -> Option<&[Field]>
-        ensures { option_map (fields_tree (trees_of self.now.types)) (option_copied result) ≡ fields_of (shapes_of (crate_of self.now)) (named def) }
+        ensures fields { option_map (fields_tree (trees_of self.now.types)) (option_copied result) ≡ fields_of (shapes_of (crate_of self.now)) (named def) }
+        ensures in_table { IdsInTable self.now → IfSome result (λ fields. IsTrue (list_all (field_below (length self.now.types)) fields.now)) }
     {
         let def = self.defs.get(def as usize)?;
         if def.is_enum {
@@ -52,7 +57,8 @@ impl Program {
 
     /// The fields of a variant of an enum.
     fn variant_fields(&self, id: TyId, variant: u32) -> Option<&[Field]>
-        ensures { option_map (fields_tree (trees_of self.now.types)) (option_copied result) ≡ variant_ty (shapes_of (crate_of self.now)) (at_id (trees_of self.now.types) id) variant }
+        ensures fields { option_map (fields_tree (trees_of self.now.types)) (option_copied result) ≡ variant_ty (shapes_of (crate_of self.now)) (at_id (trees_of self.now.types) id) variant }
+        ensures in_table { IdsInTable self.now → IfSome result (λ fields. IsTrue (list_all (field_below (length self.now.types)) fields.now)) }
     {
         let Ty::Named(def) = self.ty_at(id)? else {
             return None;
@@ -67,8 +73,9 @@ impl Program {
 
     /// The type of a field of a tuple or a struct.
     fn field_ty(&self, id: TyId, index: u32) -> Option<TyId>
-        ensures { option_map (at_id (trees_of self.now.types)) result
+        ensures ty { option_map (at_id (trees_of self.now.types)) result
             ≡ proj_ty (shapes_of (crate_of self.now)) (at_id (trees_of self.now.types) id) (Proj.Field index) }
+        ensures in_table { IdsInTable self.now → IfSome result (λ id. id.0 < length self.now.types) }
     {
         match self.ty_at(id)? {
             Ty::Tuple(ids) => ids.get(index as usize).copied(),
@@ -79,8 +86,9 @@ impl Program {
 
     /// What a reference points to.
     fn pointee(&self, id: TyId) -> Option<TyId>
-        ensures { option_map (at_id (trees_of self.now.types)) result
+        ensures ty { option_map (at_id (trees_of self.now.types)) result
             ≡ proj_ty (shapes_of (crate_of self.now)) (at_id (trees_of self.now.types) id) Proj.Deref }
+        ensures in_table { IdsInTable self.now → IfSome result (λ id. id.0 < length self.now.types) }
     {
         match self.ty_at(id)? {
             Ty::Ref(id) => Some(*id),
@@ -95,6 +103,7 @@ impl Program {
             (whole_path_ty (shapes_of (crate_of self.now)) (at_id (trees_of self.now.types) id) (first ∷ rest.now) ≡ None)
             (λ on. whole_path_ty (shapes_of (crate_of self.now)) (at_id (trees_of self.now.types) id) (first ∷ rest.now)
             ≡ whole_path_ty (shapes_of (crate_of self.now)) (at_id (trees_of self.now.types) on.0) on.1.now) }
+        ensures in_table { IdsInTable self.now → IfSome result (λ on. on.0.0 < length self.now.types) }
         ensures shorter { IfSome result (λ on. length on.1.now < length (first ∷ rest.now)) }
     {
         match first {
@@ -111,8 +120,10 @@ impl Program {
     /// rustc's `Place::ty`). `None` exactly where a projection doesn't fit the type before it, where the place ends in a downcast,
     /// after which a variant's fields stand and no type, or where the body has no such local.
     pub fn place_ty(&self, body: &Body, place: &Place) -> Option<TyId>
-        ensures { option_map (at_id (trees_of self.now.types)) result
+        ensures ty { option_map (at_id (trees_of self.now.types)) result
             ≡ whole_place_ty (shapes_of (crate_of self.now)) (body_of (trees_of self.now.types) body.now).locals place.now }
+        // The type lies in the table where the program's and the body's do.
+        ensures in_table { IdsInTable self.now → BodyInTable self.now.types body.now → IfSome result (λ id. id.0 < length self.now.types) }
     {
         let mut id = *body.locals.get(place.local as usize)?;
         let mut projs = place.proj.as_slice();

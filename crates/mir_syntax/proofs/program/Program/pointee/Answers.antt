@@ -5,6 +5,6 @@ use Rattle.mir_syntax.specs.Shapes.{shapes_of}
 use Rattle.mir_syntax.proofs.Places.{other-pointee}
 use Rattle.mir_syntax.proofs.program.Program.pointee.Goals as goal
 
-pub returns-in_default : goal.returns-in_default
-returns-in_default c =
-    rw c.in_ok-id.ensures (sym (other-pointee (trees_of c.args.self.now.types) c.in_ok-id.field-0.now c.in_default.not-Ref c.in_default.not-RefMut))
+pub returns-in_default-clause-ty : goal.returns-in_default-clause-ty
+returns-in_default-clause-ty c =
+    rw c.in_ok-id.ensures.stands (sym (other-pointee (trees_of c.args.self.now.types) c.in_ok-id.field-0.now c.in_default.not-Ref c.in_default.not-RefMut))
