@@ -1,4 +1,6 @@
 pub mod Lists
+pub mod Same
+pub mod Keeps
 pub mod Examples
 pub mod FactsDefinitions
 pub mod FactsStatements
