@@ -1,6 +1,8 @@
 pub mod Lists
 pub mod Same
 pub mod Keeps
+pub mod Typed
+pub mod Statements
 pub mod Examples
 pub mod FactsDefinitions
 pub mod FactsStatements
