@@ -3,6 +3,7 @@ pub mod Same
 pub mod Keeps
 pub mod Typed
 pub mod Statements
+pub mod Terminators
 pub mod Examples
 pub mod FactsDefinitions
 pub mod FactsStatements

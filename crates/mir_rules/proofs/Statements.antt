@@ -24,7 +24,7 @@ differ_not o k t u h e f = same_tree_is t u (not-false (same_tree t u) (rw (e, f
 pub not_differ : (o k : Option Tree) (t : Tree) → o ≡ Some t → k ≡ Some t → differ o k ≡ false
 not_differ o k t e f = rw (e, f) (not_from_true (same_tree t t) (same_tree_refl t))
 
-module _ (D : List Shape) (args : ℕ) (locals : List Tree) where
+module _ (D : List Shape) (locals : List Tree) where
   -- no operand moves through a type with a destructor, and none moves what needs drop from behind a reference or out of a variant
   pub record MovesKept (operands : List Operand) : Type 0 where
     pub through : breaks_v21 D locals operands ≡ false
@@ -39,12 +39,13 @@ module _ (D : List Shape) (args : ℕ) (locals : List Tree) where
   pub moves_keep : (operands : List Operand) → MovesKept operands → operands_broken D locals operands ≡ []
   moves_keep operands m = append_empty (if_broken (breaks_v21 D locals operands) 21) (if_broken (breaks_v22 D locals operands) 22) (if_broken_none (breaks_v21 D locals operands) 21 m.through) (if_broken_none (breaks_v22 D locals operands) 22 m.indirect)
 
+module _ (D : List Shape) (args : ℕ) (locals : List Tree) where
   -- the place and the rvalue have one type
   pub record Assigns (p : Place) (r : TypedRvalue) : Type 0 where
     pub ty : Tree
     pub place : place_ty D locals p ≡ Some ty
     pub rvalue : rvalue_ty D locals r ≡ Some ty
-    pub moves : MovesKept (rvalue_operands r)
+    pub moves : MovesKept D locals (rvalue_operands r)
 
   -- the place is an enum that needs no drop and has the variant
   pub record Sets (p : Place) (k : ℕ) : Type 0 where
@@ -76,7 +77,7 @@ module _ (D : List Shape) (args : ℕ) (locals : List Tree) where
       let (t, e) = place_typed D locals p (rvalue_places r) places in
       let (u, f) = rvalue_typed D locals r (or_false-right _ (breaks_v06 D locals (rvalue_places r)) places) (append_empty-left (rvalue_broken D locals r) (v14 ++ moved) h1) in
       let same = differ_not (rvalue_ty D locals r) (place_ty D locals p) u t (if_broken_empty (breaks_v14 D locals p r) 14 (append_empty-left v14 moved h2)) f e in
-      record { ty = u; place = rw same e; rvalue = f; moves = moves_kept (rvalue_operands r) (append_empty-right v14 moved h2) }
+      record { ty = u; place = rw same e; rvalue = f; moves = moves_kept D locals (rvalue_operands r) (append_empty-right v14 moved h2) }
 
   settable_is : (t : Tree) (s : Shape) → settable D t ≡ Some s → (enum_of D t ≡ Some s) × (needs_drop D t ≡ false)
   settable_is t s e =
@@ -115,7 +116,7 @@ module _ (D : List Shape) (args : ℕ) (locals : List Tree) where
       append_empty v06 (rvalue_broken D locals r ++ (v14 ++ moved))
       (if_broken_none (breaks_v06 D locals (p ∷ rvalue_places r)) 6 (typed_place D locals p (rvalue_places r) a.ty a.place (typed_rvalue D locals r a.ty a.rvalue)))
       (append_empty (rvalue_broken D locals r) (v14 ++ moved) (typed_rvalue_keeps D locals r a.ty a.rvalue)
-      (append_empty v14 moved (if_broken_none (breaks_v14 D locals p r) 14 (not_differ (rvalue_ty D locals r) (place_ty D locals p) a.ty a.rvalue a.place)) (moves_keep (rvalue_operands r) a.moves)))
+      (append_empty v14 moved (if_broken_none (breaks_v14 D locals p r) 14 (not_differ (rvalue_ty D locals r) (place_ty D locals p) a.ty a.rvalue a.place)) (moves_keep D locals (rvalue_operands r) a.moves)))
 
   typed_set : (p : Place) (k : ℕ) → Sets p k → statement_broken D args locals (set_discriminant p k) ≡ []
   unfolding statement_broken

@@ -31,7 +31,7 @@ pub made_pair : {A B C : Type 0} (o : Option A) (k : Option B) (make : A → B �
 made_pair o k make a b c e f g = rw (e, f, g) refl
 
 module _ (D : List Shape) (locals : List Tree) where
-  abbrev missing : Place → Bool
+  abbrev pub missing : Place → Bool
   missing p = is_none (place_ty D locals p)
 
   -- ---- places
@@ -56,7 +56,7 @@ module _ (D : List Shape) (locals : List Tree) where
   typed_operand (operand.Move p) t e = typed_place p [] t e refl
   typed_operand (operand.Const c) t e = refl
 
-  list_any_none_append : (xs ys : List Place) → breaks_v06 D locals xs ≡ false → breaks_v06 D locals ys ≡ false → breaks_v06 D locals (xs ++ ys) ≡ false
+  pub list_any_none_append : (xs ys : List Place) → breaks_v06 D locals xs ≡ false → breaks_v06 D locals ys ≡ false → breaks_v06 D locals (xs ++ ys) ≡ false
   list_any_none_append [] ys h k = k
   list_any_none_append (x ∷ xs) ys h k = rw (or_false-left (missing x) (list_any missing xs) h) (list_any_none_append xs ys (or_false-right (missing x) (list_any missing xs) h) k)
 
