@@ -4,6 +4,7 @@ pub mod Keeps
 pub mod Typed
 pub mod Statements
 pub mod Terminators
+pub mod Bodies
 pub mod Examples
 pub mod FactsDefinitions
 pub mod FactsStatements
