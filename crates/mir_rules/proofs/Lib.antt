@@ -5,6 +5,7 @@ pub mod Typed
 pub mod Statements
 pub mod Terminators
 pub mod Bodies
+pub mod ValidCrates
 pub mod Examples
 pub mod FactsDefinitions
 pub mod FactsStatements
