@@ -11,3 +11,4 @@ pub mod FactsDefinitions
 pub mod FactsStatements
 pub mod FactsTerminators
 pub mod FactsLimits
+pub mod FactsFaults
