@@ -70,10 +70,11 @@ module _ (C : Crate) where
 
   function_keeps : (f : ℕ) (g : TypedFunction) → function_found C D f g ≡ [] → (breaks_v03 g ≡ false) × (breaks_v04 D f g ≡ false) × BodyKeeps g.body
   function_keeps f g h =
-      let head = map_empty-source (at_spot (header f)) (header_broken D f g) (append_empty-left (map (at_spot (header f)) (header_broken D f g)) (body_found C D f g.body) h) in
-      (if_broken_empty (breaks_v03 g) 3 (append_empty-left (if_broken (breaks_v03 g) 3) (if_broken (breaks_v04 D f g) 4) head),
-      if_broken_empty (breaks_v04 D f g) 4 (append_empty-right (if_broken (breaks_v03 g) 3) (if_broken (breaks_v04 D f g) 4) head),
-      body_keeps f g.body (append_empty-right (map (at_spot (header f)) (header_broken D f g)) (body_found C D f g.body) h))
+      let head = map_empty-source (at_spot (header f)) (header_broken D f g) (append_empty-left (map (at_spot (header f)) (header_broken D f g)) (body_found C D f g.body) h) in (
+        if_broken_empty (breaks_v03 g) 3 (append_empty-left (if_broken (breaks_v03 g) 3) (if_broken (breaks_v04 D f g) 4) head),
+        if_broken_empty (breaks_v04 D f g) 4 (append_empty-right (if_broken (breaks_v03 g) 3) (if_broken (breaks_v04 D f g) 4) head),
+        body_keeps f g.body (append_empty-right (map (at_spot (header f)) (header_broken D f g)) (body_found C D f g.body) h),
+      )
 
   function_found_none : (f : ℕ) (g : TypedFunction) → breaks_v03 g ≡ false → breaks_v04 D f g ≡ false → BodyKeeps g.body → function_found C D f g ≡ []
   function_found_none f g third fourth body =

@@ -65,7 +65,7 @@ module _ (D : List Shape) (args : ℕ) (locals : List Tree) where
 
   -- ---- from the rules
 
-  assign_typed : (p : Place) (r : TypedRvalue) → statement_broken D args locals (assign p r) ≡ [] → Assigns p r
+  pub assign_typed : (p : Place) (r : TypedRvalue) → statement_broken D args locals (assign p r) ≡ [] → Assigns p r
   unfolding statement_broken
   assign_typed p r h =
       let v06 = if_broken (breaks_v06 D locals (p ∷ rvalue_places r)) 6 in
