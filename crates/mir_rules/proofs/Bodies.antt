@@ -1,23 +1,22 @@
 -- A valid crate stays valid with other bodies that keep their headers, are formed and break no rule.
-use Rattle.std.proofs.Common.{◌≡◌, ◌⊎◌, inl, inr, refl, sym, ap, ap₂, ◌∙◌, subst, ℕ, zero, suc, ◌+◌, ◌<◌, Bool, true, false, nat_eq, nat_lt, ◌&&◌, if◌then◌else◌, List, [], ◌∷◌, length, take, drop, get_or, set, Option, Some, None, is_none, slice_get, arith}
+use Rattle.std.proofs.Common.{◌≡◌, ◌⊎◌, inl, inr, refl, sym, ap, ap₂, ◌∙◌, subst, ℕ, zero, suc, Bool, true, false, nat_eq, nat_lt, ◌&&◌, if◌then◌else◌, List, [], ◌∷◌, length, take, drop, get_or, set, Option, Some, is_none, slice_get, arith}
 use Rattle.std.proofs.Common.{eqb-true}
 use Rattle.std.specs.List.{list_all}
 use Rattle.mir_syntax.specs.declared.body.Callee.{Callee}
 use Rattle.mir_syntax.specs.declared.body.Callee.TheVariants as callee
 use Rattle.mir_syntax.specs.declared.body.Term.{Term}
 use Rattle.mir_syntax.specs.declared.body.Term.TheVariants as term
-use Rattle.mir_syntax.specs.Tree.{Tree, scalar, empty, more, ref, ref_mut, named, tuple_of}
-use Rattle.mir_syntax.specs.Crate.{TypedStmt, TypedBlock, TypedBody, TypedDef, TypedOutside, TypedFunction, Crate}
+use Rattle.mir_syntax.specs.Tree.{Tree, empty, ref_mut, named, tuple_of}
+use Rattle.mir_syntax.specs.Crate.{TypedStmt, TypedBlock, TypedBody, TypedDef, TypedFunction, Crate}
 use Rattle.mir_syntax.specs.Shapes.{◌>>=◌, Shape, drops_locals, is_destructor_of, destructor_from, shape_of, shapes_from, shapes_of}
 use Rattle.mir_rules.specs.Typing.{args_of, result_of, callee_args_ty, callee_result_ty}
-use Rattle.mir_rules.specs.Parts.{operand_places, rvalue_operands, rvalue_places, term_operands, term_places, targets}
+use Rattle.mir_rules.specs.Parts.{term_operands, term_places, targets}
 use Rattle.mir_rules.specs.Formed.{place_formed, operand_formed, callee_formed, call_formed, block_there, stmt_formed, term_formed, block_formed, has_start, type_formed, body_formed, function_formed, def_formed, outside_formed, is_formed}
-use Rattle.mir_rules.specs.Broken.{own_broken, terminator_broken, statement_broken, broken}
-use Rattle.mir_rules.specs.Limits.{most_in_body}
-use Rattle.mir_rules.specs.Valid.{Valid, with_body, at_function, ValidAt}
-use Rattle.mir_rules.proofs.Lists.{and_true-left, and_true-right, list_all_true, list_all_true-at}
+use Rattle.mir_rules.specs.Broken.{terminator_broken}
+use Rattle.mir_rules.specs.Valid.{Valid}
+use Rattle.mir_rules.proofs.Lists.{and_true-left, and_true-right, list_all_true}
 use Rattle.mir_rules.proofs.Keeps.{BodyKeeps, CrateKeeps, crate_keeps, broken_none}
-use Rattle.mir_rules.specs.DefinitionRules.{dropped_by_locals, dropped_by_args, dropped_by, has_earlier, breaks_v01, breaks_v02, breaks_v03, breaks_v04}
+use Rattle.mir_rules.specs.DefinitionRules.{dropped_by_locals, dropped_by_args, dropped_by, has_earlier, breaks_v03, breaks_v04}
 
 -- ---- headers
 

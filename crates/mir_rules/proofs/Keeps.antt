@@ -1,5 +1,5 @@
 -- A crate breaks no rule exactly where each definition, outside function, header, statement and terminator breaks none.
-use Rattle.std.proofs.Common.{◌≡◌, refl, ℕ, zero, suc, ◌+◌, Bool, true, false, List, [], ◌∷◌, ◌++◌, map, Option, Some, None, slice_get, arith}
+use Rattle.std.proofs.Common.{◌≡◌, ℕ, ◌+◌, false, List, [], ◌++◌, map, Some, slice_get, arith}
 use Rattle.mir_syntax.specs.Crate.{TypedStmt, TypedBlock, TypedBody, TypedDef, TypedOutside, TypedFunction, Crate}
 use Rattle.mir_syntax.specs.Shapes.{Shape, shapes_of}
 use Rattle.mir_rules.specs.DefinitionRules.{breaks_v01, breaks_v02, breaks_v03, breaks_v04}

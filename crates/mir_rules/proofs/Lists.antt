@@ -1,5 +1,5 @@
 -- When lists that are put together are empty, and what tests of a whole list say of its items.
-use Rattle.std.proofs.Common.{◌≡◌, refl, sym, ap, ◌∙◌, subst, ℕ, zero, suc, ◌+◌, Bool, true, false, ◌&&◌, ◌||◌, List, [], ◌∷◌, ◌++◌, map, Option, Some, None, is_none, slice_get, arith}
+use Rattle.std.proofs.Common.{◌≡◌, refl, sym, subst, ℕ, zero, suc, ◌+◌, Bool, true, false, ◌&&◌, ◌||◌, List, [], ◌∷◌, ◌++◌, map, Option, Some, None, is_none, slice_get, arith}
 use Rattle.std.specs.List.{list_any, list_all}
 use Rattle.std.specs.Bool.{then_some}
 use Rattle.mir_syntax.specs.Shapes.{◌>>=◌}

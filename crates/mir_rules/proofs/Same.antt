@@ -1,5 +1,5 @@
 -- The test of two types is their equality.
-use Rattle.std.proofs.Common.{◌≡◌, refl, sym, ap, ap₂, ◌∙◌, ℕ, Bool, true, false, ◌&&◌, List, [], ◌∷◌, get_or, arith}
+use Rattle.std.proofs.Common.{◌≡◌, refl, sym, ap, ap₂, ◌∙◌, ℕ, true, List, [], ◌∷◌, get_or, arith}
 use Rattle.std.proofs.Common.{eqb-true, eq-eqb}
 use Rattle.mir_syntax.specs.declared.types.IntTy.{IntTy}
 use Rattle.mir_syntax.specs.declared.types.IntTy.TheVariants as int_ty

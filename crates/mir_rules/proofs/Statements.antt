@@ -1,7 +1,6 @@
 -- What a statement that breaks no rule says of types, and the other way round.
-use Rattle.std.proofs.Common.{◌≡◌, refl, sym, ap, ◌∙◌, ℕ, ◌<◌, Bool, true, false, not, List, [], ◌∷◌, ◌++◌, Option, Some, None, is_some, slice_get, arith}
+use Rattle.std.proofs.Common.{◌≡◌, refl, ℕ, ◌<◌, false, not, List, [], ◌∷◌, ◌++◌, Option, Some, slice_get}
 use Rattle.std.proofs.lemmas.Bool.{leb-false, lt-leb, not-true, not_from_true, not-false}
-use Rattle.std.specs.Bool.{then_some}
 use Rattle.mir_syntax.specs.declared.body.Place.{Place}
 use Rattle.mir_syntax.specs.declared.body.Operand.{Operand}
 use Rattle.mir_syntax.specs.Tree.{Tree}
@@ -10,9 +9,9 @@ use Rattle.mir_syntax.specs.Shapes.{◌>>=◌, Shape, place_ty, needs_drop}
 use Rattle.mir_rules.specs.Same.{same_tree}
 use Rattle.mir_rules.specs.Parts.{rvalue_operands, rvalue_places}
 use Rattle.mir_rules.specs.Typing.{rvalue_ty, enum_of}
-use Rattle.mir_rules.specs.BodyRules.{differ, unfit, settable, breaks_v06, breaks_v08, breaks_v14, breaks_v21, breaks_v22, breaks_v24, breaks_v25}
+use Rattle.mir_rules.specs.BodyRules.{differ, settable, breaks_v06, breaks_v08, breaks_v14, breaks_v21, breaks_v22, breaks_v24, breaks_v25}
 use Rattle.mir_rules.specs.Broken.{if_broken, operands_broken, rvalue_broken, statement_broken}
-use Rattle.mir_rules.proofs.Lists.{append_empty, append_empty-left, append_empty-right, or_false-left, or_false-right, bind_some, some_bind, then_some_is, if_broken_empty, if_broken_none}
+use Rattle.mir_rules.proofs.Lists.{append_empty, append_empty-left, append_empty-right, or_false-right, bind_some, some_bind, then_some_is, if_broken_empty, if_broken_none}
 use Rattle.mir_rules.proofs.Same.{same_tree_is, same_tree_refl}
 use Rattle.mir_rules.proofs.Typed.{unfit_made, made_unfit, place_typed, typed_place, rvalue_typed, typed_rvalue, typed_rvalue_keeps}
 

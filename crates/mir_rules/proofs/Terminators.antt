@@ -1,9 +1,8 @@
 -- What a terminator that breaks no rule says of types, and the other way round.
-use Rattle.std.proofs.Common.{◌≡◌, ◌≢◌, refl, sym, ap, ◌∙◌, subst, ℕ, zero, suc, ◌<◌, Bool, true, false, not, ◌==◌, ◌||◌, List, [], ◌∷◌, ◌++◌, map, length, Option, Some, None, slice_get, arith}
+use Rattle.std.proofs.Common.{◌≡◌, ◌≢◌, refl, sym, ap, ◌∙◌, subst, ℕ, zero, suc, ◌<◌, Bool, true, false, not, ◌==◌, List, [], ◌∷◌, ◌++◌, map, length, Some, slice_get, arith}
 use Rattle.std.proofs.Common.{ltb-true, eq-eqb}
-use Rattle.std.proofs.lemmas.Bool.{not_from_true, not-false, not-true}
-use Rattle.std.specs.List.{list_any, flat_map}
-use Rattle.mir_num.specs.Widths.{width_of}
+use Rattle.std.proofs.lemmas.Bool.{not-false}
+use Rattle.std.specs.List.{flat_map}
 use Rattle.mir_syntax.specs.declared.types.ScalarTy.{ScalarTy}
 use Rattle.mir_syntax.specs.declared.body.Place.{Place}
 use Rattle.mir_syntax.specs.declared.body.Operand.{Operand}
@@ -18,9 +17,9 @@ use Rattle.mir_syntax.specs.Shapes.{◌>>=◌, Shape, place_ty}
 use Rattle.mir_rules.specs.Parts.{is_direct, operand_places, term_operands, term_places, targets}
 use Rattle.mir_rules.specs.Typing.{bool_ty, scalar_of, operand_ty, operands_ty, args_of, result_of, callee_args_ty, callee_result_ty}
 use Rattle.mir_rules.specs.Formed.{callee_formed, call_formed}
-use Rattle.mir_rules.specs.BodyRules.{differ, unfit, goes_through_destructor, arm_value, has_twice, has_too_wide, breaks_v05, breaks_v06, breaks_v15, breaks_v16, breaks_v17, breaks_v18, breaks_v19, breaks_v20, breaks_v23}
+use Rattle.mir_rules.specs.BodyRules.{unfit, goes_through_destructor, arm_value, has_twice, has_too_wide, breaks_v05, breaks_v06, breaks_v15, breaks_v16, breaks_v17, breaks_v18, breaks_v19, breaks_v20, breaks_v23}
 use Rattle.mir_rules.specs.Broken.{if_broken, operands_broken, own_broken, terminator_broken}
-use Rattle.mir_rules.proofs.Lists.{append_empty, append_empty-left, append_empty-right, or_false-left, or_false-right, list_any_false-left, list_any_false-right, list_any_false, list_any_false-at, bind_some, some_bind, if_broken_empty, if_broken_none}
+use Rattle.mir_rules.proofs.Lists.{append_empty, append_empty-left, append_empty-right, or_false-left, or_false-right, list_any_false-left, list_any_false-right, list_any_false, list_any_false-at, some_bind, if_broken_empty, if_broken_none}
 use Rattle.mir_rules.proofs.Typed.{missing, list_any_none_append, unfit_made, made_unfit, place_typed, typed_place, operand_typed, typed_operand, operands_typed, typed_operands}
 use Rattle.mir_rules.proofs.Statements.{MovesKept, moves_kept, moves_keep, differ_not, not_differ}
 

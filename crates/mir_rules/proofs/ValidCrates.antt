@@ -1,13 +1,12 @@
 -- What a valid crate gives at each of its places, and how a body is valid in it.
-use Rattle.std.proofs.Common.{◌≡◌, ◌⊎◌, inl, inr, refl, sym, ap, ◌∙◌, subst, ℕ, zero, suc, ◌<◌, ◌≤◌, Bool, true, false, nat_lt, ◌&&◌, List, [], ◌∷◌, length, take, set, Option, Some, None, slice_get, arith}
+use Rattle.std.proofs.Common.{◌≡◌, ◌⊎◌, inl, inr, refl, ap, subst, ℕ, zero, suc, ◌<◌, ◌≤◌, Bool, true, nat_lt, ◌&&◌, List, [], ◌∷◌, length, take, set, Some, slice_get, arith}
 use Rattle.std.proofs.Common.{ltb-true}
 use Rattle.std.specs.List.{list_all}
 use Rattle.mir_syntax.specs.Tree.{Tree}
-use Rattle.mir_syntax.specs.Crate.{TypedStmt, TypedBlock, TypedBody, TypedDef, TypedOutside, TypedFunction, Crate}
-use Rattle.mir_syntax.specs.Shapes.{Shape, shapes_of}
+use Rattle.mir_syntax.specs.Crate.{TypedStmt, TypedBlock, TypedBody, TypedFunction, Crate}
+use Rattle.mir_syntax.specs.Shapes.{shapes_of}
 use Rattle.mir_rules.specs.Parts.{term_operands, term_places, targets}
 use Rattle.mir_rules.specs.Formed.{type_formed, place_formed, operand_formed, call_formed, block_there, stmt_formed, term_formed, block_formed, has_start, body_formed, function_formed, def_formed, outside_formed, is_formed}
-use Rattle.mir_rules.specs.DefinitionRules.{breaks_v01, breaks_v02, breaks_v03}
 use Rattle.mir_rules.specs.Limits.{most_in_body}
 use Rattle.mir_rules.specs.Valid.{Valid, with_body, at_function, ValidAt}
 use Rattle.mir_rules.proofs.Lists.{and_true-left, and_true-right, list_all_true-at}

@@ -1,16 +1,13 @@
 -- The fault that is answered for a crate that breaks a rule or passes a limit: of all that is found, the least by lines or codes.
-use Rattle.std.specs.Prelude.{ℕ, Bool, true, false, ◌&&◌, ◌||◌, nat_eq, nat_lt, nat_le, List, [], ◌∷◌, ◌++◌, map, length, Option, Some, None, slice_get}
+use Rattle.std.specs.Prelude.{ℕ, Bool, true, false, ◌&&◌, nat_eq, List, [], ◌∷◌, ◌++◌, map, length, Option, Some, None, slice_get}
 use Rattle.mir_syntax.specs.declared.lines.BlockLines.{BlockLines}
 use Rattle.mir_syntax.specs.declared.lines.FnLines.{FnLines}
 use Rattle.mir_syntax.specs.declared.lines.Lines.{Lines}
 use Rattle.mir_syntax.specs.Crate.{TypedBlock, TypedFunction, Crate}
 use Rattle.mir_syntax.specs.Shapes.{◌>>=◌}
+use Rattle.mir_text.specs.NameFaults.{first_fault}
 use Rattle.mir_rules.specs.Broken.{Spot, definition, outside, header, local, statement, terminator, broken}
 use Rattle.mir_rules.specs.Limits.{passed}
-
-pub record Fault : Type 0 where
-  pub line : ℕ
-  pub code : ℕ
 
 -- ---- lines
 
@@ -49,41 +46,25 @@ function_fits lines f = nat_eq (length lines.locals) (length f.body.locals) && s
 unfoldable pub lines_fit : Lines → Crate → Bool
 lines_fit lines C = nat_eq (length lines.defs) (length C.defs) && (nat_eq (length lines.outsides) (length C.outsides) && same_lengths function_fits lines.functions C.functions)
 
--- ---- the least
+-- ---- the fault that is answered
 
--- by line and then by code
-abbrev pub is_earlier : Fault → Fault → Bool
-is_earlier a b = nat_lt a.line b.line || (nat_eq a.line b.line && nat_le a.code b.code)
+-- by line, and on one line by code
+abbrev pub by_line : Lines → Spot × ℕ → ℕ × ℕ
+by_line lines found = (line_at lines found.0, found.1)
 
--- by code and then by line
-abbrev pub is_lesser : Fault → Fault → Bool
-is_lesser a b = nat_lt a.code b.code || (nat_eq a.code b.code && nat_le a.line b.line)
-
-abbrev pub choose : Bool → Fault → Fault → Fault
-choose true a b = a
-choose false a b = b
-
-abbrev pub better : (Fault → Fault → Bool) → Fault → Option Fault → Option Fault
-better before a None = Some a
-better before a (Some b) = Some (choose (before a b) a b)
-
--- the first of a list by an order; none where the list is empty
-unfoldable pub least : (Fault → Fault → Bool) → List Fault → Option Fault
-least before [] = None
-least before (a ∷ others) = better before a (least before others)
-
-abbrev pub fault_at : Lines → Spot × ℕ → Fault
-fault_at lines found = record { line = line_at lines found.0; code = found.1 }
+-- by code, and of one code by line
+abbrev pub by_code : Lines → Spot × ℕ → ℕ × ℕ
+by_code lines found = (found.1, line_at lines found.0)
 
 -- V07: the type that is written in a projection isn't the field's
-abbrev pub wrong_field_fault : Option ℕ → List Fault
+abbrev pub wrong_field_fault : Option ℕ → List (ℕ × ℕ)
 wrong_field_fault None = []
-wrong_field_fault (Some line) = record { line = line; code = 7 } ∷ []
+wrong_field_fault (Some line) = (line, 7) ∷ []
 
--- the rule that is answered: on the first line the one of least number
-unfoldable pub first_rule : Lines → Crate → Option Fault
-first_rule lines C = least is_earlier (wrong_field_fault lines.wrong_field ++ map (fault_at lines) (broken C))
+-- the line and the code of the rule that is answered: on the first line the one of least number
+unfoldable pub first_rule : Lines → Crate → Option (ℕ × ℕ)
+first_rule lines C = first_fault (wrong_field_fault lines.wrong_field ++ map (by_line lines) (broken C))
 
--- the limit that is answered: of the least number the one on the first line
-unfoldable pub first_limit : Lines → Crate → Option Fault
-first_limit lines C = least is_lesser (map (fault_at lines) (passed C))
+-- the code and the line of the limit that is answered: of the least number the one on the first line
+unfoldable pub first_limit : Lines → Crate → Option (ℕ × ℕ)
+first_limit lines C = first_fault (map (by_code lines) (passed C))

@@ -9,3 +9,4 @@ pub mod Weights
 pub mod Limits
 pub mod Faults
 pub mod Valid
+pub mod Accepted

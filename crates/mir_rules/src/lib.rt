@@ -7,7 +7,7 @@
 //! - `specs/Broken.antt`: all that breaks a rule, each with its spot.
 //! - `specs/Weights.antt`, `specs/Limits.antt`: the size and drop weight of types, and all that passes one of the limits L02 to L06.
 //! - `specs/Faults.antt`: the one fault that is answered, by lines.
-//! - `specs/Valid.antt`: valid crates, crates within the limits, bodies that are valid in a crate.
+//! - `specs/Valid.antt`: valid crates, crates within the limits, bodies that are valid in a crate; `specs/Accepted.antt`: accepted texts.
 //!
 //! The functions below are laws: their bodies are empty and their contracts say what holds of the definitions. The lemmas behind them, and
 //! what a valid crate gives at each place, stand in `proofs/`. `docs/rules.md` states the rules in prose.

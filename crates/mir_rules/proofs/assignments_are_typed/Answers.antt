@@ -1,5 +1,4 @@
-use Rattle.std.proofs.Common.{◌≡◌}
-use Rattle.mir_rules.proofs.Statements.{Assigns, assign_typed}
+use Rattle.mir_rules.proofs.Statements.{assign_typed}
 use Rattle.mir_rules.proofs.assignments_are_typed.Goals as goal
 
 pub returns : goal.returns

@@ -1,5 +1,5 @@
-use Rattle.std.proofs.Common.{◌≡◌, ◌≢◌, arith}
-use Rattle.mir_rules.proofs.Terminators.{TermTyped, not_to_start}
+use Rattle.std.proofs.Common.{◌≢◌, arith}
+use Rattle.mir_rules.proofs.Terminators.{not_to_start}
 use Rattle.mir_rules.proofs.ValidCrates.{body_formed_at, term_at, target_there}
 use Rattle.mir_rules.proofs.terminators_stay_inside.Goals as goal
 
