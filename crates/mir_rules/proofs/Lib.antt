@@ -6,6 +6,7 @@ pub mod Statements
 pub mod Terminators
 pub mod Bodies
 pub mod ValidCrates
+pub mod Depth
 pub mod Examples
 pub mod FactsDefinitions
 pub mod FactsStatements
