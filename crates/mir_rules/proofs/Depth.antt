@@ -9,15 +9,15 @@ use Rattle.mir_syntax.specs.Tree.{Tree, scalar, empty, more, ref, ref_mut, named
 use Rattle.mir_syntax.specs.Shapes.{Shape, needs_by, any_needs}
 use Rattle.mir_rules.specs.DefinitionRules.{holds_one, holds}
 
-or_cases : (a b : Bool) → (a || b) ≡ true → (a ≡ true) ⊎ (b ≡ true)
+pub or_cases : (a b : Bool) → (a || b) ≡ true → (a ≡ true) ⊎ (b ≡ true)
 or_cases true b e = inl refl
 or_cases false b e = inr e
 
-or_second : (a b : Bool) → b ≡ true → (a || b) ≡ true
+pub or_second : (a b : Bool) → b ≡ true → (a || b) ≡ true
 or_second true b e = refl
 or_second false b e = e
 
-or_first : (a b : Bool) → a ≡ true → (a || b) ≡ true
+pub or_first : (a b : Bool) → a ≡ true → (a || b) ≡ true
 or_first true b e = refl
 or_first false b e = absurd (grind arith)
 
@@ -33,7 +33,7 @@ module _ (p q : ℕ → Bool) (f : (k : ℕ) → p k ≡ true → q k ≡ true) 
   by_mono (named d) h = f d h
   by_mono t h = absurd (grind arith)
 
-  any_mono : (ts : List Tree) → any_needs p ts ≡ true → any_needs q ts ≡ true
+  pub any_mono : (ts : List Tree) → any_needs p ts ≡ true → any_needs q ts ≡ true
   any_mono [] h = absurd (grind arith)
   any_mono (t ∷ ts) h = or_map (needs_by p t) (any_needs p ts) (needs_by q t) (any_needs q ts) (by_mono t) (any_mono ts) h
 

@@ -7,6 +7,7 @@ pub mod Terminators
 pub mod Bodies
 pub mod ValidCrates
 pub mod Depth
+pub mod Fixed
 pub mod Examples
 pub mod FactsDefinitions
 pub mod FactsStatements
