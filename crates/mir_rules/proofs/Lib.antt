@@ -8,6 +8,7 @@ pub mod Bodies
 pub mod ValidCrates
 pub mod Depth
 pub mod Fixed
+pub mod Plain
 pub mod Examples
 pub mod FactsDefinitions
 pub mod FactsStatements
