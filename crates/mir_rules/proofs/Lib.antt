@@ -9,6 +9,7 @@ pub mod ValidCrates
 pub mod Depth
 pub mod Fixed
 pub mod Plain
+pub mod Destructors
 pub mod Examples
 pub mod FactsDefinitions
 pub mod FactsStatements
