@@ -15,7 +15,7 @@ Named s k = any_needs (λ j. j == k) s.variants ≡ true
 
 -- ---- any such definition
 
-module _ (D : List Shape) (apart : (d : ℕ) → holds D (length D) d d ≡ false) {X : Type 0} (f : ℕ → ℕ → X) (step : (ℕ → X) → Option Shape → X) (z : X) (base : (d : ℕ) → f 0 d ≡ z) (none : (g : ℕ → X) → step g None ≡ z) (next : (n d : ℕ) → f (suc n) d ≡ step (f n) (slice_get D d)) (by_named : (g h : ℕ → X) (s : Shape) → ((k : ℕ) → Named s k → g k ≡ h k) → step g (Some s) ≡ step h (Some s)) where
+module _ (D : List Shape) (apart : (d : ℕ) → holds D (length D) d d ≡ false) {X : Type 0} (f : ℕ → ℕ → X) (step : ℕ → (ℕ → X) → Option Shape → X) (z : X) (base : (d : ℕ) → f 0 d ≡ z) (none : (d : ℕ) (g : ℕ → X) → step d g None ≡ z) (next : (n d : ℕ) → f (suc n) d ≡ step d (f n) (slice_get D d)) (by_named : (d : ℕ) (g h : ℕ → X) (s : Shape) → ((k : ℕ) → Named s k → g k ≡ h k) → step d g (Some s) ≡ step d h (Some s)) where
   not_deep_inside : (n k : ℕ) (s : Shape) → any_needs (is_deep D n) s.variants ≡ false → Named s k → is_deep D n k ≡ false
   not_deep_inside n k s shallow inside = go (is_deep D n k) refl
     where
@@ -29,16 +29,16 @@ module _ (D : List Shape) (apart : (d : ℕ) → holds D (length D) d d ≡ fals
   steady zero d shallow = go (slice_get D d) refl
     where
       go : (o : Option Shape) → slice_get D d ≡ o → f 0 d ≡ f 1 d
-      go None e = base d ∙ sym (next 0 d ∙ ap (step (f 0)) e ∙ none (f 0))
+      go None e = base d ∙ sym (next 0 d ∙ ap (step d (f 0)) e ∙ none d (f 0))
       go (Some s) e = absurd (let t : true ≡ false = sym (ap is_some e) ∙ shallow in grind arith)
   steady (suc n) d shallow = next n d ∙ go (slice_get D d) refl (λ k. steady n k) ∙ sym (next (suc n) d)
     where
-      go : (o : Option Shape) → slice_get D d ≡ o → ((k : ℕ) → is_deep D n k ≡ false → f n k ≡ f (suc n) k) → step (f n) (slice_get D d) ≡ step (f (suc n)) (slice_get D d)
-      go None e inner = rw e (none (f n) ∙ sym (none (f (suc n))))
-      go (Some s) e inner = rw e (by_named (f n) (f (suc n)) s (λ k inside. inner k (not_deep_inside n k s (rw e at shallow) inside)))
+      go : (o : Option Shape) → slice_get D d ≡ o → ((k : ℕ) → is_deep D n k ≡ false → f n k ≡ f (suc n) k) → step d (f n) (slice_get D d) ≡ step d (f (suc n)) (slice_get D d)
+      go None e inner = rw e (none d (f n) ∙ sym (none d (f (suc n))))
+      go (Some s) e inner = rw e (by_named d (f n) (f (suc n)) s (λ k inside. inner k (not_deep_inside n k s (rw e at shallow) inside)))
 
   -- what holds of a definition, by what holds of those that it names
-  pub fixed : (d : ℕ) → f (length D) d ≡ step (f (length D)) (slice_get D d)
+  pub fixed : (d : ℕ) → f (length D) d ≡ step d (f (length D)) (slice_get D d)
   fixed d = steady (length D) d (not_deep D apart d) ∙ next (length D) d
 
 -- ---- in a valid crate no definition holds itself
@@ -80,5 +80,5 @@ module _ (g h : ℕ → Bool) where
 pub needs_drop_named : (D : List Shape) → ((d : ℕ) → holds D (length D) d d ≡ false) → (d : ℕ) → needs_drop D (named d) ≡ needs_of (λ k. needs_drop D (named k)) (slice_get D d)
 unfolding needs_drop
 needs_drop_named D apart d =
-    fixed D apart (needs_def D) needs_of false (λ k. refl) (λ g. refl) (λ n k. refl)
-    (λ g h s same. ap (λ b. is_some s.destructor || b) (any_needs_named g h s.variants same)) d
+    fixed D apart (needs_def D) (λ k. needs_of) false (λ k. refl) (λ k g. refl) (λ n k. refl)
+    (λ k g h s same. ap (λ b. is_some s.destructor || b) (any_needs_named g h s.variants same)) d

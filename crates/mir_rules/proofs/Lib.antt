@@ -8,6 +8,7 @@ pub mod Bodies
 pub mod ValidCrates
 pub mod Depth
 pub mod Fixed
+pub mod FixedWeights
 pub mod Plain
 pub mod Destructors
 pub mod Examples
