@@ -1,12 +1,12 @@
 -- What stands behind the shapes of a crate: the definition, and the function that is its destructor.
-use Rattle.std.proofs.Common.{◌≡◌, refl, sym, ap, ◌∙◌, subst, ℕ, zero, suc, ◌+◌, Bool, true, false, nat_eq, ◌==◌, ◌&&◌, not, if◌then◌else◌, List, [], ◌∷◌, Option, Some, None, slice_get, arith}
+use Rattle.std.proofs.Common.{◌≡◌, refl, sym, ap, subst, ℕ, zero, suc, ◌+◌, Bool, true, false, nat_eq, ◌&&◌, if◌then◌else◌, List, [], ◌∷◌, Some, slice_get, arith}
 use Rattle.std.proofs.Common.{eqb-true}
 use Rattle.std.proofs.lemmas.Bool.{not-false}
 use Rattle.std.specs.List.{list_all}
-use Rattle.mir_syntax.specs.Tree.{Tree, scalar, empty, more, ref, ref_mut, named}
+use Rattle.mir_syntax.specs.Tree.{Tree, empty, ref_mut, named}
 use Rattle.mir_syntax.specs.Crate.{TypedDef, TypedOutside, TypedFunction, Crate}
-use Rattle.mir_syntax.specs.Shapes.{◌>>=◌, Shape, drops_locals, is_destructor_of, destructor_from, shape_of, shapes_from, shapes_of, destructor_of}
-use Rattle.mir_rules.specs.DefinitionRules.{is_scalar, is_scalar_or_unit, breaks_v02}
+use Rattle.mir_syntax.specs.Shapes.{Shape, drops_locals, is_destructor_of, destructor_from, shape_of, shapes_from, shapes_of, destructor_of}
+use Rattle.mir_rules.specs.DefinitionRules.{is_scalar, is_scalar_or_unit}
 use Rattle.mir_rules.specs.Valid.{Valid}
 use Rattle.mir_rules.proofs.Lists.{and_true-left, and_true-right, bind_some}
 use Rattle.mir_rules.proofs.ValidCrates.{keeps}

@@ -1,10 +1,10 @@
 -- What is defined of definitions to a depth of their number satisfies its own equation, in a crate in which none holds itself by value.
-use Rattle.std.proofs.Common.{◌≡◌, ◌⊎◌, inl, inr, refl, sym, ap, ap₂, ◌∙◌, subst, ℕ, zero, suc, Bool, true, false, ◌||◌, ◌==◌, List, [], ◌∷◌, length, Option, Some, None, is_some, slice_get, arith}
+use Rattle.std.proofs.Common.{◌≡◌, refl, sym, ap, ap₂, ◌∙◌, subst, ℕ, zero, suc, Bool, true, false, ◌||◌, ◌==◌, List, [], ◌∷◌, length, Option, Some, None, is_some, slice_get, arith}
 use Rattle.std.proofs.Common.{eqb-true, eq-eqb}
-use Rattle.mir_syntax.specs.Tree.{Tree, scalar, empty, more, ref, ref_mut, named}
+use Rattle.mir_syntax.specs.Tree.{Tree, more, named}
 use Rattle.mir_syntax.specs.Crate.{TypedDef, TypedFunction, Crate}
 use Rattle.mir_syntax.specs.Shapes.{Shape, shapes_from, shapes_of, needs_by, any_needs, needs_of, needs_def, needs_drop}
-use Rattle.mir_rules.specs.DefinitionRules.{holds_one, holds}
+use Rattle.mir_rules.specs.DefinitionRules.{holds}
 use Rattle.mir_rules.specs.Valid.{Valid}
 use Rattle.mir_rules.proofs.Depth.{any_mono, or_first, or_second, is_deep, not_deep}
 use Rattle.mir_rules.proofs.ValidCrates.{keeps}

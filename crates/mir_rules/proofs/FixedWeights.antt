@@ -1,12 +1,12 @@
 -- The size of a definition by the sizes of those that it names, in a crate in which none holds itself by value.
-use Rattle.std.proofs.Common.{◌≡◌, refl, sym, ap, ap₂, ◌∙◌, ℕ, zero, suc, ◌+◌, Bool, true, false, ◌||◌, ◌==◌, List, [], ◌∷◌, ◌++◌, map, length, Option, Some, None, is_some, slice_get, arith}
+use Rattle.std.proofs.Common.{◌≡◌, refl, ap, ap₂, ◌∙◌, ℕ, suc, ◌+◌, Bool, true, false, ◌==◌, List, [], ◌∷◌, ◌++◌, map, length, is_some, slice_get, arith}
 use Rattle.std.proofs.Common.{eq-eqb}
-use Rattle.std.specs.Prelude.{fold, sum_by}
+use Rattle.std.specs.Prelude.{fold}
 use Rattle.mir_syntax.specs.declared.body.Proj.{Proj}
-use Rattle.mir_syntax.specs.Tree.{Tree, scalar, empty, more, ref, ref_mut, named}
+use Rattle.mir_syntax.specs.Tree.{Tree, empty, more, named}
 use Rattle.mir_syntax.specs.Shapes.{Shape, first_variant, needs_by, any_needs, needs_drop}
 use Rattle.mir_rules.specs.DefinitionRules.{holds}
-use Rattle.mir_rules.specs.Weights.{nodes_by, nodes_of_variants, nodes_of, nodes_def, nodes, under, units_from, units_of_parts, units_of_shape, units_of, units_def, units, counted, inside_by, variant_weight, inside_variants, inside_of, inside_def, drop_weight}
+use Rattle.mir_rules.specs.Weights.{nodes_by, nodes_of_variants, nodes_of, nodes_def, nodes, under, units_from, units_of_parts, units_of_shape, units_of, units_def, units, counted, inside_by, variant_weight, inside_variants, inside_of, inside_def}
 use Rattle.mir_rules.proofs.Depth.{or_first, or_second}
 use Rattle.mir_rules.proofs.Fixed.{fixed}
 

@@ -1,23 +1,21 @@
 -- The simplest valid crates: one function, assignments of whole locals and constants, and terminators without operands.
-use Rattle.std.proofs.Common.{◌≡◌, ◌≢◌, ◌⊎◌, inl, inr, refl, sym, ap, ◌∙◌, ℕ, zero, suc, Bool, true, false, ◌==◌, ◌&&◌, ◌||◌, List, [], ◌∷◌, Option, Some, None, slice_get, arith}
+use Rattle.std.proofs.Common.{◌≡◌, ◌≢◌, refl, ℕ, zero, suc, Bool, true, false, ◌==◌, ◌||◌, List, [], ◌∷◌, Some, slice_get, arith}
 use Rattle.std.proofs.Common.{eqb-true}
 use Rattle.mir_syntax.specs.declared.body.Place.{Place}
 use Rattle.mir_syntax.specs.declared.body.Const.{Const}
 use Rattle.mir_syntax.specs.declared.body.Operand.{Operand}
 use Rattle.mir_syntax.specs.declared.body.Operand.TheVariants as operand
-use Rattle.mir_syntax.specs.declared.body.Term.{Term}
 use Rattle.mir_syntax.specs.declared.body.Term.TheVariants as term
 use Rattle.mir_syntax.specs.Tree.{Tree}
-use Rattle.mir_syntax.specs.Crate.{«use», assign, TypedStmt, TypedBlock, TypedBody, TypedFunction, Crate}
-use Rattle.mir_syntax.specs.Shapes.{◌>>=◌, Shape, shapes_of, place_ty}
+use Rattle.mir_syntax.specs.Crate.{«use», assign, TypedFunction, Crate}
+use Rattle.mir_syntax.specs.Shapes.{Shape, shapes_of, place_ty}
 use Rattle.mir_rules.specs.Typing.{operand_ty, rvalue_ty}
 use Rattle.mir_rules.specs.Formed.{body_formed, is_formed}
-use Rattle.mir_rules.specs.Broken.{statement_broken, terminator_broken, broken}
-use Rattle.mir_rules.specs.BodyRules.{breaks_v05}
+use Rattle.mir_rules.specs.Broken.{statement_broken, terminator_broken}
 use Rattle.mir_rules.specs.DefinitionRules.{breaks_v03, breaks_v04}
 use Rattle.mir_rules.specs.Valid.{Valid}
 use Rattle.mir_rules.proofs.Lists.{some_bind}
-use Rattle.mir_rules.proofs.Keeps.{BodyKeeps, CrateKeeps, broken_none}
+use Rattle.mir_rules.proofs.Keeps.{BodyKeeps, broken_none}
 use Rattle.mir_rules.proofs.Statements.{MovesKept, typed_stmt}
 use Rattle.mir_rules.proofs.Terminators.{typed_term}
 
@@ -82,9 +80,11 @@ valid_alone g no_drop formed kept = record {
     third : (f : ℕ) (h : TypedFunction) → slice_get (g ∷ []) f ≡ Some h → breaks_v03 h ≡ false
     third zero h e = rw (let same : h ≡ g = grind arith in same) (rw no_drop refl)
     third (suc f) h e = absurd (grind arith)
+
     fourth : (f : ℕ) (h : TypedFunction) → slice_get (g ∷ []) f ≡ Some h → breaks_v04 (shapes_of (alone g)) f h ≡ false
     fourth zero h e = rw (let same : h ≡ g = grind arith in same) (rw no_drop refl)
     fourth (suc f) h e = absurd (grind arith)
+
     body : (f : ℕ) (h : TypedFunction) → slice_get (g ∷ []) f ≡ Some h → BodyKeeps (alone g) h.body
     body zero h e = rw (let same : h ≡ g = grind arith in same) kept
     body (suc f) h e = absurd (grind arith)
