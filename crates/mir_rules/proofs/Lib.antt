@@ -10,6 +10,7 @@ pub mod Depth
 pub mod Fixed
 pub mod FixedWeights
 pub mod Plain
+pub mod Least
 pub mod Destructors
 pub mod Examples
 pub mod FactsDefinitions
