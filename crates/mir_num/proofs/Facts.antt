@@ -1,10 +1,9 @@
 -- The operators on numerals.
-use Rattle.std.proofs.Common.{◌≡◌, refl, ℕ, ◌+◌, ◌^◌, ◌-◌, Bool, true, false, Option, Some, None}
-use Rattle.std.specs.Prelude.{ℤ, pos, negsuc}
-use Rattle.mir_syntax.specs.declared.types.IntTy.TheVariants.{I8, I16, I32, I64, I128, Isize, U8, U16, U32, U64, U128, Usize}
-use Rattle.mir_syntax.specs.declared.types.ScalarTy.{ScalarTy}
+use Rattle.std.proofs.Common.{◌≡◌, refl, ◌+◌, ◌^◌, ◌-◌, true, false, Some, None}
+use Rattle.std.specs.Prelude.{negsuc}
+use Rattle.mir_syntax.specs.declared.types.IntTy.TheVariants.{I8, I16, I32, I64, I128, Isize, U8, U16, U32, U64, U128}
 use Rattle.mir_syntax.specs.declared.types.ScalarTy.TheVariants.{Bool as Boolean, Int}
-use Rattle.mir_syntax.specs.declared.body.BinOp.TheVariants.{Add, Sub, Mul, Div, Rem, BitXor, BitAnd, BitOr, Shl, Shr, Eq, Ne, Lt, Le, Gt, Ge, AddUnchecked, SubUnchecked, MulUnchecked}
+use Rattle.mir_syntax.specs.declared.body.BinOp.TheVariants.{Add, Sub, Mul, Div, Rem, BitXor, Shl, Shr, Lt, AddUnchecked, MulUnchecked}
 use Rattle.mir_syntax.specs.declared.body.OverOp.TheVariants as over_op
 use Rattle.mir_syntax.specs.declared.body.UnOp.TheVariants.{Not, Neg}
 use Rattle.mir_num.specs.Numbers.{wrap, integer_of, bits_of, fits, exactly, quotient, remainder, flag, binop, exact, over, unary, cast}

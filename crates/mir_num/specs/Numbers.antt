@@ -1,6 +1,6 @@
 -- The operators on scalars. A scalar is a bit pattern, a natural number of which the low bits of its type's width count; it stands for an
 -- integer, and each operator is said of integers. Where an operator has no result the run is undefined.
-use Rattle.std.specs.Prelude.{ℕ, zero, suc, ◌+◌, ◌-◌, ◌*◌, ◌/◌, ◌%◌, ◌^◌, Bool, true, false, not, ◌&&◌, nat_eq, nat_lt, if◌then◌else◌, Option, Some, None, ℤ, pos, negsuc, ◌+ℤ◌, ◌-ℤ◌, ◌*ℤ◌, neg_ℤ, int_lt, int_le, int_div, int_rem, bit_and, bit_or, bit_xor}
+use Rattle.std.specs.Prelude.{ℕ, zero, suc, ◌-◌, ◌*◌, ◌%◌, ◌^◌, Bool, true, false, not, ◌&&◌, nat_eq, nat_lt, if◌then◌else◌, Option, Some, None, ℤ, pos, negsuc, ◌+ℤ◌, ◌-ℤ◌, ◌*ℤ◌, neg_ℤ, int_lt, int_le, int_div, int_rem, bit_and, bit_or, bit_xor}
 use Rattle.std.specs.Int.{int_shr}
 use Rattle.mir_syntax.specs.declared.types.ScalarTy.{ScalarTy}
 use Rattle.mir_syntax.specs.declared.body.BinOp.{BinOp}
@@ -19,10 +19,14 @@ wrap t n = n % patterns t
 unfoldable pub integer_of : ScalarTy → ℕ → ℤ
 integer_of t n = if nat_lt (wrap t n) (patterns t - negatives t) then pos (wrap t n) else pos (wrap t n) -ℤ pos (patterns t)
 
--- the pattern that stands for an integer: the integer modulo the number of patterns
+-- an integer modulo a positive number
+abbrev pub modulo : ℕ → ℤ → ℕ
+modulo m (pos n) = n % m
+modulo m (negsuc n) = m - suc (n % m)
+
+-- the pattern that stands for an integer
 unfoldable pub bits_of : ScalarTy → ℤ → ℕ
-bits_of t (pos n) = n % patterns t
-bits_of t (negsuc n) = patterns t - suc (n % patterns t)
+bits_of t z = modulo (patterns t) z
 
 -- the integer is one of the type's
 unfoldable pub fits : ScalarTy → ℤ → Bool

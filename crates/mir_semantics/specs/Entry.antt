@@ -106,7 +106,7 @@ abbrev pub result_and_args : TypedBody → List Tree
 result_and_args b = take (suc b.args) b.locals
 
 abbrev pub arg_types : TypedBody → List Tree
-arg_types b = take b.args (drop 1 b.locals)
+arg_types b = drop 1 (result_and_args b)
 
 -- a function whose signature holds no reference, with arguments of its types
 pub record IsEntry (C : Code) (e : Entry) : Type 0 where
