@@ -1,9 +1,8 @@
 -- The symbols of pieces, each with its line.
-use Rattle.std.specs.Prelude.{ℕ, ◌+◌, ◌^◌, Bool, ◌==◌, ◌&&◌, nat_lt, List, [], ◌∷◌, ◌++◌, map, length, take, drop, get_or, Option, Some, None, codes, if◌then◌else◌}
+use Rattle.std.specs.Prelude.{ℕ, ◌^◌, Bool, ◌==◌, ◌&&◌, nat_lt, List, [], ◌∷◌, ◌++◌, map, length, get_or, Option, Some, None, codes, if◌then◌else◌}
 use Rattle.std.specs.List.{prefix_len}
 use Rattle.std.specs.Char.{is_ascii_digit}
 use Rattle.std.specs.Str.Parse.{digits_value}
-use Rattle.mir_syntax.specs.declared.types.IntTy.{IntTy}
 use Rattle.mir_syntax.specs.declared.types.IntTy.TheVariants as i
 use Rattle.mir_syntax.specs.declared.body.BinOp.TheVariants as bin
 use Rattle.mir_syntax.specs.declared.body.OverOp.TheVariants as over
@@ -66,6 +65,30 @@ mark_symbol question = s.Question
 abbrev pub grammar_names : List (List ℕ)
 grammar_names =
     codes "inline" ∷ codes "always" ∷ codes "never" ∷ codes "inlined" ∷ codes "success" ∷ codes "MIN" ∷ codes "MAX" ∷ codes "IntToInt" ∷ []
+
+abbrev pub inline_name : Symbol
+inline_name = s.Name 0
+
+abbrev pub always_name : Symbol
+always_name = s.Name 1
+
+abbrev pub never_name : Symbol
+never_name = s.Name 2
+
+abbrev pub inlined_name : Symbol
+inlined_name = s.Name 3
+
+abbrev pub success_name : Symbol
+success_name = s.Name 4
+
+abbrev pub min_name : Symbol
+min_name = s.Name 5
+
+abbrev pub max_name : Symbol
+max_name = s.Name 6
+
+abbrev pub int_to_int_name : Symbol
+int_to_int_name = s.Name 7
 
 abbrev pub place_or : ℕ → Option ℕ → ℕ
 place_or n None = n
