@@ -1,0 +1,4 @@
+mod Digits
+pub mod PiecesFound
+pub mod PiecesSound
+pub mod PiecesStand
