@@ -1,4 +1,3 @@
 mod Digits
 pub mod PiecesFound
 pub mod PiecesSound
-pub mod PiecesStand

@@ -11,8 +11,10 @@ use Rattle.mir_lex.specs.declared.kind.Kind.TheVariants as k
 use Rattle.mir_lex.specs.declared.kind.Token.{Token}
 use Rattle.mir_lex.specs.declared.scan.Found.{Found}
 use Rattle.mir_lex.specs.declared.scan.Found.TheVariants as f
-use Rattle.mir_lex.specs.Tokens.{found_from, begins, is_blank, is_in_line, is_name_byte, number_of, number_at, suffixed, suffix_at, kind_of, word_at, underscore_at, text_past, sign_at, token_at, found_token, slash_at, found_at, goes_on, lexed_from, lexed}
-use Rattle.mir_lex.specs.Pieces.{Mark, open_paren, close_paren, open_brace, close_brace, open_bracket, close_bracket, comma, semicolon, colon, colons, dot, ampersand, star, exclamation, equals, hash, minus, arrow, fat_arrow, less, greater, bar, question, mark_text, mark_place, suffix_text, Piece, blank, line, comment, local, number, typed, text, word, under, mark, spelled, AreAll, IsContent, IsPiece, ends_mark, Ends, found_of, text_of, Stand, adds_token, line_after, tokens_of, line_past}
+use Rattle.mir_lex.specs.Tokens.{found_from, number_of, number_at, suffixed, kind_of, word_at, underscore_at, text_past, sign_at, token_at, found_token, slash_at, found_at, goes_on, lexed_from, lexed}
+use Rattle.mir_text.specs.Bytes.{begins, is_blank, is_in_line, is_name_byte, suffix_at, suffix_text, AreAll}
+use Rattle.mir_text.specs.Pieces.{Mark, open_paren, close_paren, open_brace, close_brace, open_bracket, close_bracket, comma, semicolon, colon, colons, dot, ampersand, star, exclamation, equals, hash, minus, arrow, fat_arrow, less, greater, bar, question, mark_text, Piece, blank, line, comment, local, number, typed, text, word, under, mark, spelled, IsContent, IsPiece, ends_mark, Ends, text_of, Stand, line_after, line_past}
+use Rattle.mir_lex.specs.Pieces.{mark_place, found_of, adds_token, tokens_of}
 
 -- ---- a run of bytes that pass, before what doesn't go on with it
 
@@ -153,8 +155,27 @@ unfolding lexed_from
 turn-from n size line_no before [] t e = absurd cc
 turn-from n size line_no before (b ∷ bs) t e = rw e refl
 
+-- the line after what was found on a line
+abbrev line_with : ℕ → Found → ℕ
+line_with n f.Blank = n
+line_with n f.Line = n + 1
+line_with n f.Comment = n
+line_with n (f.Token kind) = n
+
+line-found : (n : ℕ) (p : Piece) → line_with n (found_of p) ≡ line_after n p
+line-found n (blank b) = refl
+line-found n line = refl
+line-found n (comment bs) = refl
+line-found n (local d ds) = refl
+line-found n (number d ds) = refl
+line-found n (typed d ds t) = refl
+line-found n (text bs) = refl
+line-found n (word b bs) = refl
+line-found n (under b bs) = refl
+line-found n (mark m) = refl
+
 one-goes : (fd : Found) (sp rest : List ℕ) (n size line_no at : ℕ) (before : List Token) → size ≡ at + length (sp ++ rest)
-    → goes_on (lexed_from n size) size line_no before (sp ++ rest) (Ok (fd, rest)) ≡ lexed_from n size (line_after line_no fd) (before ++ adds_token line_no at fd sp []) rest
+    → goes_on (lexed_from n size) size line_no before (sp ++ rest) (Ok (fd, rest)) ≡ lexed_from n size (line_with line_no fd) (before ++ adds_token line_no at fd sp []) rest
 one-goes f.Blank sp rest n size line_no at before e = rw (append-nil before) refl
 one-goes f.Comment sp rest n size line_no at before e = rw (append-nil before) refl
 one-goes f.Line sp rest n size line_no at before e = rw (append-nil before) refl
@@ -181,7 +202,8 @@ pieces-lexed (p ∷ ps) (suc n) m size line_no at before left h e k =
     rw (append_assoc (spelled p) (text_of ps) left)
     (turn-from n size line_no before (spelled p ++ rest) (found_of p, rest) (piece-found p rest h.0 h.1)
     ∙ one-goes (found_of p) (spelled p) rest n size line_no at before whole
-    ∙ pieces-lexed ps n m size (line_after line_no (found_of p)) (at + length (spelled p)) (before ++ ts) left h.2 (omega arith) (omega (arith, length-append (spelled p) rest))
+    ∙ ap (λ c. lexed_from n size c (before ++ ts) rest) (line-found line_no p)
+    ∙ pieces-lexed ps n m size (line_after line_no p) (at + length (spelled p)) (before ++ ts) left h.2 (omega arith) (omega (arith, length-append (spelled p) rest))
     ∙ ap (λ l. lexed_from m size (line_past line_no (p ∷ ps)) l left)
     (append_assoc before ts _ ∙ ap (λ l. before ++ l) (adds-append (found_of p) line_no at (spelled p) _)))
 

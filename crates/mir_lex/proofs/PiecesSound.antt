@@ -19,8 +19,10 @@ use Rattle.std.specs.List.{starts_with}
 use Rattle.std.specs.Prelude.{nat_eq}
 use Rattle.mir_lex.proofs.PiecesFound.{piece-found, pieces-lexed, fewer_pieces, some_bytes}
 use Rattle.mir_lex.specs.declared.kind.LexFault.{LexFault}
-use Rattle.mir_lex.specs.Tokens.{digits_front, digits_rest, found_from, suffix_in, suffixes, sign_two, begins, is_blank, is_in_line, is_name_byte, number_of, number_at, number_with, suffixed, suffix_at, local_of, kind_of, word_at, underscore_at, text_past, text_with, sign_at, token_at, found_token, slash_at, found_at, lexed_from, lexed}
-use Rattle.mir_lex.specs.Pieces.{Mark, open_paren, close_paren, open_brace, close_brace, open_bracket, close_bracket, comma, semicolon, colon, colons, dot, ampersand, star, exclamation, equals, hash, minus, arrow, fat_arrow, less, greater, bar, question, mark_text, mark_place, suffix_text, Piece, blank, line, comment, local, number, typed, text, word, under, mark, spelled, AreAll, taken_next, IsContent, IsPiece, ends_mark, Ends, found_of, text_of, Stand, tokens_of, line_past, Front, IsFound, fault_code, FaultAt, EndsAt, Lexes}
+use Rattle.mir_lex.specs.Tokens.{digits_front, digits_rest, found_from, sign_two, number_of, number_at, number_with, suffixed, local_of, kind_of, word_at, underscore_at, text_past, text_with, sign_at, token_at, found_token, slash_at, found_at, lexed_from, lexed}
+use Rattle.mir_text.specs.Bytes.{suffix_in, suffixes, begins, is_blank, is_in_line, is_name_byte, suffix_at, suffix_text, AreAll}
+use Rattle.mir_text.specs.Pieces.{Mark, open_paren, close_paren, open_brace, close_brace, open_bracket, close_bracket, comma, semicolon, colon, colons, dot, ampersand, star, exclamation, equals, hash, minus, arrow, fat_arrow, less, greater, bar, question, mark_text, Piece, blank, line, comment, local, number, typed, text, word, under, mark, spelled, taken_next, IsContent, IsPiece, ends_mark, Ends, text_of, Stand, line_past}
+use Rattle.mir_lex.specs.Pieces.{mark_place, found_of, tokens_of, Front, IsFound, fault_code, FaultAt, EndsAt, Lexes}
 
 -- ---- tests
 
@@ -384,6 +386,14 @@ front-found b bs p rest front = ap found_from front.whole ∙ piece-found p rest
 
 pub fault_sound : (b : ℕ) (bs : List ℕ) (code : ℕ) → found_at b bs ≡ Err code → FaultAt (b ∷ bs) code
 fault_sound b bs code h = ((λ p rest front. let e = sym (front-found b bs p rest front) ∙ h in absurd cc), found-err b bs code h)
+
+pub front_sound : (bs : List ℕ) (fd : Found) (rest : List ℕ) → found_from bs ≡ Ok (fd, rest) → IsFound bs fd rest
+front_sound [] fd rest h = absurd cc
+front_sound (b ∷ bs) fd rest h = found_sound b bs fd rest h
+
+pub front_fault : (bs : List ℕ) (code : ℕ) → 0 < length bs → found_from bs ≡ Err code → FaultAt bs code
+front_fault [] code l h = absurd (omega arith)
+front_fault (b ∷ bs) code l h = fault_sound b bs code h
 
 fault-by : (b : ℕ) (bs : List ℕ) (code : ℕ) (t : Result (Found × List ℕ) ℕ) → found_at b bs ≡ t → FaultAt (b ∷ bs) code → found_at b bs ≡ Err code
 fault-by b bs code (Ok q) e fault =

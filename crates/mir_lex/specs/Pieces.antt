@@ -1,68 +1,17 @@
--- What a text is made of, and which pieces may stand together.
-use Rattle.std.specs.Prelude.{◌≡◌, ℕ, ◌+◌, ◌<◌, ◌^◌, Bool, true, false, ◌==◌, List, [], ◌∷◌, ◌++◌, length, Option, Some, None, codes}
-use Rattle.std.specs.Char.{is_ascii_digit, is_ascii_alphabetic}
+-- The tokens of pieces, and where a text can't be cut on.
+use Rattle.std.specs.Prelude.{◌≡◌, ℕ, ◌+◌, ◌==◌, List, [], ◌∷◌, ◌++◌, length, Option, Some, None, if◌then◌else◌}
+use Rattle.std.specs.Char.{is_ascii_digit}
 use Rattle.std.specs.Str.Parse.{digits_value}
-use Rattle.mir_syntax.specs.declared.types.IntTy.{IntTy}
-use Rattle.mir_syntax.specs.declared.types.IntTy.TheVariants as i
+use Rattle.mir_text.specs.Pieces.{Mark, open_paren, close_paren, open_brace, close_brace, open_bracket, close_bracket, comma, semicolon, colon, colons, dot, ampersand, star, exclamation, equals, hash, minus, arrow, fat_arrow, less, greater, bar, question, Piece, blank, line, comment, local, number, typed, text, word, under, mark, spelled, IsPiece, Ends, text_of, Stand, line_after, line_past}
 use Rattle.mir_lex.specs.declared.kind.Kind.TheVariants as k
 use Rattle.mir_lex.specs.declared.kind.Token.{Token}
-use Rattle.mir_lex.specs.declared.scan.Found.{Found}
-use Rattle.mir_lex.specs.declared.scan.Found.TheVariants as f
-use Rattle.mir_lex.specs.Tokens.{begins, is_blank, is_in_line, is_name_byte, suffix_at, local_of, kind_of}
-use Rattle.std.specs.Prelude.{if◌then◌else◌}
 use Rattle.mir_lex.specs.declared.kind.LexFault.{LexFault}
 use Rattle.mir_lex.specs.declared.kind.Lexed.{Lexed}
+use Rattle.mir_lex.specs.declared.scan.Found.{Found}
+use Rattle.mir_lex.specs.declared.scan.Found.TheVariants as f
+use Rattle.mir_lex.specs.Tokens.{local_of, kind_of}
 
-pub data Mark : Type 0 where
-  open_paren : Mark
-  close_paren : Mark
-  open_brace : Mark
-  close_brace : Mark
-  open_bracket : Mark
-  close_bracket : Mark
-  comma : Mark
-  semicolon : Mark
-  colon : Mark
-  colons : Mark
-  dot : Mark
-  ampersand : Mark
-  star : Mark
-  exclamation : Mark
-  equals : Mark
-  hash : Mark
-  minus : Mark
-  arrow : Mark
-  fat_arrow : Mark
-  less : Mark
-  greater : Mark
-  bar : Mark
-  question : Mark
-
-abbrev pub mark_text : Mark → List ℕ
-mark_text open_paren = codes "("
-mark_text close_paren = codes ")"
-mark_text open_brace = codes "{"
-mark_text close_brace = codes "}"
-mark_text open_bracket = codes "["
-mark_text close_bracket = codes "]"
-mark_text comma = codes ","
-mark_text semicolon = codes ";"
-mark_text colon = codes ":"
-mark_text colons = codes "::"
-mark_text dot = codes "."
-mark_text ampersand = codes "&"
-mark_text star = codes "*"
-mark_text exclamation = codes "!"
-mark_text equals = codes "="
-mark_text hash = codes "#"
-mark_text minus = codes "-"
-mark_text arrow = codes "->"
-mark_text fat_arrow = codes "=>"
-mark_text less = codes "<"
-mark_text greater = codes ">"
-mark_text bar = codes "|"
-mark_text question = codes "?"
-
+-- the place of a sign in the list of signs
 abbrev pub mark_place : Mark → ℕ
 mark_place open_paren = 0
 mark_place close_paren = 1
@@ -88,85 +37,7 @@ mark_place greater = 20
 mark_place bar = 21
 mark_place question = 22
 
-abbrev pub suffix_text : IntTy → List ℕ
-suffix_text i.I8 = codes "_i8"
-suffix_text i.I16 = codes "_i16"
-suffix_text i.I32 = codes "_i32"
-suffix_text i.I64 = codes "_i64"
-suffix_text i.I128 = codes "_i128"
-suffix_text i.Isize = codes "_isize"
-suffix_text i.U8 = codes "_u8"
-suffix_text i.U16 = codes "_u16"
-suffix_text i.U32 = codes "_u32"
-suffix_text i.U64 = codes "_u64"
-suffix_text i.U128 = codes "_u128"
-suffix_text i.Usize = codes "_usize"
-
-pub data Piece : Type 0 where
-  blank : ℕ → Piece
-  line : Piece
-  comment : List ℕ → Piece
-  local : ℕ → List ℕ → Piece
-  number : ℕ → List ℕ → Piece
-  typed : ℕ → List ℕ → IntTy → Piece
-  text : List ℕ → Piece
-  word : ℕ → List ℕ → Piece  -- it begins with a letter
-  under : ℕ → List ℕ → Piece  -- it begins with `_` and then a letter or `_`
-  mark : Mark → Piece
-
-abbrev pub spelled : Piece → List ℕ
-spelled (blank b) = b ∷ []
-spelled line = 10 ∷ []
-spelled (comment bs) = 47 ∷ 47 ∷ bs
-spelled (local d ds) = 95 ∷ d ∷ ds
-spelled (number d ds) = d ∷ ds
-spelled (typed d ds t) = d ∷ ds ++ suffix_text t
-spelled (text bs) = 34 ∷ bs ++ 34 ∷ []
-spelled (word b bs) = b ∷ bs
-spelled (under b bs) = 95 ∷ b ∷ bs
-spelled (mark m) = mark_text m
-
-abbrev pub AreAll : (ℕ → Bool) → List ℕ → Type 0
-AreAll p [] = Unit {0}
-AreAll p (b ∷ bs) = (p b ≡ true) × AreAll p bs
-
-abbrev pub taken_next : Bool → ℕ → Bool
-taken_next true b = false
-taken_next false b = b == 92
-
--- what may stand between quotes, where the byte before took the first one along or not
-abbrev pub IsContent : Bool → List ℕ → Type 0
-IsContent taken [] = taken ≡ false
-IsContent taken (b ∷ bs) = ((b == 10) ≡ false) × (taken ≡ false → (b == 34) ≡ false) × IsContent (taken_next taken b) bs
-
-abbrev pub IsPiece : Piece → Type 0
-IsPiece (blank b) = is_blank b ≡ true
-IsPiece line = Unit {0}
-IsPiece (comment bs) = AreAll is_in_line bs
-IsPiece (local d ds) = AreAll is_ascii_digit (d ∷ ds)
-IsPiece (number d ds) = AreAll is_ascii_digit (d ∷ ds) × (digits_value 10 (d ∷ ds) < 2 ^ 128)
-IsPiece (typed d ds t) = AreAll is_ascii_digit (d ∷ ds) × (digits_value 10 (d ∷ ds) < 2 ^ 128)
-IsPiece (text bs) = IsContent false bs
-IsPiece (word b bs) = (is_ascii_alphabetic b ≡ true) × AreAll is_name_byte bs
-IsPiece (under b bs) = (is_ascii_digit b ≡ false) × AreAll is_name_byte (b ∷ bs)
-IsPiece (mark m) = Unit {0}
-
-abbrev pub ends_mark : Mark → List ℕ → Type 0
-ends_mark colon after = begins (λ b. b == 58) after ≡ false
-ends_mark equals after = begins (λ b. b == 62) after ≡ false
-ends_mark minus after = begins (λ b. b == 62) after ≡ false
-ends_mark m after = Unit {0}
-
--- what stands after a piece makes no longer one of it
-abbrev pub Ends : Piece → List ℕ → Type 0
-Ends (comment bs) after = begins is_in_line after ≡ false
-Ends (local d ds) after = begins is_ascii_digit after ≡ false
-Ends (number d ds) after = (begins is_ascii_digit after ≡ false) × (suffix_at after ≡ None)
-Ends (word b bs) after = begins is_name_byte after ≡ false
-Ends (under b bs) after = begins is_name_byte after ≡ false
-Ends (mark m) after = ends_mark m after
-Ends p after = Unit {0}
-
+-- what a piece is found as
 abbrev pub found_of : Piece → Found
 found_of (blank b) = f.Blank
 found_of line = f.Line
@@ -179,36 +50,17 @@ found_of (word b bs) = f.Token (kind_of (b ∷ bs))
 found_of (under b bs) = f.Token (kind_of (95 ∷ b ∷ bs))
 found_of (mark m) = f.Token (k.Sign (mark_place m))
 
-abbrev pub text_of : List Piece → List ℕ
-text_of [] = []
-text_of (p ∷ ps) = spelled p ++ text_of ps
-
--- pieces that stand together, before what is left
-abbrev pub Stand : List Piece → List ℕ → Type 0
-Stand [] left = Unit {0}
-Stand (p ∷ ps) left = IsPiece p × Ends p (text_of ps ++ left) × Stand ps left
-
+-- the token of what was found on a line at a place, with its bytes, before others
 abbrev pub adds_token : ℕ → ℕ → Found → List ℕ → List Token → List Token
 adds_token n at f.Blank bs ts = ts
 adds_token n at f.Line bs ts = ts
 adds_token n at f.Comment bs ts = ts
 adds_token n at (f.Token kind) bs ts = record { kind = kind; at = at; len = length bs; line = n } ∷ ts
 
-abbrev pub line_after : ℕ → Found → ℕ
-line_after n f.Blank = n
-line_after n f.Line = n + 1
-line_after n f.Comment = n
-line_after n (f.Token kind) = n
-
 -- the tokens of pieces that begin at a line and a place
 abbrev pub tokens_of : ℕ → ℕ → List Piece → List Token
 tokens_of n at [] = []
-tokens_of n at (p ∷ ps) = adds_token n at (found_of p) (spelled p) (tokens_of (line_after n (found_of p)) (at + length (spelled p)) ps)
-
--- the line after pieces that begin at a line
-abbrev pub line_past : ℕ → List Piece → ℕ
-line_past n [] = n
-line_past n (p ∷ ps) = line_past (line_after n (found_of p)) ps
+tokens_of n at (p ∷ ps) = adds_token n at (found_of p) (spelled p) (tokens_of (line_after n p) (at + length (spelled p)) ps)
 
 -- a piece stands at the front of a text, before the rest
 pub record Front (bs : List ℕ) (p : Piece) (rest : List ℕ) : Type 0 where
@@ -248,51 +100,3 @@ pub record Lexes (bs : List ℕ) (found : Lexed) : Type 0 where
   pub stand : Stand pieces left
   pub tokens : found.tokens ≡ tokens_of 1 0 pieces
   pub fault : EndsAt (line_past 1 pieces) left found.fault
-
--- ---- neighbours in canonical text
-
--- a space, a line feed, a string or a sign
-abbrev pub clear : Piece → Bool
-clear (blank b) = b == 32
-clear line = true
-clear (text bs) = true
-clear (mark m) = true
-clear p = false
-
-abbrev pub is_space : Piece → Bool
-is_space (blank b) = b == 32
-is_space line = true
-is_space p = false
-
-abbrev pub is_line : Piece → Bool
-is_line line = true
-is_line p = false
-
-abbrev pub is_typed : Piece → Bool
-is_typed (typed d ds t) = true
-is_typed p = false
-
-abbrev pub apart_mark : Mark → Piece → Bool
-apart_mark colon q = is_space q
-apart_mark equals q = is_space q
-apart_mark minus q = is_typed q
-apart_mark m q = true
-
--- the second piece may follow the first
-abbrev pub apart : Piece → Piece → Bool
-apart (comment bs) q = is_line q
-apart (local d ds) q = clear q
-apart (number d ds) q = clear q
-apart (word b bs) q = clear q
-apart (under b bs) q = clear q
-apart (mark m) q = apart_mark m q
-apart p q = true
-
-abbrev pub Neighbours : List Piece → Type 0
-Neighbours [] = Unit {0}
-Neighbours (p ∷ []) = Unit {0}
-Neighbours (p ∷ q ∷ ps) = (apart p q ≡ true) × Neighbours (q ∷ ps)
-
-abbrev pub ArePieces : List Piece → Type 0
-ArePieces [] = Unit {0}
-ArePieces (p ∷ ps) = IsPiece p × ArePieces ps

@@ -1,18 +1,19 @@
--- The first token of a text, and the tokens of a whole text.
+-- What the scanner's functions answer, each as a function on lists. No public promise rests on these: those of `Pieces.antt` speak of pieces.
 use Rattle.std.specs.Prelude.{ℕ, zero, suc, ◌+◌, ◌-◌, ◌^◌, ◌≡◌, Bool, false, ◌==◌, ◌&&◌, ◌||◌, not, nat_lt, List, [], ◌∷◌, ◌++◌, length, take, drop, Result, Ok, Err, Option, Some, None, IsTrue, codes, if◌then◌else◌}
 use Rattle.std.specs.List.{prefix_len, starts_with}
 use Rattle.std.specs.Prelude.{nat_eq}
 use Rattle.std.specs.Char.{is_ascii_digit, is_ascii_alphabetic}
 use Rattle.std.specs.Str.Parse.{digits_value}
 use Rattle.mir_syntax.specs.declared.types.IntTy.{IntTy}
-use Rattle.mir_syntax.specs.declared.types.IntTy.TheVariants as i
 use Rattle.mir_lex.specs.declared.kind.Kind.{Kind}
 use Rattle.mir_lex.specs.declared.kind.Kind.TheVariants as k
 use Rattle.mir_lex.specs.declared.kind.Token.{Token}
 use Rattle.mir_lex.specs.declared.kind.Lexed.{Lexed}
 use Rattle.mir_lex.specs.declared.scan.Found.{Found}
 use Rattle.mir_lex.specs.declared.scan.Found.TheVariants as f
-use Rattle.mir_lex.specs.Words.{word_place}
+use Rattle.mir_text.specs.Bytes.{begins, is_blank, is_in_line, is_name_byte, suffix_at}
+use Rattle.mir_text.specs.Symbols.{block_digits}
+use Rattle.mir_text.specs.Words.{word_place}
 
 -- ---- digits
 
@@ -33,19 +34,6 @@ number_of ds = if nat_lt (digits_value 10 ds) (2 ^ 128) then Some (digits_value 
 
 -- ---- numbers
 
-abbrev pub suffixes : List (List ℕ × IntTy)
-suffixes =
-    (codes "_i8", i.I8) ∷ (codes "_i16", i.I16) ∷ (codes "_i32", i.I32) ∷ (codes "_i64", i.I64) ∷ (codes "_i128", i.I128) ∷ (codes "_isize", i.Isize) ∷
-    (codes "_u8", i.U8) ∷ (codes "_u16", i.U16) ∷ (codes "_u32", i.U32) ∷ (codes "_u64", i.U64) ∷ (codes "_u128", i.U128) ∷ (codes "_usize", i.Usize) ∷ []
-
-abbrev pub suffix_in : List (List ℕ × IntTy) → List ℕ → Option (IntTy × List ℕ)
-suffix_in [] bs = None
-suffix_in (s ∷ ss) bs = if starts_with nat_eq bs s.0 then Some (s.1, drop (length s.0) bs) else suffix_in ss bs
-
--- `_` and an integer type's name
-unfoldable pub suffix_at : List ℕ → Option (IntTy × List ℕ)
-suffix_at bs = suffix_in suffixes bs
-
 abbrev pub suffixed : ℕ → List ℕ → Option (IntTy × List ℕ) → Kind × List ℕ
 suffixed n bs None = (k.Number n None, bs)
 suffixed n bs (Some s) = (k.Number n (Some s.0), s.1)
@@ -60,13 +48,6 @@ number_at bs = number_with (number_of (digits_front bs)) (digits_rest bs)
 
 -- ---- names, words, locals and blocks
 
-abbrev pub is_name_byte : ℕ → Bool
-is_name_byte b = is_ascii_alphabetic b || is_ascii_digit b || (b == 95)
-
-abbrev pub begins : (ℕ → Bool) → List ℕ → Bool
-begins p [] = false
-begins p (b ∷ bs) = p b
-
 abbrev pub numbered_by : (ℕ → Kind) → Option ℕ → Kind
 numbered_by kind None = k.Large
 numbered_by kind (Some n) = if nat_lt n (2 ^ 32) then kind n else k.Large
@@ -77,12 +58,6 @@ local_of ds = numbered_by k.Local (number_of ds)
 
 unfoldable pub block_of : List ℕ → Kind
 block_of ds = numbered_by k.Block (number_of ds)
-
--- the digits of a block's name
-unfoldable pub block_digits : List ℕ → Option (List ℕ)
-block_digits [] = None
-block_digits (a ∷ []) = None
-block_digits (a ∷ b ∷ ds) = if (a == 98) && (b == 98) && begins is_ascii_digit ds && (length (digits_rest ds) == 0) then Some (digits_front ds) else None
 
 abbrev pub kind_by : Option (List ℕ) → Option ℕ → Kind
 kind_by (Some ds) place = block_of ds
@@ -149,12 +124,6 @@ token_at b past =
     else sign_at b past)))
 
 -- ---- a text
-
-abbrev pub is_blank : ℕ → Bool
-is_blank b = (b == 32) || (b == 9) || (b == 13)
-
-abbrev pub is_in_line : ℕ → Bool
-is_in_line b = not (b == 10)
 
 abbrev pub found_token : Result (Kind × List ℕ) ℕ → Result (Found × List ℕ) ℕ
 found_token (Ok t) = Ok (f.Token t.0, t.1)

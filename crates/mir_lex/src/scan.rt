@@ -2,6 +2,7 @@ ghost use Rattle.std.specs.Prelude.{◌≡◌, ◌<◌, ◌≤◌, ◌∷◌, le
 ghost use Rattle.std.specs.List.{prefix_len};
 ghost use Rattle.mir_lex.specs.Tokens.{Seen};
 ghost use Rattle.mir_lex.specs.Tokens as spec;
+ghost use Rattle.mir_text.specs.Bytes as text;
 ghost use Rattle.mir_lex.specs.Pieces.{IsFound, FaultAt};
 
 use crate::Kind;
@@ -34,7 +35,7 @@ fn numbered_local(digits: &[u8]) -> Kind
 }
 
 fn begins_name(bytes: &[u8]) -> bool
-    ensures { result ≡ spec.begins spec.is_name_byte bytes.now }
+    ensures { result ≡ text.begins text.is_name_byte bytes.now }
 {
     match bytes {
         [first, ..] => is_name_byte(*first),
@@ -83,7 +84,7 @@ fn read_token<'a>(bytes: &'a [u8], first: u8, past: &'a [u8]) -> Result<(Kind, &
 }
 
 fn line_len(bytes: &[u8]) -> usize
-    ensures count { result ≡ prefix_len spec.is_in_line bytes.now }
+    ensures count { result ≡ prefix_len text.is_in_line bytes.now }
     ensures within { result ≤ length bytes.now }
 {
     bytes.iter().take_while(|b| **b != b'\n').count()
@@ -124,20 +125,28 @@ pub fn read_found<'a>(bytes: &'a [u8], first: u8, past: &'a [u8]) -> Result<(Fou
     }
 }
 
-/// The longest piece at the front of a text that has not ended, and what follows it.
-///
-/// # Errors
-///
-/// The code of the fault, where no piece stands there: 1, 2 or 3, as in `LexFault`.
-#[tactic(auto, using(crate::proofs::PiecesSound::found_sound, crate::proofs::PiecesSound::fault_sound))]
-pub fn first_piece(bytes: &[u8]) -> Result<(Found, &[u8]), u8>
+fn first_found(bytes: &[u8]) -> Result<(Found, &[u8]), u8>
     requires { 0 < length bytes.now }
-    ensures piece { IfOk result (λ f. IsFound bytes.now f.0 f.1.now) }
-    ensures fault { IfErr result (λ code. FaultAt bytes.now code) }
+    ensures read { Seen (λ f. (f.0, f.1.now)) result (spec.found_from bytes.now) }
     ensures shorter { IfOk result (λ f. length f.1.now < length bytes.now) }
 {
     match bytes {
         [first, past @ ..] => read_found(bytes, *first, past),
         [] => Err(1),
     }
+}
+
+/// The longest piece at the front of a text that has not ended, and what follows it.
+///
+/// # Errors
+///
+/// The code of the fault, where no piece stands there: 1, 2 or 3, as in `LexFault`.
+#[tactic(auto, using(crate::proofs::PiecesSound::front_sound, crate::proofs::PiecesSound::front_fault))]
+pub fn first_piece(bytes: &[u8]) -> Result<(Found, &[u8]), u8>
+    requires { 0 < length bytes.now }
+    ensures piece { IfOk result (λ f. IsFound bytes.now f.0 f.1.now) }
+    ensures fault { IfErr result (λ code. FaultAt bytes.now code) }
+    ensures shorter { IfOk result (λ f. length f.1.now < length bytes.now) }
+{
+    first_found(bytes)
 }

@@ -1,13 +1,14 @@
 ghost use Rattle.std.specs.Prelude.{◌≡◌, ◌+◌, ◌<◌, ◌≤◌, length, map, true};
 ghost use Rattle.std.specs.Prelude.{IfSome};
 ghost use Rattle.std.specs.List.{prefix_len};
-ghost use Rattle.std.specs.Char.{is_ascii_digit};
+ghost use Rattle.mir_text.specs.Symbols.{block_digits};
 ghost use Rattle.mir_lex.specs.Tokens.{SeenOption};
-ghost use Rattle.mir_lex.specs.Words.{place_from, word_place};
+ghost use Rattle.mir_text.specs.Words.{place_from, word_place};
 ghost use Rattle.mir_lex.specs.Tokens as spec;
+ghost use Rattle.mir_text.specs.Bytes as text;
 
 use crate::Kind;
-use crate::number::{begins_digit, digits, value};
+use crate::number::{are_digits, value};
 
 const WORDS: [&[u8]; 95] = [
     b"i8",
@@ -124,7 +125,7 @@ fn place(mut table: &[&[u8]], from: u8, text: &[u8]) -> Option<u8>
 }
 
 /// The place of a reserved word.
-#[tactic(auto, unfolding(crate::specs::Words::word_place))]
+#[tactic(auto, unfolding(mir_text::specs::Words::word_place))]
 fn word_place(text: &[u8]) -> Option<u8>
     ensures { result ≡ word_place text.now }
 {
@@ -132,22 +133,21 @@ fn word_place(text: &[u8]) -> Option<u8>
 }
 
 pub fn is_name_byte(byte: u8) -> bool
-    ensures { result ≡ spec.is_name_byte byte }
+    ensures { result ≡ text.is_name_byte byte }
 {
     byte.is_ascii_alphabetic() || byte.is_ascii_digit() || byte == b'_'
 }
 
 /// The digits of a block's name.
-#[tactic(auto, unfolding(crate::specs::Tokens::block_digits))]
+#[tactic(auto, unfolding(mir_text::specs::Symbols::block_digits))]
 fn block_digits(text: &[u8]) -> Option<&[u8]>
-    ensures digits { SeenOption (λ f. f.now) result (spec.block_digits text.now) }
+    ensures digits { SeenOption (λ f. f.now) result (block_digits text.now) }
     ensures all { IfSome result (λ f. spec.AreDigits f.now) }
 {
     match text {
         [a, b, rest @ ..] => {
-            if *a == b'b' && *b == b'b' && begins_digit(rest) {
-                let (front, rest) = digits(rest);
-                if rest.is_empty() { Some(front) } else { None }
+            if *a == b'b' && *b == b'b' && are_digits(rest) {
+                Some(rest)
             } else {
                 None
             }
@@ -183,9 +183,9 @@ fn kind_of(text: &[u8]) -> Kind
 
 #[tactic(auto, using(crate::proofs::Digits::some_byte))]
 fn name_len(bytes: &[u8]) -> usize
-    ensures count { result ≡ prefix_len spec.is_name_byte bytes.now }
+    ensures count { result ≡ prefix_len text.is_name_byte bytes.now }
     ensures within { result ≤ length bytes.now }
-    ensures some { spec.begins spec.is_name_byte bytes.now ≡ true → 0 < result }
+    ensures some { text.begins text.is_name_byte bytes.now ≡ true → 0 < result }
 {
     bytes.iter().take_while(|b| is_name_byte(**b)).count()
 }
@@ -193,7 +193,7 @@ fn name_len(bytes: &[u8]) -> usize
 /// The letters, digits and `_` at the front.
 #[tactic(auto, unfolding(crate::specs::Tokens::word_at))]
 pub fn read_word(bytes: &[u8]) -> (Kind, &[u8])
-    requires { spec.begins spec.is_name_byte bytes.now ≡ true }
+    requires { text.begins text.is_name_byte bytes.now ≡ true }
     ensures kind { result.0 ≡ (spec.word_at bytes.now).0 }
     ensures rest { result.1.now ≡ (spec.word_at bytes.now).1 }
     ensures shorter { length result.1.now < length bytes.now }
