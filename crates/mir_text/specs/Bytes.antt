@@ -27,21 +27,6 @@ abbrev pub AreAll : (ℕ → Bool) → List ℕ → Type 0
 AreAll p [] = Unit {0}
 AreAll p (b ∷ bs) = (p b ≡ true) × AreAll p bs
 
--- the names of the integer types
-abbrev pub int_text : IntTy → List ℕ
-int_text i.I8 = codes "i8"
-int_text i.I16 = codes "i16"
-int_text i.I32 = codes "i32"
-int_text i.I64 = codes "i64"
-int_text i.I128 = codes "i128"
-int_text i.Isize = codes "isize"
-int_text i.U8 = codes "u8"
-int_text i.U16 = codes "u16"
-int_text i.U32 = codes "u32"
-int_text i.U64 = codes "u64"
-int_text i.U128 = codes "u128"
-int_text i.Usize = codes "usize"
-
 -- what stands behind the digits of a constant: `_` and the name of its type
 abbrev pub suffix_text : IntTy → List ℕ
 suffix_text i.I8 = codes "_i8"

@@ -2,3 +2,9 @@ pub mod Bytes
 pub mod Pieces
 pub mod Words
 pub mod Symbols
+pub mod Numbers
+pub mod TypeText
+pub mod PlaceText
+pub mod StatementText
+pub mod TermText
+pub mod Text
