@@ -1,0 +1,31 @@
+use mir_syntax::{Block, List, ScalarTy};
+
+/// A type of the first form.
+#[derive(Clone, Copy, Debug, PartialEq, Eq, Drop)]
+pub enum SmallTy {
+    Scalar(ScalarTy),
+    Unit,
+}
+
+/// A local as it is declared, among the arguments or in a `let` line.
+#[derive(Clone, Copy, Debug, Drop)]
+pub struct Declared {
+    pub local: u32,
+    pub ty: SmallTy,
+}
+
+/// A block under the number of its label.
+#[derive(Debug, Drop)]
+pub struct Labelled {
+    pub number: u32,
+    pub block: Block,
+}
+
+/// A function as it is written, without its path.
+#[derive(Debug, Drop)]
+pub struct FunctionText {
+    pub args: List<Declared>,
+    pub returned: SmallTy,
+    pub lets: List<Declared>,
+    pub blocks: List<Labelled>,
+}
