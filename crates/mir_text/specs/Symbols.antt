@@ -67,6 +67,30 @@ abbrev pub grammar_names : List (List ℕ)
 grammar_names =
     codes "inline" ∷ codes "always" ∷ codes "never" ∷ codes "inlined" ∷ codes "success" ∷ codes "MIN" ∷ codes "MAX" ∷ codes "IntToInt" ∷ []
 
+abbrev pub inline_name : Symbol
+inline_name = s.Name 0
+
+abbrev pub always_name : Symbol
+always_name = s.Name 1
+
+abbrev pub never_name : Symbol
+never_name = s.Name 2
+
+abbrev pub inlined_name : Symbol
+inlined_name = s.Name 3
+
+abbrev pub success_name : Symbol
+success_name = s.Name 4
+
+abbrev pub min_name : Symbol
+min_name = s.Name 5
+
+abbrev pub max_name : Symbol
+max_name = s.Name 6
+
+abbrev pub int_to_int_name : Symbol
+int_to_int_name = s.Name 7
+
 abbrev pub place_or : ℕ → Option ℕ → ℕ
 place_or n None = n
 place_or n (Some k) = k
