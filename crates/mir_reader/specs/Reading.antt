@@ -1,5 +1,5 @@
 -- What the reader's functions find in symbols, each as a function on lists. No public promise rests on these: those speak of the grammar.
-use Rattle.std.specs.Prelude.{ℕ, zero, suc, ◌≡◌, Bool, true, false, List, [], ◌∷◌, ◌++◌, length, Option, Some, None, if◌then◌else◌}
+use Rattle.std.specs.Prelude.{ℕ, zero, suc, ◌≡◌, Bool, true, false, ◌==◌, List, [], ◌∷◌, ◌++◌, length, Option, Some, None, if◌then◌else◌}
 use Rattle.mir_syntax.specs.declared.types.IntTy.{IntTy}
 use Rattle.mir_syntax.specs.declared.types.ScalarTy.TheVariants as scalar_ty
 use Rattle.mir_syntax.specs.declared.body.Const.{Const}
@@ -19,7 +19,6 @@ use Rattle.mir_text.specs.Numbers.{fits, bits_of}
 use Rattle.mir_reader.specs.declared.text.SmallTy.{SmallTy}
 use Rattle.mir_reader.specs.declared.text.SmallTy.TheVariants as small
 use Rattle.mir_reader.specs.declared.text.Declared.{Declared}
-use Rattle.mir_reader.specs.declared.text.Labelled.{Labelled}
 use Rattle.mir_reader.specs.declared.text.FunctionText.{FunctionText}
 use Rattle.mir_reader.specs.Parser.{Found, Parse, and_then, open_paren, close, open_brace, close_brace, colon, comma, semicolon, equals, arrow, local, block_number}
 
@@ -101,22 +100,28 @@ block_body ts =
     and_then (open_brace ts) (λ _ ts. and_then (statements ts) (λ xs ts. and_then (term ts) (λ t ts. and_then (semicolon ts) (λ _ ts. and_then (close_brace ts) (λ _ ts.
     Some (record { stmts = xs; term = t }, ts))))))
 
-unfoldable pub labelled : Parse Labelled
-labelled ts = and_then (block_number ts) (λ k ts. and_then (colon ts) (λ _ ts. and_then (block_body ts) (λ b ts. Some (record { number = k; block = b }, ts))))
+-- the label of the block with a number
+unfoldable pub label : ℕ → Parse (Unit {0})
+label k (s.Block n ∷ ts) = if n == k then Some (tt, ts) else None
+label k ts = None
+
+unfoldable pub labelled : ℕ → Parse Block
+labelled k ts = and_then (label k ts) (λ _ ts. and_then (colon ts) (λ _ ts. and_then (block_body ts) (λ b ts. Some (b, ts))))
 
 unfoldable pub begins_block : List Symbol → Bool
 begins_block (s.Block n ∷ ts) = true
 begins_block ts = false
 
-abbrev pub more_blocks : Bool → (List Labelled → Parse (List Labelled)) → List Labelled → Parse (List Labelled)
-more_blocks true more before ts = and_then (labelled ts) (λ x ts. more (before ++ x ∷ []) ts)
+abbrev pub more_blocks : Bool → (List Block → Parse (List Block)) → List Block → Parse (List Block)
+more_blocks true more before ts = and_then (labelled (length before) ts) (λ x ts. more (before ++ x ∷ []) ts)
 more_blocks false more before ts = Some (before, ts)
 
-unfoldable pub blocks_from : ℕ → List Labelled → Parse (List Labelled)
+-- blocks labelled in order, after those before
+unfoldable pub blocks_from : ℕ → List Block → Parse (List Block)
 blocks_from zero before ts = None
 blocks_from (suc n) before ts = more_blocks (begins_block ts) (blocks_from n) before ts
 
-abbrev pub blocks : Parse (List Labelled)
+abbrev pub blocks : Parse (List Block)
 blocks ts = blocks_from (suc (length ts)) [] ts
 
 -- ---- locals
@@ -136,13 +141,21 @@ unfoldable pub begins_let : List Symbol → Bool
 begins_let (s.Let ∷ ts) = true
 begins_let ts = false
 
-abbrev pub more_lets : Bool → (List Declared → Parse (List Declared)) → List Declared → Parse (List Declared)
-more_lets true more before ts = and_then (let_line ts) (λ x ts. more (before ++ x ∷ []) ts)
-more_lets false more before ts = Some (before, ts)
+abbrev pub goes_on : (List Declared → Parse (List Declared)) → Bool × List Declared → Parse (List Declared)
+goes_on more (true, xs) ts = Some (xs, ts)
+goes_on more (false, xs) ts = more xs ts
+
+abbrev pub let_turn_by : Bool → List Declared → Parse (Bool × List Declared)
+let_turn_by true before ts = and_then (let_line ts) (λ x ts. Some ((false, before ++ x ∷ []), ts))
+let_turn_by false before ts = Some ((true, before), ts)
+
+-- the next `let` line, where one begins: whether the lines end
+unfoldable pub let_turn : List Declared → Parse (Bool × List Declared)
+let_turn before ts = let_turn_by (begins_let ts) before ts
 
 unfoldable pub lets_from : ℕ → List Declared → Parse (List Declared)
 lets_from zero before ts = None
-lets_from (suc n) before ts = more_lets (begins_let ts) (lets_from n) before ts
+lets_from (suc n) before ts = and_then (let_turn before ts) (goes_on (lets_from n))
 
 abbrev pub lets : Parse (List Declared)
 lets ts = lets_from (suc (length ts)) [] ts
@@ -167,10 +180,6 @@ turn_by None before ts = and_then (declared ts) (λ x ts. and_then (after_argume
 
 unfoldable pub argument_turn : List Declared → Parse (Bool × List Declared)
 argument_turn before ts = turn_by (past_close ts) before ts
-
-abbrev pub goes_on : (List Declared → Parse (List Declared)) → Bool × List Declared → Parse (List Declared)
-goes_on more (true, xs) ts = Some (xs, ts)
-goes_on more (false, xs) ts = more xs ts
 
 unfoldable pub arguments_from : ℕ → List Declared → Parse (List Declared)
 arguments_from zero before ts = None

@@ -7,7 +7,7 @@ use crate::sign::{
     read_arrow, read_block_number, read_close_brace, read_colon, read_equals, read_local,
     read_open_brace, read_semicolon,
 };
-use crate::{FirstRefused, Labelled};
+use crate::FirstRefused;
 use mir_syntax::{Block, List, Rvalue, Stmt, Term};
 use mir_text::Symbol;
 use std::alloc::Global;
@@ -100,18 +100,37 @@ fn read_block_body<'a>(
     Ok((Block { stmts, term }, rest))
 }
 
+/// The label of the block with a number.
+#[tactic(auto, unfolding(crate::specs::Reading::label))]
+fn read_label(number: usize, symbols: &[Symbol]) -> Result<((), &[Symbol]), FirstRefused>
+    ensures read { Gives (λ f. (f.0, f.1.now)) result (spec.label number symbols.now) }
+    ensures shorter { IfOk result (λ f. length f.1.now < length symbols.now) }
+{
+    match symbols {
+        [Symbol::Block(label), rest @ ..] => {
+            if *label as usize == number {
+                Ok(((), rest))
+            } else {
+                Err(FirstRefused::NotFirst)
+            }
+        }
+        _ => Err(FirstRefused::NotFirst),
+    }
+}
+
 #[tactic(auto, unfolding(crate::specs::Reading::labelled))]
 fn read_labelled<'a>(
     alloc: Global,
+    number: usize,
     symbols: &'a [Symbol],
-) -> Result<(Labelled, &'a [Symbol]), FirstRefused>
-    ensures read { Gives (λ f. (f.0, f.1.now)) result (spec.labelled symbols.now) }
+) -> Result<(Block, &'a [Symbol]), FirstRefused>
+    ensures read { Gives (λ f. (f.0, f.1.now)) result (spec.labelled number symbols.now) }
     ensures shorter { IfOk result (λ f. length f.1.now < length symbols.now) }
 {
-    let (number, rest) = read_block_number(symbols)?;
+    let (_, rest) = read_label(number, symbols)?;
     let (_, rest) = read_colon(rest)?;
     let (block, rest) = read_block_body(alloc, rest)?;
-    Ok((Labelled { number, block }, rest))
+    Ok((block, rest))
 }
 
 #[tactic(auto, unfolding(crate::specs::Reading::begins_block))]
@@ -124,19 +143,19 @@ fn begins_block(symbols: &[Symbol]) -> bool
     }
 }
 
-/// Blocks, as long as one begins.
+/// Blocks, as long as one begins, labelled in order.
 #[tactic(auto, unfolding(crate::specs::Reading::blocks_from))]
 pub fn read_blocks<'a>(
     alloc: Global,
     symbols: &'a [Symbol],
-) -> Result<(List<Labelled>, &'a [Symbol]), FirstRefused>
+) -> Result<(List<Block>, &'a [Symbol]), FirstRefused>
     ensures read { Gives (λ f. (f.0, f.1.now)) result (spec.blocks symbols.now) }
     ensures within { IfOk result (λ f. length f.1.now ≤ length symbols.now) }
 {
     let mut blocks = List::new(alloc);
     let mut rest = symbols;
     'turns: while begins_block(rest) {
-        let (block, past) = read_labelled(alloc, rest)?;
+        let (block, past) = read_labelled(alloc, blocks.len(), rest)?;
         blocks.push(block)?;
         rest = past;
     }

@@ -1,4 +1,4 @@
-ghost use Rattle.std.specs.Prelude.{◌≡◌, ◌<◌, ◌≤◌, [], length, IfOk, IfSome};
+ghost use Rattle.std.specs.Prelude.{◌≡◌, ◌<◌, ◌≤◌, [], length, false, IfOk, IfSome};
 ghost use Rattle.std.specs.Option.{option_copied};
 ghost use Rattle.mir_reader.specs.Parser.{Gives};
 ghost use Rattle.mir_reader.specs.Reading as spec;
@@ -79,6 +79,25 @@ fn begins_let(symbols: &[Symbol]) -> bool
     }
 }
 
+/// The next `let` line, where one begins. It answers whether the lines end.
+#[tactic(auto, unfolding(crate::specs::Reading::let_turn))]
+fn read_let<'a>(
+    lets: &mut List<Declared>,
+    symbols: &'a [Symbol],
+) -> Result<(bool, &'a [Symbol]), FirstRefused>
+    ensures read { Gives (λ f. ((f.0, lets.new), f.1.now)) result (spec.let_turn lets.old symbols.now) }
+    ensures within { IfOk result (λ f. length f.1.now ≤ length symbols.now) }
+    ensures shorter { IfOk result (λ f. f.0 ≡ false → length f.1.now < length symbols.now) }
+{
+    if begins_let(symbols) {
+        let (line, rest) = read_let_line(symbols)?;
+        lets.push(line)?;
+        Ok((false, rest))
+    } else {
+        Ok((true, symbols))
+    }
+}
+
 /// `let` lines, as long as one begins.
 #[tactic(auto, unfolding(crate::specs::Reading::lets_from))]
 fn read_lets<'a>(
@@ -90,12 +109,13 @@ fn read_lets<'a>(
 {
     let mut lets = List::new(alloc);
     let mut rest = symbols;
-    'turns: while begins_let(rest) {
-        let (declared, past) = read_let_line(rest)?;
-        lets.push(declared)?;
+    'turns: loop {
+        let (ends, past) = read_let(&mut lets, rest)?;
+        if ends {
+            return Ok((lets, past));
+        }
         rest = past;
     }
-    Ok((lets, rest))
 }
 
 #[tactic(auto, unfolding(crate::specs::Reading::past_close))]

@@ -10,4 +10,4 @@ mod sign;
 mod text;
 
 pub use refused::FirstRefused;
-use text::{Declared, FunctionText, Labelled, SmallTy};
+use text::{Declared, FunctionText, SmallTy};

@@ -14,18 +14,11 @@ pub struct Declared {
     pub ty: SmallTy,
 }
 
-/// A block under the number of its label.
-#[derive(Debug, Drop)]
-pub struct Labelled {
-    pub number: u32,
-    pub block: Block,
-}
-
-/// A function as it is written, without its path.
+/// A function as it is written, without its path. The blocks are labelled in order.
 #[derive(Debug, Drop)]
 pub struct FunctionText {
     pub args: List<Declared>,
     pub returned: SmallTy,
     pub lets: List<Declared>,
-    pub blocks: List<Labelled>,
+    pub blocks: List<Block>,
 }
