@@ -144,6 +144,7 @@ fn first_found(bytes: &[u8]) -> Result<(Found, &[u8]), u8>
 #[tactic(auto, using(crate::proofs::PiecesSound::front_sound, crate::proofs::PiecesSound::front_fault))]
 pub fn first_piece(bytes: &[u8]) -> Result<(Found, &[u8]), u8>
     requires { 0 < length bytes.now }
+    ensures read { Seen (λ f. (f.0, f.1.now)) result (spec.found_from bytes.now) }
     ensures piece { IfOk result (λ f. IsFound bytes.now f.0 f.1.now) }
     ensures fault { IfErr result (λ code. FaultAt bytes.now code) }
     ensures shorter { IfOk result (λ f. length f.1.now < length bytes.now) }

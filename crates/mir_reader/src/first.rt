@@ -1,0 +1,34 @@
+ghost use Rattle.std.specs.Prelude.{◌≡◌, None, IfOk, IsErrOf};
+ghost use Rattle.mir_reader.specs.declared.refused.FirstRefused.TheVariants as first_refused;
+ghost use Rattle.mir_reader.specs.FirstRead as spec;
+
+use crate::FirstRefused;
+use crate::build::build;
+use crate::check::check;
+use crate::function::read_function_text;
+use crate::tokens::read_symbols;
+use mir_syntax::Program;
+use std::alloc::Global;
+
+/// Reads a text of the first form.
+///
+/// # Errors
+///
+/// `NotFirst`, where the text is of another form; `OutOfMemory`.
+#[tactic(auto, unfolding(crate::specs::FirstRead::first_read))]
+pub fn read_first(alloc: Global, bytes: &[u8]) -> Result<Program, FirstRefused>
+    ensures read { IfOk result (λ p. spec.IsOf (spec.first_read bytes.now) p) }
+    ensures refused { IsErrOf result first_refused.NotFirst → spec.first_read bytes.now ≡ None }
+{
+    let (symbols, name) = read_symbols(alloc, bytes)?;
+    let text = read_function_text(alloc, symbols.as_slice())?;
+    let locals = check(alloc, &text)?;
+    let program = build(
+        alloc,
+        name,
+        text.args.len() as u32,
+        locals.as_slice(),
+        text.blocks,
+    )?;
+    Ok(program)
+}
