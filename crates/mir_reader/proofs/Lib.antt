@@ -5,3 +5,5 @@ pub mod TypesRead
 pub mod ListsRead
 pub mod FunctionRead
 pub mod FileRead
+pub mod TokensRead
+pub mod FirstIs

@@ -6,3 +6,5 @@ pub mod Checks
 pub mod FirstRead
 pub mod First
 pub mod FirstText
+pub mod FirstPieces
+pub mod FirstForm
