@@ -1,9 +1,9 @@
 -- Frames that open and close.
-use Rattle.std.proofs.Common.{◌≡◌, ◌⊎◌, inl, inr, refl, sym, ap, ◌∙◌, ℕ, Bool, true, false, nat_eq, if◌then◌else◌, List, [], ◌∷◌, Option, Some, None, slice_get}
+use Rattle.std.proofs.Common.{◌≡◌, ◌⊎◌, inl, inr, refl, sym, ap, ◌∙◌, ℕ, Bool, true, false, nat_eq, if◌then◌else◌, List, [], ◌∷◌, Some, None, slice_get}
 use Rattle.std.proofs.lemmas.Bool.{eqb-true}
 use Rattle.mir_syntax.specs.Shapes.{◌>>=◌}
 use Rattle.mir_semantics.specs.Values.{Value}
-use Rattle.mir_semantics.specs.Memory.{Store, Memory, slots_of, local_at, open_frame, close_frame}
+use Rattle.mir_semantics.specs.Memory.{Memory, slots_of, local_at, open_frame, close_frame}
 use Rattle.mir_renaming.proofs.Memory.{same_or_not}
 
 pub if_true : {A : Type 0} {b : Bool} (x y : A) → b ≡ true → (if b then x else y) ≡ x

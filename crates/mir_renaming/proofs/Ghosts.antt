@@ -2,7 +2,7 @@
 use Rattle.std.proofs.Common.{◌≡◌, ◌⊎◌, inl, inr, refl, sym, ap, ap₂, ◌∙◌, subst, ℕ, Bool, true, false, nat_eq, ◌&&◌, if◌then◌else◌, List, [], ◌∷◌, Option, Some, None, slice_get, arith}
 use Rattle.mir_semantics.specs.Values.{Addr, Value, number, nil, cons, variant, pointer, hole}
 use Rattle.mir_semantics.specs.Memory.{Memory, local_at, open_frame, close_frame}
-use Rattle.mir_renaming.specs.Renaming.{Renaming, AddrRel, ValueRel, SomeRel, Sub, MemRel}
+use Rattle.mir_renaming.specs.Renaming.{Renaming, AddrRel, ValueRel, SomeRel, Sub}
 use Rattle.mir_renaming.proofs.Memory.{same_or_not}
 use Rattle.mir_renaming.proofs.Statements.{ValuesRel, Linked}
 use Rattle.mir_renaming.proofs.Frames.{equal, unequal, if_true, if_false, open_same, open_other, close_same, close_other}
@@ -73,17 +73,17 @@ module _ (Bor : ℕ → ℕ → Option ℕ) (once : (g x x' y : ℕ) → Bor g x
   pub ren_is : (F : Ghost) (f x g y : ℕ) → F f ≡ Some g → Bor g x ≡ Some y → ren F f x ≡ Some (f, y)
   ren_is F f x g y h k = ap (in_function f x) h ∙ ap (with_frame f) k
 
-  extend_sub : (F : Ghost) (n g : ℕ) → F n ≡ None → Sub (ren F) (ren (extend F n g))
+  pub extend_sub : (F : Ghost) (n g : ℕ) → F n ≡ None → Sub (ren F) (ren (extend F n g))
   extend_sub F n g none f x r e = go (same_or_not n f)
     where
       go : ((nat_eq n f ≡ true) × (n ≡ f)) ⊎ ((nat_eq n f ≡ false) × (n ≡ f → ⊥)) → ren (extend F n g) f x ≡ Some r
       go (inl p) = absurd (let h : F f ≡ None = ap F (sym p.1) ∙ none in let k : in_function f x None ≡ Some r = ap (in_function f x) (sym h) ∙ e in grind arith)
       go (inr p) = ap (in_function f x) (if_false (Some g) (F f) p.0) ∙ e
 
-  extend_new : (F : Ghost) (n g : ℕ) → extend F n g n ≡ Some g
+  pub extend_new : (F : Ghost) (n g : ℕ) → extend F n g n ≡ Some g
   extend_new F n g = if_true (Some g) (F n) (equal n n refl)
 
-  extend_old : (F : Ghost) (n g f : ℕ) → (n ≡ f → ⊥) → extend F n g f ≡ F f
+  pub extend_old : (F : Ghost) (n g f : ℕ) → (n ≡ f → ⊥) → extend F n g f ≡ F f
   extend_old F n g f ne = if_false (Some g) (F f) (unequal n f ne)
 
   -- what the slots of a new frame are to be

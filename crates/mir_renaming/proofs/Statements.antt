@@ -135,7 +135,7 @@ pub record Linked (j L : Renaming) (m2 m1 : Memory) : Type 0 where
 abbrev pub Got : {A : Type 0} → (A → A → Type 0) → Renaming → Renaming → A × Memory → Option (A × Memory) → Type 0
 Got {A = A} V j L r o = (q : A × Memory) × (o ≡ Some q) × V r.0 q.0 × Linked j L q.1 r.1
 
-got_at : {A : Type 0} (V : A → A → Type 0) (j L : Renaming) (x r : A × Memory) (o : Option (A × Memory)) → Some x ≡ Some r → Got V j L x o → Got V j L r o
+pub got_at : {A : Type 0} (V : A → A → Type 0) (j L : Renaming) (x r : A × Memory) (o : Option (A × Memory)) → Some x ≡ Some r → Got V j L x o → Got V j L r o
 got_at V j L x r o e g = subst (λ r. Got V j L r o) (let k : x ≡ r = grind arith in k) g
 
 pub write_linked : (j L : Renaming) (m2 m1 : Memory) (a b : Addr) (v w u : Value) → Linked j L m2 m1 → AddrRel L a b → ValueRel j v w → value_at m1 a ≡ Some u → Linked j L (write m2 b w) (write m1 a v)
@@ -213,7 +213,7 @@ module _ (D : List Shape) (ts1 ts2 : List Tree) (f1 f2 : ℕ) (j L : Renaming) (
   operand_ty_rel (operand.Const c) (operand.Const d) r = ap (λ c. Some (const_ty c)) r
   operand_ty_rel o p r = absurd r
 
-  scalar_ty_rel : (o p : Operand) → OperandRel o p → scalar_ty_of H1 o ≡ scalar_ty_of H2 p
+  pub scalar_ty_rel : (o p : Operand) → OperandRel o p → scalar_ty_of H1 o ≡ scalar_ty_of H2 p
   unfolding scalar_ty_of
   scalar_ty_rel o p r = ap (λ x. x >>= scalar_in) (operand_ty_rel o p r)
 

@@ -1,10 +1,9 @@
 -- The states of a valid crate's runs are typed.
-use Rattle.std.proofs.Common.{◌≡◌, ◌⊎◌, inl, inr, refl, sym, ap, ap₂, ◌∙◌, subst, ℕ, zero, suc, ◌+◌, ◌<◌, ◌≤◌, Bool, true, false, not, nat_eq, ◌&&◌, if◌then◌else◌, List, [], ◌∷◌, ◌++◌, map, length, drop, Option, Some, None, is_some, slice_get, arith}
-use Rattle.mir_syntax.specs.declared.types.ScalarTy.{ScalarTy}
+use Rattle.std.proofs.Common.{◌≡◌, ◌⊎◌, inl, inr, refl, sym, ap, ◌∙◌, subst, ℕ, zero, suc, ◌+◌, ◌≤◌, Bool, true, false, nat_eq, if◌then◌else◌, List, [], ◌∷◌, ◌++◌, length, drop, Option, Some, None, slice_get, arith}
 use Rattle.mir_syntax.specs.declared.types.FnId.{FnId}
 use Rattle.mir_syntax.specs.declared.types.OutId.{OutId}
 use Rattle.mir_syntax.specs.declared.body.Proj.{Proj}
-use Rattle.mir_syntax.specs.declared.body.Proj.TheVariants.{Field, Downcast, Deref}
+use Rattle.mir_syntax.specs.declared.body.Proj.TheVariants.{Field, Downcast}
 use Rattle.mir_syntax.specs.declared.body.Place.{Place}
 use Rattle.mir_syntax.specs.declared.body.Operand.{Operand}
 use Rattle.mir_syntax.specs.declared.body.Callee.{Callee}
@@ -13,13 +12,13 @@ use Rattle.mir_syntax.specs.declared.body.Term.{Term}
 use Rattle.mir_syntax.specs.declared.body.Term.TheVariants.{Goto, Switch, Return, Unreachable, Drop, Call, Assert}
 use Rattle.mir_syntax.specs.Tree.{Tree, scalar, empty, more, ref, ref_mut, named}
 use Rattle.mir_syntax.specs.Crate.{TypedBody, TypedBlock, TypedStmt, TypedOutside}
-use Rattle.mir_syntax.specs.Shapes.{Shape, ◌>>=◌, struct_fields, fields_of_struct, fields_of, field_ty, variant_ty, pointee, proj_ty, path_ty, destructor_of, needs_drop}
+use Rattle.mir_syntax.specs.Shapes.{Shape, struct_fields, fields_of, field_ty, proj_ty, destructor_of, needs_drop}
 use Rattle.mir_num.specs.Numbers.{wrap, flag}
-use Rattle.mir_semantics.specs.Values.{Addr, Value, number, nil, cons, variant, pointer, hole, is_hole, whole, blank}
-use Rattle.mir_semantics.specs.Memory.{Memory, local_at, value_at, write, open_frame, close_frame, further, walk}
-use Rattle.mir_semantics.specs.Step.{Code, Dest, Visit, Dropping, Control, Called, State, Outcome, returned, aborted, no_answer, Next, on, stop, fail, Here, local_addr, resolve, type_of, store, read_at, read, read_all, read_number, operand_ty, to_block, next_stmt, blanks, new_slots, entered, enter, calling, answered, ask, call, return_to, field_visits, variant_visits, enum_visits, shape_visits, visits_of, work_on, visit, visit_unless, visit_if, work_off, begun, destroyed_at, destroyed, check, finish, perform, step, dest_of, exec}
+use Rattle.mir_semantics.specs.Values.{Addr, Value, number, nil, cons, variant, pointer, hole, is_hole, blank}
+use Rattle.mir_semantics.specs.Memory.{Memory, local_at, open_frame, close_frame, further}
+use Rattle.mir_semantics.specs.Step.{Code, Dest, Visit, Dropping, Control, Called, State, returned, aborted, no_answer, Next, on, stop, fail, Here, local_addr, resolve, type_of, store, read_at, read, read_all, read_number, operand_ty, to_block, next_stmt, blanks, new_slots, entered, enter, calling, answered, ask, call, return_to, field_visits, variant_visits, enum_visits, shape_visits, visits_of, work_on, visit, visit_unless, visit_if, work_off, begun, destroyed_at, destroyed, check, finish, perform, step}
 use Rattle.mir_renaming.proofs.Memory.{bind_some, some_bind, same_or_not}
-use Rattle.mir_renaming.proofs.Types.{TypeMap, further_ty, AddrTy, HasTy, MemTy, some_eq, value_at_ty, write_ty, resolve_ty, read_ty, read_number_ty, read_at_ty, dest_ty, store_ty, StmtTy, exec_ty, addr_more, has_more, is_scalar}
+use Rattle.mir_renaming.proofs.Types.{TypeMap, further_ty, AddrTy, HasTy, MemTy, some_eq, write_ty, resolve_ty, read_ty, read_number_ty, read_at_ty, dest_ty, store_ty, StmtTy, exec_ty, addr_more, has_more, is_scalar}
 use Rattle.mir_renaming.proofs.Frames.{open_same, open_other, close_same, close_other}
 
 -- values of a list of types, as far as both go
