@@ -1,0 +1,4 @@
+pub mod Paths
+pub mod Lists
+pub mod Terms
+pub mod Landings
