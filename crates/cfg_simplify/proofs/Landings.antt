@@ -1,14 +1,18 @@
 -- The landings that the code finds are the defined ones.
-use Rattle.std.proofs.Common.{◌≡◌, ℕ, ◌<◌, List, map, length, get_or, Option, sym, ap, ◌∙◌, arith}
+use Rattle.std.proofs.Common.{◌≡◌, ℕ, ◌<◌, List, [], ◌∷◌, map, length, get_or, Option, is_some, sym, ap, ◌∙◌, arith}
 use Rattle.std.specs.List.{All}
 use Rattle.std.proofs.lemmas.List.{length-map, same_lists, get_or-map}
+use Rattle.std.proofs.lemmas.Bool.{cond_both}
+use Rattle.std.proofs.lemmas.List.Elements.{All-nil, All-cons, All-head, All-tail, All-append}
+use Rattle.mir_syntax.specs.declared.body.Arm.{Arm}
 use Rattle.mir_syntax.specs.declared.body.Block.{Block}
 use Rattle.mir_syntax.specs.declared.body.Term.{Term}
+use Rattle.mir_syntax.specs.declared.body.Term.TheVariants.{Goto, Switch, Return, Unreachable, Drop, Call, Assert}
 
-use Rattle.cfg_simplify.specs.Edges.{targets, retarget, Closed}
+use Rattle.cfg_simplify.specs.Edges.{arm_block, targets, retarget, retarget_arm, Closed}
 use Rattle.cfg_simplify.specs.Simple.{numbers, onward, walk, goto_link, settle, landing}
 use Rattle.cfg_simplify.specs.Code.{at, block_term, bare_goto, bare_hopped_block, bare_hopped, hollow}
-use Rattle.cfg_simplify.proofs.Lists.{length-numbers, get_from, same_numbers, all-numbers, walk-below, walk-agree}
+use Rattle.cfg_simplify.proofs.Lists.{All-left, All-last, length-numbers, get_from, same_numbers, all-numbers, walk-below, walk-agree}
 use Rattle.cfg_simplify.proofs.Terms.{step-below, block-closed, retarget-agree}
 
 module _ (blocks : List Block) (closed : Closed (map block_term blocks)) where
@@ -60,3 +64,36 @@ module _ (blocks : List Block) (closed : Closed (map block_term blocks)) where
         get_or-map (bare_hopped_block (at landings)) blocks k hollow d within
         ∙ ap (λ (t : Term). (let block : Block = record { stmts = b.stmts; term = t } in block)) same
         ∙ sym (get_or-map (bare_hopped_block (landing (map bare_goto blocks))) blocks k hollow d within))
+
+-- ---- the hopped body is closed
+
+retarget-inside : (f : ℕ → ℕ) (n : ℕ) → ((b : ℕ) → b < n → f b < n) → (t : Term) → All (λ b. b < n) (targets t) → All (λ b. b < n) (targets (retarget f t))
+retarget-inside f n below (Goto b) h = All-cons (λ x. x < n) (f b) [] (below b (All-head (λ x. x < n) b [] h)) (All-nil (λ x. x < n))
+retarget-inside f n below (Switch x arms b) h =
+    All-append (λ x. x < n) (map arm_block (map (retarget_arm f) arms)) (f b ∷ []) (in-arms arms (All-left (λ x. x < n) (map arm_block arms) (b ∷ []) h))
+    (All-cons (λ x. x < n) (f b) [] (below b (All-last (λ x. x < n) (map arm_block arms) b h)) (All-nil (λ x. x < n)))
+    where
+    in-arms : (arms : List Arm) → All (λ x. x < n) (map arm_block arms) → All (λ x. x < n) (map arm_block (map (retarget_arm f) arms))
+    in-arms [] g = All-nil (λ x. x < n)
+    in-arms (a ∷ rest) g = All-cons (λ x. x < n) (f a.block) (map arm_block (map (retarget_arm f) rest)) (below a.block (All-head (λ x. x < n) a.block (map arm_block rest) g)) (in-arms rest (All-tail (λ x. x < n) a.block (map arm_block rest) g))
+retarget-inside f n below Return h = h
+retarget-inside f n below Unreachable h = h
+retarget-inside f n below (Drop p b) h = All-cons (λ x. x < n) (f b) [] (below b (All-head (λ x. x < n) b [] h)) (All-nil (λ x. x < n))
+retarget-inside f n below (Call p c xs b) h = All-cons (λ x. x < n) (f b) [] (below b (All-head (λ x. x < n) b [] h)) (All-nil (λ x. x < n))
+retarget-inside f n below (Assert x e text xs b) h = All-cons (λ x. x < n) (f b) [] (below b (All-head (λ x. x < n) b [] h)) (All-nil (λ x. x < n))
+
+pub landing-below : (blocks : List Block) → Closed (map block_term blocks) → (b : ℕ) → b < length blocks → landing (map bare_goto blocks) b < length blocks
+landing-below blocks closed b l =
+    let gotos = map bare_goto blocks in
+    let end = walk (onward (goto_link gotos)) (length gotos) b in
+    cond_both (is_some (goto_link gotos end)) b end (λ x. x < length blocks) (λ e. l) (λ e. walk-below (onward (goto_link gotos)) (length blocks) (step-below blocks closed) (length gotos) b l)
+
+pub hopped-closed : (blocks : List Block) → Closed (map block_term blocks) → Closed (map block_term (bare_hopped blocks))
+hopped-closed blocks closed k d l =
+    let f = landing (map bare_goto blocks) in
+    let long : length (map block_term (bare_hopped blocks)) ≡ length blocks = length-map (bare_hopped blocks) block_term ∙ length-map blocks (bare_hopped_block f) in
+    let within : k < length blocks = omega (arith, long, l) in
+    let within2 : k < length (bare_hopped blocks) = omega (arith, within, length-map blocks (bare_hopped_block f)) in
+    let is : get_or (map block_term (bare_hopped blocks)) k d ≡ retarget f (block_term (get_or blocks k hollow)) =
+    get_or-map block_term (bare_hopped blocks) k hollow d within2 ∙ ap block_term (get_or-map (bare_hopped_block f) blocks k hollow hollow within) in
+    rw (is, long) (retarget-inside f (length blocks) (landing-below blocks closed) (block_term (get_or blocks k hollow)) (block-closed blocks k hollow closed within))

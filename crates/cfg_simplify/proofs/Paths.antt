@@ -306,7 +306,7 @@ search-begins terms some =
         closed = λ k l. absurd (omega arith);
     }
 
-edges-within : (terms : List Term) (a : ℕ) → Closed terms → All (λ t. t < length terms) (edges terms a)
+pub edges-within : (terms : List Term) (a : ℕ) → Closed terms → All (λ t. t < length terms) (edges terms a)
 edges-within terms a closed = elim (cases_lt a (length terms)) [
     inl l ↦ closed a Unreachable l
   | inr l ↦ (let e : get_or terms a Unreachable ≡ Unreachable = get_or_past terms a Unreachable l in

@@ -1,6 +1,6 @@
 -- What the parts of the code are said by: blocks as they stand in a body, with ids.
-use Rattle.std.specs.Prelude.{ℕ, ◌+◌, min, Bool, true, false, ◌==◌, ◌&&◌, not, cond, List, [], ◌∷◌, ◌++◌, map, length, get_or, set, Option, None}
-use Rattle.std.specs.List.{filter, flat_map}
+use Rattle.std.specs.Prelude.{ℕ, ◌+◌, min, Bool, true, false, ◌==◌, ◌&&◌, not, cond, List, [], ◌∷◌, ◌++◌, map, length, get_or, set, Option, None, Some, ◌<◌, ◌≡◌}
+use Rattle.std.specs.List.{filter, flat_map, list_any}
 use Rattle.mir_syntax.specs.declared.body.Stmt.{Stmt}
 use Rattle.mir_syntax.specs.declared.body.Term.{Term}
 use Rattle.mir_syntax.specs.declared.body.Term.TheVariants.{Unreachable}
@@ -76,3 +76,12 @@ bare_whole blocks a =
 
 abbrev pub bare_regrouped : List Block → List Block
 bare_regrouped blocks = map (bare_whole blocks) (filter (stays (map block_term blocks)) (numbers (length blocks)))
+
+-- the marks after the block that a link leads to has lost its own
+abbrev pub unmarked : List Bool → Option ℕ → List Bool
+unmarked marks None = marks
+unmarked marks (Some b) = set marks b false
+
+-- no step along the links comes to a block that is on the line already
+abbrev pub IsFresh : (ℕ → Option ℕ) → ℕ → ℕ → Type 0
+IsFresh link n first = (i b : ℕ) → i < n → link (walk (onward link) i first) ≡ Some b → list_any (λ a. b == a) (line link i first) ≡ false

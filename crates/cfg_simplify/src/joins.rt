@@ -1,4 +1,4 @@
-ghost use Rattle.std.specs.Prelude.{◌≡◌, ℕ, ◌<◌, ◌≤◌, ◌^◌, min, map, length, IfOk};
+ghost use Rattle.std.specs.Prelude.{◌≡◌, ℕ, ◌<◌, ◌≤◌, ◌^◌, min, cond, replicate, map, length, IfOk};
 ghost use Rattle.std.specs.List.{All};
 ghost use Rattle.cfg_simplify.specs.Edges.{Closed, targets, goto_block};
 ghost use Rattle.cfg_simplify.specs.Simple.{numbers, reached as is_reached, incoming, joined, only_if};
@@ -34,18 +34,26 @@ fn count_edges(counts: &mut [u8], term: &Term)
     }
 }
 
+fn zeros(alloc: Global, count: usize) -> Result<Vec<u8>, OutOfMemory>
+    ensures { IfOk result (λ counts. counts.items ≡ replicate count 0) }
+{
+    let mut counts = Vec::new(alloc);
+    for _ in 0..count {
+        if counts.push(0).is_err() {
+            return Err(OutOfMemory);
+        }
+    }
+    Ok(counts)
+}
+
+/// For each block how many edges of reached blocks lead to it, or 2 for more.
 fn incoming_counts(alloc: Global, blocks: &[Block], reached: &[bool]) -> Result<Vec<u8>, OutOfMemory>
     requires closed { Closed (map block_term blocks.now) }
     requires marks { reached.now ≡ map (is_reached (map block_term blocks.now)) (numbers (length blocks.now)) }
     ensures len { IfOk result (λ counts. length counts.items ≡ length blocks.now) }
     ensures each { IfOk result (λ counts. (b : ℕ) → b < length blocks.now → at counts.items b ≡ min 2 (incoming (map block_term blocks.now) b)) }
 {
-    let mut counts = Vec::new(alloc);
-    for _ in 0..blocks.len() {
-        if counts.push(0).is_err() {
-            return Err(OutOfMemory);
-        }
-    }
+    let mut counts = zeros(alloc, blocks.len())?;
     for block in 0..blocks.len() {
         if reached[block] {
             count_edges(counts.as_mut_slice(), &blocks[block].term);
@@ -54,18 +62,18 @@ fn incoming_counts(alloc: Global, blocks: &[Block], reached: &[bool]) -> Result<
     Ok(counts)
 }
 
-/// The block that a goto leads to, if it can be joined to the goto's block.
-fn joined_block(term: &Term, block: u32, counts: &[u8]) -> Option<u32>
+/// The block that is joined to a reached block whose goto leads there.
+fn joined_block(is_reached: bool, block: u32, term: &Term, counts: &[u8]) -> Option<u32>
     requires { All (λ b. b < length counts.now) (targets term.now) }
-    ensures { result ≡ only_if (joins_by counts.now block) (goto_block term.now) }
+    ensures { result ≡ cond is_reached (only_if (joins_by counts.now block) (goto_block term.now)) None }
 {
-    match *term {
-        Term::Goto(target)
-            if target != 0 && target != block && counts[target as usize] == 1 =>
-        {
-            Some(target)
-        }
-        _ => None,
+    let Term::Goto(target) = *term else {
+        return None;
+    };
+    if is_reached && target != 0 && target != block && counts[target as usize] == 1 {
+        Some(target)
+    } else {
+        None
     }
 }
 
@@ -79,12 +87,8 @@ pub(crate) fn joined_blocks(alloc: Global, blocks: &[Block], reached: &[bool]) -
     let counts = incoming_counts(alloc, blocks, reached)?;
     let mut joins = List::new(alloc);
     for block in 0..blocks.len() {
-        let join = if reached[block] {
-            joined_block(&blocks[block].term, block as u32, counts.as_slice())
-        } else {
-            None
-        };
-        joins.push(join)?;
+        let term = &blocks[block].term;
+        joins.push(joined_block(reached[block], block as u32, term, counts.as_slice()))?;
     }
     Ok(joins)
 }

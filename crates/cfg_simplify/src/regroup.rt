@@ -1,8 +1,8 @@
 ghost use Rattle.std.specs.Prelude.{◌≡◌, ℕ, ◌<◌, ◌^◌, ◌==◌, ◌&&◌, not, map, length, get_or, set, Some, IfOk, OnOk, false};
-ghost use Rattle.std.specs.List.{IsDistinct, list_any, flat_map};
+ghost use Rattle.std.specs.List.{list_any, flat_map};
 ghost use Rattle.cfg_simplify.specs.Edges.{Closed};
-ghost use Rattle.cfg_simplify.specs.Simple.{numbers as all_numbers, onward, walk, line, is_at, new_number};
-ghost use Rattle.cfg_simplify.specs.Code.{block_term, link_at, flag_at, hollow, stmts_in, bare_regrouped};
+ghost use Rattle.cfg_simplify.specs.Simple.{numbers as all_numbers, onward, walk, line, is_at, new_number, stays, joined};
+ghost use Rattle.cfg_simplify.specs.Code.{block_term, link_at, flag_at, hollow, stmts_in, unmarked, IsFresh, bare_regrouped};
 
 use crate::edges::retargeted;
 use crate::joins::joined_blocks;
@@ -17,9 +17,16 @@ fn unmark_joined(marks: &mut [bool], joins: &[Option<u32>])
     ensures { (b : ℕ) → flag_at marks.new b ≡ (flag_at marks.old b && not (list_any (is_at b) joins.now)) }
 {
     for join in joins {
-        if let Some(block) = *join {
-            marks[block as usize] = false;
-        }
+        unmark(marks, *join);
+    }
+}
+
+fn unmark(marks: &mut [bool], join: Option<u32>)
+    requires { (b : ℕ) → join ≡ Some b → b < length marks.old }
+    ensures { marks.new ≡ unmarked marks.old join }
+{
+    if let Some(block) = join {
+        marks[block as usize] = false;
     }
 }
 
@@ -56,27 +63,56 @@ fn take_line(alloc: Global, blocks: &mut [Block], joins: &[Option<u32>], first: 
     requires within { first < length blocks.old }
     requires links { (a b : ℕ) → link_at joins.now a ≡ Some b → b < length blocks.old }
     requires joins { length joins.now ≡ length blocks.old }
-    requires apart { IsDistinct (λ a b. a == b) (line (link_at joins.now) (length blocks.old) first) }
+    requires fresh { IsFresh (link_at joins.now) (length blocks.old) first }
     ensures stmts { IfOk result (λ block. block.stmts ≡ flat_map (stmts_in blocks.old) (line (link_at joins.now) (length blocks.old) first)) }
     ensures term { IfOk result (λ block. block.term ≡ block_term (get_or blocks.old (walk (onward (link_at joins.now)) (length blocks.old) first) hollow)) }
     // The blocks that aren't on the line stay.
-    ensures others { OnOk result ((b : ℕ) → list_any (λ a. a == b) (line (link_at joins.now) (length blocks.old) first) ≡ false → get_or blocks.new b hollow ≡ get_or blocks.old b hollow) }
+    ensures others { OnOk result ((b : ℕ) → list_any (λ a. b == a) (line (link_at joins.now) (length blocks.old) first) ≡ false → get_or blocks.new b hollow ≡ get_or blocks.old b hollow) }
 {
-    let Block { stmts, mut term } = take_block(alloc, blocks, first);
-    let mut stmts = stmts.into_vec();
+    let mut line = take_block(alloc, blocks, first);
     let mut last = first;
     for _ in 0..blocks.len() {
         let Some(next) = joins[last as usize] else {
-            break;
+            return Ok(line);
         };
-        let block = take_block(alloc, blocks, next);
-        if stmts.append(&mut block.stmts.into_vec()).is_err() {
-            return Err(OutOfMemory);
-        }
-        term = block.term;
+        let Block { stmts, term } = take_block(alloc, blocks, next);
+        line.stmts.append(stmts)?;
+        line.term = term;
         last = next;
     }
-    Ok(Block { stmts: List::from_vec(stmts), term })
+    Ok(line)
+}
+
+/// Which blocks stay: those that are reached and aren't joined to another.
+fn stay_marks(reached: Vec<bool>, joins: &[Option<u32>]) -> Vec<bool>
+    requires { (a b : ℕ) → link_at joins.now a ≡ Some b → b < length reached.items }
+    ensures len { length result.items ≡ length reached.items }
+    ensures marks { (b : ℕ) → flag_at result.items b ≡ (flag_at reached.items b && not (list_any (is_at b) joins.now)) }
+{
+    let mut marks = reached;
+    unmark_joined(marks.as_mut_slice(), joins);
+    marks
+}
+
+/// The marked blocks, each with those that are joined to it, renumbered.
+fn kept_blocks(alloc: Global, blocks: List<Block>, marks: &[bool], joins: &[Option<u32>]) -> Result<List<Block>, OutOfMemory>
+    requires closed { Closed (map block_term blocks) }
+    requires few { length blocks < 2 ^ 30 }
+    requires marks { marks.now ≡ map (stays (map block_term blocks)) (all_numbers (length blocks)) }
+    requires joins { joins.now ≡ map (joined (map block_term blocks)) (all_numbers (length blocks)) }
+    ensures { IfOk result (λ list. list ≡ bare_regrouped blocks) }
+{
+    let numbers = new_numbers(alloc, marks)?;
+    let mut blocks = blocks.into_vec();
+    let mut kept = List::new(alloc);
+    for at in 0..marks.len() {
+        if marks[at] {
+            let Block { stmts, term } = take_line(alloc, blocks.as_mut_slice(), joins, at as u32)?;
+            let term = retargeted(term, numbers.as_slice());
+            kept.push(Block { stmts, term })?;
+        }
+    }
+    Ok(kept)
 }
 
 /// The reached blocks, each with those that are joined to it, renumbered.
@@ -86,20 +122,8 @@ pub(crate) fn regrouped(alloc: Global, blocks: List<Block>) -> Result<List<Block
     requires few { length blocks < 2 ^ 30 }
     ensures { IfOk result (λ list. list ≡ bare_regrouped blocks) }
 {
-    let mut marks = reached_blocks(alloc, blocks.as_slice())?;
-    let joins = joined_blocks(alloc, blocks.as_slice(), marks.as_slice())?;
-    unmark_joined(marks.as_mut_slice(), joins.as_slice());
-    let numbers = new_numbers(alloc, marks.as_slice())?;
-    let mut blocks = blocks.into_vec();
-    let mut kept = List::new(alloc);
-    for at in 0..marks.len() {
-        if marks[at] {
-            let block = take_line(alloc, blocks.as_mut_slice(), joins.as_slice(), at as u32)?;
-            kept.push(Block {
-                stmts: block.stmts,
-                term: retargeted(block.term, numbers.as_slice()),
-            })?;
-        }
-    }
-    Ok(kept)
+    let reached = reached_blocks(alloc, blocks.as_slice())?;
+    let joins = joined_blocks(alloc, blocks.as_slice(), reached.as_slice())?;
+    let marks = stay_marks(reached, joins.as_slice());
+    kept_blocks(alloc, blocks, marks.as_slice(), joins.as_slice())
 }
