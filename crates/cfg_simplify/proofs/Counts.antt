@@ -43,7 +43,7 @@ at-counted counts (e ∷ es) b l h =
     let rest = at-counted (one_more counts e) es b (omega (arith, l, length-set counts e (min 2 (at counts e + 1)))) (All-set (λ n. n ≤ 2) counts e (min 2 (at counts e + 1)) (omega arith) h) in
     let more : count_by (λ x. x == b) (e ∷ es) ≡ (0 + hit e b) + count_by (λ x. x == b) es = sum_by-append (λ (x : ℕ). cond (x == b) 1 0) (e ∷ []) es in
     elim (cases_eq e b) [
-        inl same ↦ (let here : at (one_more counts e) b ≡ min 2 (at counts b + 1) = rw same (get_or-set_same counts b (min 2 (at counts b + 1)) 0 l) in
+      | inl same ↦ (let here : at (one_more counts e) b ≡ min 2 (at counts b + 1) = rw same (get_or-set_same counts b (min 2 (at counts b + 1)) 0 l) in
           let one : hit e b ≡ 1 = cond-true (e == b) 1 0 (eq-eqb e b same) in
           rest ∙ omega (arith, here, one, more))
       | inr apart ↦ (let there : at (one_more counts e) b ≡ at counts b = get_or-set_other counts e b (min 2 (at counts e + 1)) 0 (λ (q : b ≡ e). apart (sym q)) in
@@ -77,9 +77,9 @@ pub record IsCounted (terms : List Term) (i : ℕ) (counts : List ℕ) : Type 0 
 
 pub counted-none : (terms : List Term) → IsCounted terms 0 (replicate (length terms) 0)
 counted-none terms = record {
-    long = length-replicate (length terms) 0;
-    capped = All-replicate (λ n. n ≤ 2) (length terms) 0 (omega arith);
-    each = λ b l. get_or-replicate (length terms) b 0 0 l;
+  long = length-replicate (length terms) 0;
+  capped = All-replicate (λ n. n ≤ 2) (length terms) 0 (omega arith);
+  each = λ b l. get_or-replicate (length terms) b 0 0 l;
 }
 
 pub ends-step : (terms : List Term) (i : ℕ) → ends_of terms (i + 1) ≡ ends_of terms i ++ flat_map (edges terms) (cond (reached terms i) (i ∷ []) [])
@@ -97,14 +97,14 @@ pub counted-step : (terms : List Term) (i : ℕ) (counts : List ℕ) → IsCount
 counted-step terms i counts s taken =
     let e : ends_of terms (i + 1) ≡ ends_of terms i ++ (edges terms i ++ []) = ends-step terms i ∙ ap (λ xs. ends_of terms i ++ flat_map (edges terms) xs) (cond-true (reached terms i) (i ∷ []) [] taken) in
     record {
-        long = length-counted counts (edges terms i) ∙ s.long;
-        capped = capped-counted counts (edges terms i) s.capped;
-        each = λ b l.
-            (let sums : count_by (λ e. e == b) (ends_of terms (i + 1)) ≡ count_by (λ e. e == b) (ends_of terms i) + count_by (λ e. e == b) (edges terms i) =
-             ap (count_by (λ e. e == b)) (e ∙ ap (λ xs. ends_of terms i ++ xs) (append-nil (edges terms i))) ∙ sum_by-append (λ (e : ℕ). cond (e == b) 1 0) (ends_of terms i) (edges terms i) in
-             let here = at-counted counts (edges terms i) b (omega (arith, s.long, l)) s.capped in
-             let so = s.each b l in
-             omega (arith, sums, here, so));
+      long = length-counted counts (edges terms i) ∙ s.long;
+      capped = capped-counted counts (edges terms i) s.capped;
+      each = λ b l.
+          (let sums : count_by (λ e. e == b) (ends_of terms (i + 1)) ≡ count_by (λ e. e == b) (ends_of terms i) + count_by (λ e. e == b) (edges terms i) =
+          ap (count_by (λ e. e == b)) (e ∙ ap (λ xs. ends_of terms i ++ xs) (append-nil (edges terms i))) ∙ sum_by-append (λ (e : ℕ). cond (e == b) 1 0) (ends_of terms i) (edges terms i) in
+          let here = at-counted counts (edges terms i) b (omega (arith, s.long, l)) s.capped in
+          let so = s.each b l in
+          omega (arith, sums, here, so));
     }
 
 -- ---- joined blocks
@@ -128,6 +128,6 @@ joined-is blocks counts a d closed each l flag same =
     let term : get_or terms a Unreachable ≡ t = get_or-map block_term blocks a d Unreachable l in
     let agree : only_if (joins_by counts a) (goto_block t) ≡ only_if (joins_to terms a) (goto_block t) =
     only-agree (joins_by counts a) (joins_to terms a) t (λ k e m.
-        (let b = get_or (targets t) k e in
-         ap (λ v. not (b == 0) && (not (b == a) && v)) (one-edge (at counts b) (incoming terms b) (each b (block-closed blocks a d closed l k e m))))) in
+    (let b = get_or (targets t) k e in
+    ap (λ v. not (b == 0) && (not (b == a) && v)) (one-edge (at counts b) (incoming terms b) (each b (block-closed blocks a d closed l k e m))))) in
     ap₂ (λ f o. cond f o None) same (agree ∙ ap (λ x. only_if (joins_to terms a) (goto_block x)) (sym term))

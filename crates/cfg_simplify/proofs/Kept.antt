@@ -25,14 +25,14 @@ joined-past : (terms : List Term) (b : ℕ) → length terms ≤ b → joined te
 joined-past terms b l =
     let e : get_or terms b Unreachable ≡ Unreachable = get_or_past terms b Unreachable l in
     ap (λ t. cond (reached terms b) (only_if (joins_to terms b) (goto_block t)) None) e ∙ none (reached terms b)
-    where
+  where
     none : (v : Bool) → cond {A = Option ℕ} v None None ≡ None
     none true = refl
     none false = refl
 
 pub link-is : (terms : List Term) (n : ℕ) (joins : List (Option ℕ)) → n ≡ length terms → joins ≡ map (joined terms) (numbers n) → (b : ℕ) → link_at joins b ≡ joined terms b
 link-is terms n joins same e b = elim (cases_lt b n) [
-    inl l ↦ get_from (joined terms) n joins b None e l
+  | inl l ↦ get_from (joined terms) n joins b None e l
   | inr l ↦ (let long : length joins ≡ n = ap length e ∙ length-numbers (joined terms) n in
       let past : link_at joins b ≡ None = get_or_past joins b None (omega (arith, long, l)) in
       past ∙ sym (joined-past terms b (omega (arith, same, l))))
@@ -93,9 +93,9 @@ pub renumbered : (n : ℕ) (keep : ℕ → Bool) (list : List ℕ) (t : Term) (f
 renumbered n keep list t flags same e h =
     let long : length flags ≡ n = ap length same ∙ length-numbers keep n in
     retarget-agree (at list) (new_number keep) t (λ k d l.
-        (let b = get_or (targets t) k d in
-         get_from (new_number (flag_at flags)) (length flags) list b 0 e (let m = h k d l in omega (arith, long, m))
-         ∙ numbers-same (flag_at flags) keep b (λ c m. get_from keep n flags c false same (let m2 = h k d l in omega (arith, m, m2)))))
+    (let b = get_or (targets t) k d in
+    get_from (new_number (flag_at flags)) (length flags) list b 0 e (let m = h k d l in omega (arith, long, m))
+    ∙ numbers-same (flag_at flags) keep b (λ c m. get_from keep n flags c false same (let m2 = h k d l in omega (arith, m, m2)))))
 
 -- ---- what was taken, in the words of the definition
 
@@ -125,5 +125,5 @@ any-map test f (x ∷ xs) = ap (λ v. test (f x) || v) (any-map test f xs)
 pub marks-are : (terms : List Term) (n : ℕ) (found marks : List Bool) (joins : List (Option ℕ)) → n ≡ length terms → found ≡ map (reached terms) (numbers n) → joins ≡ map (joined terms) (numbers n) → length marks ≡ length found → ((b : ℕ) → flag_at marks b ≡ (flag_at found b && not (list_any (is_at b) joins))) → marks ≡ map (stays terms) (numbers n)
 marks-are terms n found marks joins same e e2 long each =
     fill_by_all (stays terms) marks n false (long ∙ ap length e ∙ length-numbers (reached terms) n) (λ b l.
-        each b ∙ ap₂ (λ (v w : Bool). v && not w) (get_from (reached terms) n found b false e l)
-        (ap (list_any (is_at b)) e2 ∙ any-map (is_at b) (joined terms) (numbers n) ∙ ap (λ k. list_any (λ a. is_at b (joined terms a)) (numbers k)) same))
+    each b ∙ ap₂ (λ (v w : Bool). v && not w) (get_from (reached terms) n found b false e l)
+    (ap (list_any (is_at b)) e2 ∙ any-map (is_at b) (joined terms) (numbers n) ∙ ap (λ k. list_any (λ a. is_at b (joined terms a)) (numbers k)) same))

@@ -8,7 +8,6 @@ use Rattle.mir_syntax.specs.declared.body.Arm.{Arm}
 use Rattle.mir_syntax.specs.declared.body.Block.{Block}
 use Rattle.mir_syntax.specs.declared.body.Term.{Term}
 use Rattle.mir_syntax.specs.declared.body.Term.TheVariants.{Goto, Switch, Return, Unreachable, Drop, Call, Assert}
-
 use Rattle.cfg_simplify.specs.Edges.{arm_block, targets, retarget, retarget_arm, Closed}
 use Rattle.cfg_simplify.specs.Simple.{numbers, onward, walk, goto_link, settle, landing}
 use Rattle.cfg_simplify.specs.Code.{at, block_term, bare_goto, bare_hopped_block, bare_hopped, hollow}
@@ -46,9 +45,9 @@ module _ (blocks : List Block) (closed : Closed (map block_term blocks)) where
         let count : length (map bare_goto blocks) ≡ length blocks = length-map blocks bare_goto in
         e3 ∙ ap (λ n. map (λ b. settle (map bare_goto blocks) b (at ends b)) (numbers n)) ends-long
         ∙ same_numbers (λ b. settle (map bare_goto blocks) b (at ends b)) (landing (map bare_goto blocks)) 0 (length blocks) (λ b l.
-            ap (settle (map bare_goto blocks) b)
-            (get_from (walk (at steps) (length blocks)) (length blocks) ends b 0 ends-are l ∙ walk-steps steps e (length blocks) b l
-            ∙ ap (λ n. walk (onward link) n b) (sym count)))
+        ap (settle (map bare_goto blocks) b)
+        (get_from (walk (at steps) (length blocks)) (length blocks) ends b 0 ends-are l ∙ walk-steps steps e (length blocks) b l
+        ∙ ap (λ n. walk (onward link) n b) (sym count)))
 
   -- the loop that leads the edges ends with each led to its landing
   pub hopped-is : (landings : List ℕ) (out : List Block) → landings ≡ map (landing (map bare_goto blocks)) (numbers (length blocks)) → out ≡ map (bare_hopped_block (at landings)) blocks → out ≡ bare_hopped blocks
@@ -56,14 +55,14 @@ module _ (blocks : List Block) (closed : Closed (map block_term blocks)) where
       e2 ∙ same_lists (map (bare_hopped_block (at landings)) blocks) (map (bare_hopped_block (landing (map bare_goto blocks))) blocks)
       (length-map blocks (bare_hopped_block (at landings)) ∙ sym (length-map blocks (bare_hopped_block (landing (map bare_goto blocks)))))
       (λ k d l.
-        let within : k < length blocks = omega (arith, l, length-map blocks (bare_hopped_block (at landings))) in
-        let b : Block = get_or blocks k hollow in
-        let same : retarget (at landings) b.term ≡ retarget (landing (map bare_goto blocks)) b.term =
-        retarget-agree (at landings) (landing (map bare_goto blocks)) b.term (λ j c m.
-            get_from (landing (map bare_goto blocks)) (length blocks) landings (get_or (targets b.term) j c) 0 e (block-closed blocks k hollow closed within j c m)) in
-        get_or-map (bare_hopped_block (at landings)) blocks k hollow d within
-        ∙ ap (λ (t : Term). (let block : Block = record { stmts = b.stmts; term = t } in block)) same
-        ∙ sym (get_or-map (bare_hopped_block (landing (map bare_goto blocks))) blocks k hollow d within))
+      let within : k < length blocks = omega (arith, l, length-map blocks (bare_hopped_block (at landings))) in
+      let b : Block = get_or blocks k hollow in
+      let same : retarget (at landings) b.term ≡ retarget (landing (map bare_goto blocks)) b.term =
+      retarget-agree (at landings) (landing (map bare_goto blocks)) b.term (λ j c m.
+      get_from (landing (map bare_goto blocks)) (length blocks) landings (get_or (targets b.term) j c) 0 e (block-closed blocks k hollow closed within j c m)) in
+      get_or-map (bare_hopped_block (at landings)) blocks k hollow d within
+      ∙ ap (λ (t : Term). (let block : Block = record { stmts = b.stmts; term = t } in block)) same
+      ∙ sym (get_or-map (bare_hopped_block (landing (map bare_goto blocks))) blocks k hollow d within))
 
 -- ---- the hopped body is closed
 
@@ -72,7 +71,7 @@ retarget-inside f n below (Goto b) h = All-cons (λ x. x < n) (f b) [] (below b 
 retarget-inside f n below (Switch x arms b) h =
     All-append (λ x. x < n) (map arm_block (map (retarget_arm f) arms)) (f b ∷ []) (in-arms arms (All-left (λ x. x < n) (map arm_block arms) (b ∷ []) h))
     (All-cons (λ x. x < n) (f b) [] (below b (All-last (λ x. x < n) (map arm_block arms) b h)) (All-nil (λ x. x < n)))
-    where
+  where
     in-arms : (arms : List Arm) → All (λ x. x < n) (map arm_block arms) → All (λ x. x < n) (map arm_block (map (retarget_arm f) arms))
     in-arms [] g = All-nil (λ x. x < n)
     in-arms (a ∷ rest) g = All-cons (λ x. x < n) (f a.block) (map arm_block (map (retarget_arm f) rest)) (below a.block (All-head (λ x. x < n) a.block (map arm_block rest) g)) (in-arms rest (All-tail (λ x. x < n) a.block (map arm_block rest) g))

@@ -1,3 +1,4 @@
+pub mod Facts
 pub mod Typed
 pub mod Kept
 pub mod Lines

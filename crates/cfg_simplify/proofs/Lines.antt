@@ -28,7 +28,7 @@ goto-edges (Assert x e text xs c) b h = absurd cc
 only-some : (p : ℕ → Bool) (o : Option ℕ) (b : ℕ) → only_if p o ≡ Some b → (o ≡ Some b) × (p b ≡ true)
 only-some p None b h = absurd cc
 only-some p (Some c) b h = go (p c) refl h
-    where
+  where
     go : (v : Bool) → p c ≡ v → cond v (Some c) None ≡ Some b → (◌≡◌ {A = Option ℕ} (Some c) (Some b)) × (p b ≡ true)
     go true e g = (g, (let same : c ≡ b = cc in ap p (sym same) ∙ e))
     go false e g = absurd cc
@@ -51,14 +51,14 @@ joined-tells terms a b h =
     let third = and_parts (not (b == 0)) (not (b == a) && (incoming terms b == 1)) second.1 in
     let fourth = and_parts (not (b == a)) (incoming terms b == 1) third.1 in
     record {
-        is_reached = first.0;
-        leads_there = goto-edges t b second.0;
-        once = eqb-true (incoming terms b) 1 fourth.1;
-        from = elim (cases_lt a (length terms)) [
-            inl l ↦ l
-          | inr l ↦ (let e : t ≡ Unreachable = get_or_past terms a Unreachable l in
-              let none : ◌≡◌ {A = Option ℕ} None (Some b) = sym (ap goto_block e) ∙ second.0 in absurd cc)
-        ];
+      is_reached = first.0;
+      leads_there = goto-edges t b second.0;
+      once = eqb-true (incoming terms b) 1 fourth.1;
+      from = elim (cases_lt a (length terms)) [
+        | inl l ↦ l
+        | inr l ↦ (let e : t ≡ Unreachable = get_or_past terms a Unreachable l in
+            let none : ◌≡◌ {A = Option ℕ} None (Some b) = sym (ap goto_block e) ∙ second.0 in absurd cc)
+      ];
     }
 
 -- ---- one edge comes from one block
@@ -100,7 +100,7 @@ two-apart terms a c b l j k =
 
 pub one-source : (terms : List Term) (a c b : ℕ) → joined terms a ≡ Some b → joined terms c ≡ Some b → a ≡ c
 one-source terms a c b h g = elim (cases_order a c) [
-    inl e ↦ e
+  | inl e ↦ e
   | inr (inl l) ↦ absurd (two-apart terms a c b l (joined-tells terms a b h) (joined-tells terms c b g))
   | inr (inr l) ↦ absurd (two-apart terms c a b l (joined-tells terms c b g) (joined-tells terms a b h))
 ]
@@ -134,7 +134,7 @@ cases-link (Some c) = inr (c, refl)
 real-back : (link : ℕ → Option ℕ) (n h y : ℕ) → link (walk (onward link) n h) ≡ Some y → Real link n h
 real-back link zero h y e = tt
 real-back link (suc n) h y e = elim (cases-link (link (walk (onward link) n h))) [
-    inl none ↦ (let same : walk (onward link) (suc n) h ≡ walk (onward link) n h = onward-none link (walk (onward link) n h) none in
+  | inl none ↦ (let same : walk (onward link) (suc n) h ≡ walk (onward link) n h = onward-none link (walk (onward link) n h) none in
       let bad : None ≡ Some y = sym none ∙ ap link (sym same) ∙ e in absurd cc)
   | inr (c, some) ↦ (some ∙ ap Some (sym (onward-some link (walk (onward link) n h) c some)), real-back link n h c some)
 ]
@@ -177,21 +177,21 @@ module _ (link : ℕ → Option ℕ) (i h : ℕ) (none : link (walk (onward link
 -- where a block of a line stands
 pub on-line : (link : ℕ → Option ℕ) (n h x : ℕ) → list_any (λ a. x == a) (line link n h) ≡ true → (i : ℕ) × (i ≤ n) × Real link i h × (walk (onward link) i h ≡ x)
 on-line link zero h x e = elim (or_cases (x == h) false e) [
-    inl g ↦ (0, omega arith, tt, sym (eqb-true x h g))
+  | inl g ↦ (0, omega arith, tt, sym (eqb-true x h g))
   | inr g ↦ absurd (both_ways false refl g)
 ]
 on-line link (suc n) h x e =
     let parts = sym (list_any-append (λ a. x == a) (line link n h) (option_to_list (link (walk (onward link) n h)))) ∙ e in
     elim (or_cases (list_any (λ a. x == a) (line link n h)) (list_any (λ a. x == a) (option_to_list (link (walk (onward link) n h)))) parts) [
-        inl g ↦ (let p = on-line link n h x g in (p.0, omega (arith, p.1), p.2, p.3))
+      | inl g ↦ (let p = on-line link n h x g in (p.0, omega (arith, p.1), p.2, p.3))
       | inr g ↦ elim (cases-link (link (walk (onward link) n h))) [
-            inl none ↦ absurd (both_ways false refl (rw none at g))
-          | inr (c, some) ↦ (let here = rw some at g in
-              elim (or_cases (x == c) false here) [
-                  inl q ↦ (let next = real-next link n h c some in (suc n, omega arith, next.0, next.1 ∙ sym (eqb-true x c q)))
-                | inr q ↦ absurd (both_ways false refl q)
-              ])
-        ]
+        | inl none ↦ absurd (both_ways false refl (rw none at g))
+        | inr (c, some) ↦ (let here = rw some at g in
+            elim (or_cases (x == c) false here) [
+              | inl q ↦ (let next = real-next link n h c some in (suc n, omega arith, next.0, next.1 ∙ sym (eqb-true x c q)))
+              | inr q ↦ absurd (both_ways false refl q)
+            ])
+      ]
     ]
 
 pub last-on-line : (link : ℕ → Option ℕ) (n h : ℕ) → list_any (λ a. walk (onward link) n h == a) (line link n h) ≡ true
@@ -200,7 +200,7 @@ last-on-line link (suc n) h =
     let x = walk (onward link) (suc n) h in
     let more = option_to_list (link (walk (onward link) n h)) in
     list_any-append (λ a. x == a) (line link n h) more ∙ elim (cases-link (link (walk (onward link) n h))) [
-        inl none ↦ (let same : x ≡ walk (onward link) n h = onward-none link (walk (onward link) n h) none in
+      | inl none ↦ (let same : x ≡ walk (onward link) n h = onward-none link (walk (onward link) n h) none in
           or_left (list_any (λ a. x == a) (line link n h)) (list_any (λ a. x == a) more) (rw same (last-on-line link n h)))
       | inr (c, some) ↦ (or_right (list_any (λ a. x == a) (line link n h)) (list_any (λ a. x == a) more)
           (rw some (or_left (c == c) false (eq-eqb c c refl))))
@@ -220,16 +220,16 @@ module _ (terms : List Term) where
   pub fresh : (n h : ℕ) → stays terms h ≡ true → IsFresh (joined terms) n h
   fresh n h s i b l e = false_from_ne_true (list_any (λ a. b == a) (line (joined terms) i h)) (λ g.
       (let p = on-line (joined terms) i h b g in
-       let next = real-next (joined terms) i h b e in
-       let same = meet (suc i) p.0 h h s s next.0 p.2 (next.1 ∙ sym p.3) in
-       omega (arith, same.0, p.1)))
+      let next = real-next (joined terms) i h b e in
+      let same = meet (suc i) p.0 h h s s next.0 p.2 (next.1 ∙ sym p.3) in
+      omega (arith, same.0, p.1)))
 
   pub apart : (n h g x : ℕ) → stays terms h ≡ true → stays terms g ≡ true → g < h → list_any (λ a. x == a) (line (joined terms) n h) ≡ true → list_any (λ a. x == a) (line (joined terms) n g) ≡ false
   apart n h g x s t l on = false_from_ne_true (list_any (λ a. x == a) (line (joined terms) n g)) (λ on2.
       (let p = on-line (joined terms) n h x on in
-       let q = on-line (joined terms) n g x on2 in
-       let same = meet p.0 q.0 h g s t p.2 q.2 (p.3 ∙ sym q.3) in
-       omega (arith, same.1, l)))
+      let q = on-line (joined terms) n g x on2 in
+      let same = meet p.0 q.0 h g s t p.2 q.2 (p.3 ∙ sym q.3) in
+      omega (arith, same.1, l)))
 
 -- ---- two links that agree
 

@@ -89,7 +89,7 @@ pub walk_twice : (step : ℕ → ℕ) (n h k : ℕ) (half : List ℕ) → ((b : 
 walk_twice step n h k half below e twice =
     ap (map (at half)) e ∙ map-map (at half) (walk step h) (numbers n)
     ∙ same_numbers (λ b. at half (walk step h b)) (walk step k) 0 n (λ b l.
-        get_from (walk step h) n half (walk step h b) 0 e (walk-below step n below h b l) ∙ sym (walk-add step h h b) ∙ ap (λ m. walk step m b) (sym twice))
+    get_from (walk step h) n half (walk step h b) 0 e (walk-below step n below h b l) ∙ sym (walk-add step h h b) ∙ ap (λ m. walk step m b) (sym twice))
 
 -- one step more
 pub walk_more : (steps : List ℕ) (n h k : ℕ) (list : List ℕ) → list ≡ map (walk (at steps) h) (numbers n) → k ≡ suc h → map (at steps) list ≡ map (walk (at steps) k) (numbers n)

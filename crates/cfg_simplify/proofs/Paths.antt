@@ -28,7 +28,7 @@ pub any-weaker : (p q : ℕ → Bool) (xs : List ℕ) → ((x : ℕ) → p x ≡
 any-weaker p q [] h a = a
 any-weaker p q (x ∷ xs) h a =
     elim (or_cases (p x) (list_any p xs) a) [
-        inl e ↦ or_left (q x) (list_any q xs) (h x e)
+      | inl e ↦ or_left (q x) (list_any q xs) (h x e)
       | inr e ↦ or_right (q x) (list_any q xs) (any-weaker p q xs h e)
     ]
 
@@ -37,7 +37,7 @@ pub any-place : (p : ℕ → Bool) (xs : List ℕ) → list_any p xs ≡ true �
 any-place p [] a = absurd (both_ways (list_any p []) refl a)
 any-place p (x ∷ xs) a =
     elim (or_cases (p x) (list_any p xs) a) [
-        inl e ↦ (0, omega arith, e)
+      | inl e ↦ (0, omega arith, e)
       | inr e ↦ (let q = any-place p xs e in (suc q.0, omega (arith, q.1), q.2))
     ]
 
@@ -51,7 +51,7 @@ leads-more : (terms : List Term) (n a b : ℕ) → leads terms n a b ≡ true �
 leads-more terms zero a b h = or_left (a == b) (list_any (λ c. leads terms zero c b) (edges terms a)) h
 leads-more terms (suc n) a b h =
     elim (or_cases (a == b) (list_any (λ c. leads terms n c b) (edges terms a)) h) [
-        inl e ↦ or_left (a == b) (list_any (λ c. leads terms (suc n) c b) (edges terms a)) e
+      | inl e ↦ or_left (a == b) (list_any (λ c. leads terms (suc n) c b) (edges terms a)) e
       | inr e ↦ or_right (a == b) (list_any (λ c. leads terms (suc n) c b) (edges terms a))
           (any-weaker (λ c. leads terms n c b) (λ c. leads terms (suc n) c b) (edges terms a) (λ c. leads-more terms n c b) e)
     ]
@@ -72,7 +72,7 @@ leads-step terms zero a b k d l h =
 leads-step terms (suc n) a b k d l h =
     let c = get_or (edges terms b) k d in
     elim (or_cases (a == b) (list_any (λ x. leads terms n x b) (edges terms a)) h) [
-        inl e ↦ (let same : a ≡ b = eqb-true a b e in
+      | inl e ↦ (let same : a ≡ b = eqb-true a b e in
           rw same (or_right (b == c) (list_any (λ x. leads terms (suc n) x c) (edges terms b)) (list_any_at (λ x. leads terms (suc n) x c) (edges terms b) k d l (leads-self terms (suc n) c))))
       | inr e ↦ or_right (a == c) (list_any (λ x. leads terms (suc n) x c) (edges terms a))
           (any-weaker (λ x. leads terms n x b) (λ x. leads terms (suc n) x c) (edges terms a) (λ x. leads-step terms n x b k d l) e)
@@ -83,7 +83,7 @@ pub leads-closed : (terms : List Term) (test : ℕ → Bool) → ((a : ℕ) → 
 leads-closed terms test closed zero a b h l = rw (eqb-true a b l) at h
 leads-closed terms test closed (suc n) a b h l =
     elim (or_cases (a == b) (list_any (λ c. leads terms n c b) (edges terms a)) l) [
-        inl e ↦ rw (eqb-true a b e) at h
+      | inl e ↦ rw (eqb-true a b e) at h
       | inr e ↦ (let p = any-place (λ c. leads terms n c b) (edges terms a) e in
           leads-closed terms test closed n (at (edges terms a) p.0) b (closed a h p.0 0 p.1) p.2)
     ]
@@ -145,7 +145,7 @@ none-marked (suc n) (suc b) = none-marked n b
 marked-below : (flags : List Bool) (b : ℕ) → flag_at flags b ≡ true → b < length flags
 marked-below flags b h =
     elim (cases_lt b (length flags)) [
-        inl l ↦ l
+      | inl l ↦ l
       | inr l ↦ absurd (both_ways (flag_at flags b) (get_or_past flags b false l) h)
     ]
 
@@ -166,11 +166,11 @@ pub record GoesOn (flags flags2 : List Bool) (order order2 : List ℕ) : Type 0 
 pub found-none : (terms : List Term) → IsFound terms (replicate (length terms) false) []
 unfolding IsDistinct
 found-none terms = record {
-    long = length-replicate (length terms) false;
-    apart = tt;
-    listed = λ b h. absurd (both_ways (flag_at (replicate (length terms) false) b) (none-marked (length terms) b) h);
-    marked = λ b h. absurd (both_ways (list_any (λ (x : ℕ). b == x) []) refl h);
-    led = λ k l. absurd (omega arith);
+  long = length-replicate (length terms) false;
+  apart = tt;
+  listed = λ b h. absurd (both_ways (flag_at (replicate (length terms) false) b) (none-marked (length terms) b) h);
+  marked = λ b h. absurd (both_ways (list_any (λ (x : ℕ). b == x) []) refl h);
+  led = λ k l. absurd (omega arith);
 }
 
 module _ (terms : List Term) (flags : List Bool) (order : List ℕ) (m t : ℕ) (f : IsFound terms flags order) (few : m ≤ length order) (path : leads terms m 0 t ≡ true) (within : t < length terms) where
@@ -185,7 +185,7 @@ module _ (terms : List Term) (flags : List Bool) (order : List ℕ) (m t : ℕ) 
 
   stay : (b : ℕ) → flag_at flags b ≡ true → flag_at (set flags t true) b ≡ true
   stay b h = elim (cases_eq b t) [
-      inl e ↦ rw e is-marked
+    | inl e ↦ rw e is-marked
     | inr e ↦ get_or-set_other flags t b true false e ∙ h
   ]
 
@@ -194,11 +194,11 @@ module _ (terms : List Term) (flags : List Bool) (order : List ℕ) (m t : ℕ) 
 
   old : flag_at flags t ≡ true → IsFound terms (set flags t true) order
   old h = record {
-      long = length-set flags t true ∙ f.long;
-      apart = f.apart;
-      listed = λ b g. elim (cases_eq b t) [ inl e ↦ f.listed b (rw e h) | inr e ↦ f.listed b (before b e g) ];
-      marked = λ b g. stay b (f.marked b g);
-      led = f.led;
+    long = length-set flags t true ∙ f.long;
+    apart = f.apart;
+    listed = λ b g. elim (cases_eq b t) [ inl e ↦ f.listed b (rw e h) | inr e ↦ f.listed b (before b e g) ];
+    marked = λ b g. stay b (f.marked b g);
+    led = f.led;
   }
 
   fresh : flag_at flags t ≡ false → list_any (λ x. t == x) order ≡ false
@@ -206,40 +206,40 @@ module _ (terms : List Term) (flags : List Bool) (order : List ℕ) (m t : ℕ) 
 
   added : flag_at flags t ≡ false → IsFound terms (set flags t true) (order ++ t ∷ [])
   added h = record {
-      long = length-set flags t true ∙ f.long;
-      apart = IsDistinct-push nat_eq_equiv order t f.apart (fresh h);
-      listed = λ b g. list_any-append (λ x. b == x) order (t ∷ []) ∙ elim (cases_eq b t) [
-          inl e ↦ or_right (list_any (λ x. b == x) order) ((b == t) || false) (or_left (b == t) false (eq-eqb b t e))
-        | inr e ↦ or_left (list_any (λ x. b == x) order) ((b == t) || false) (f.listed b (before b e g))
-      ];
-      marked = λ b g. elim (or_cases (list_any (λ x. b == x) order) ((b == t) || false) (sym (list_any-append (λ x. b == x) order (t ∷ [])) ∙ g)) [
-          inl e ↦ stay b (f.marked b e)
-        | inr e ↦ elim (or_cases (b == t) false e) [
-              inl e2 ↦ rw (eqb-true b t e2) is-marked
-            | inr e2 ↦ absurd (both_ways false refl e2)
-          ]
-      ];
-      led = λ k l. elim (cases_lt k (length order)) [
-          inl l2 ↦ ap (λ x. leads terms k 0 x) (get_or_append_left order (t ∷ []) 0 k l2) ∙ f.led k l2
-        | inr l2 ↦ (let e : length order ≡ k = omega (arith, length-append order (t ∷ []), l, l2) in
-            ap (λ x. leads terms k 0 x) (get_or_push order t 0 k e) ∙ leads-within terms m k 0 t (omega (arith, few, e)) path)
-      ];
+    long = length-set flags t true ∙ f.long;
+    apart = IsDistinct-push nat_eq_equiv order t f.apart (fresh h);
+    listed = λ b g. list_any-append (λ x. b == x) order (t ∷ []) ∙ elim (cases_eq b t) [
+      | inl e ↦ or_right (list_any (λ x. b == x) order) ((b == t) || false) (or_left (b == t) false (eq-eqb b t e))
+      | inr e ↦ or_left (list_any (λ x. b == x) order) ((b == t) || false) (f.listed b (before b e g))
+    ];
+    marked = λ b g. elim (or_cases (list_any (λ x. b == x) order) ((b == t) || false) (sym (list_any-append (λ x. b == x) order (t ∷ [])) ∙ g)) [
+      | inl e ↦ stay b (f.marked b e)
+      | inr e ↦ elim (or_cases (b == t) false e) [
+        | inl e2 ↦ rw (eqb-true b t e2) is-marked
+        | inr e2 ↦ absurd (both_ways false refl e2)
+      ]
+    ];
+    led = λ k l. elim (cases_lt k (length order)) [
+      | inl l2 ↦ ap (λ x. leads terms k 0 x) (get_or_append_left order (t ∷ []) 0 k l2) ∙ f.led k l2
+      | inr l2 ↦ (let e : length order ≡ k = omega (arith, length-append order (t ∷ []), l, l2) in
+          ap (λ x. leads terms k 0 x) (get_or_push order t 0 k e) ∙ leads-within terms m k 0 t (omega (arith, few, e)) path)
+    ];
   }
 
   pub found-one : IsFound terms (set flags t true) (found_order flags order t)
   found-one = elim (cases_Bool (flag_at flags t)) [
-      inl h ↦ rw (cond-true (flag_at flags t) order (order ++ t ∷ []) h) (old h)
+    | inl h ↦ rw (cond-true (flag_at flags t) order (order ++ t ∷ []) h) (old h)
     | inr h ↦ rw (cond-false (flag_at flags t) order (order ++ t ∷ []) h) (added h)
   ]
 
   pub goes-one : GoesOn flags (set flags t true) order (found_order flags order t)
   goes-one = elim (cases_Bool (flag_at flags t)) [
-      inl h ↦ rw (cond-true (flag_at flags t) order (order ++ t ∷ []) h) record { marked = stay; longer = omega arith; same = λ k l. refl }
+    | inl h ↦ rw (cond-true (flag_at flags t) order (order ++ t ∷ []) h) record { marked = stay; longer = omega arith; same = λ k l. refl }
     | inr h ↦ rw (cond-false (flag_at flags t) order (order ++ t ∷ []) h) record {
-          marked = stay;
-          longer = omega (arith, length-append order (t ∷ []));
-          same = λ k l. get_or_append_left order (t ∷ []) 0 k l;
-      }
+      marked = stay;
+      longer = omega (arith, length-append order (t ∷ []));
+      same = λ k l. get_or_append_left order (t ∷ []) 0 k l;
+    }
   ]
 
   pub marked-one : flag_at (set flags t true) t ≡ true
@@ -247,9 +247,9 @@ module _ (terms : List Term) (flags : List Bool) (order : List ℕ) (m t : ℕ) 
 
 goes-on : {f1 f2 f3 : List Bool} {o1 o2 o3 : List ℕ} → GoesOn f1 f2 o1 o2 → GoesOn f2 f3 o2 o3 → GoesOn f1 f3 o1 o3
 goes-on g h = record {
-    marked = λ b m. h.marked b (g.marked b m);
-    longer = omega (arith, g.longer, h.longer);
-    same = λ k l. h.same k (omega (arith, g.longer, l)) ∙ g.same k l;
+  marked = λ b m. h.marked b (g.marked b m);
+  longer = omega (arith, g.longer, h.longer);
+  same = λ k l. h.same k (omega (arith, g.longer, l)) ∙ g.same k l;
 }
 
 pub record FoundAll (terms : List Term) (flags flags2 : List Bool) (order order2 ts : List ℕ) : Type 0 where
@@ -260,20 +260,20 @@ pub record FoundAll (terms : List Term) (flags flags2 : List Bool) (order order2
 -- blocks to which paths of as many edges as were found lead
 pub found-all : (terms : List Term) (m : ℕ) (ts : List ℕ) (flags : List Bool) (order : List ℕ) → IsFound terms flags order → m ≤ length order → All (λ t. leads terms m 0 t ≡ true) ts → All (λ t. t < length terms) ts → FoundAll terms flags (flags_after flags ts) order (order_after flags order ts) ts
 found-all terms m [] flags order f few paths within = record {
-    found = f;
-    goes = record { marked = λ b h. h; longer = omega arith; same = λ k l. refl };
-    marks = All-nil (λ t. flag_at flags t ≡ true);
+  found = f;
+  goes = record { marked = λ b h. h; longer = omega arith; same = λ k l. refl };
+  marks = All-nil (λ t. flag_at flags t ≡ true);
 }
 found-all terms m (t ∷ ts) flags order f few paths within =
     let path = All-head (λ t. leads terms m 0 t ≡ true) t ts paths in
     let here = All-head (λ t. t < length terms) t ts within in
     let first = goes-one terms flags order m t f few path here in
     let rest = found-all terms m ts (set flags t true) (found_order flags order t) (found-one terms flags order m t f few path here) (omega (arith, few, first.longer))
-        (All-tail (λ t. leads terms m 0 t ≡ true) t ts paths) (All-tail (λ t. t < length terms) t ts within) in
+    (All-tail (λ t. leads terms m 0 t ≡ true) t ts paths) (All-tail (λ t. t < length terms) t ts within) in
     record {
-        found = rest.found;
-        goes = goes-on first rest.goes;
-        marks = All-cons (λ x. flag_at (flags_after (set flags t true) ts) x ≡ true) t ts (rest.goes.marked t (marked-one terms flags order m t f few path here)) rest.marks;
+      found = rest.found;
+      goes = goes-on first rest.goes;
+      marks = All-cons (λ x. flag_at (flags_after (set flags t true) ts) x ≡ true) t ts (rest.goes.marked t (marked-one terms flags order m t f few path here)) rest.marks;
     }
 
 -- ---- the search
@@ -300,15 +300,15 @@ search-begins terms some =
     let none : IsFound terms flags [] = found-none terms in
     let path : leads terms 0 0 0 ≡ true = leads-self terms 0 0 in
     record {
-        found = found-one terms flags [] 0 0 none (omega arith) path some;
-        start = marked-one terms flags [] 0 0 none (omega arith) path some;
-        past = omega arith;
-        closed = λ k l. absurd (omega arith);
+      found = found-one terms flags [] 0 0 none (omega arith) path some;
+      start = marked-one terms flags [] 0 0 none (omega arith) path some;
+      past = omega arith;
+      closed = λ k l. absurd (omega arith);
     }
 
 pub edges-within : (terms : List Term) (a : ℕ) → Closed terms → All (λ t. t < length terms) (edges terms a)
 edges-within terms a closed = elim (cases_lt a (length terms)) [
-    inl l ↦ closed a Unreachable l
+  | inl l ↦ closed a Unreachable l
   | inr l ↦ (let e : get_or terms a Unreachable ≡ Unreachable = get_or_past terms a Unreachable l in
       rw e (All-nil (λ (t : ℕ). t < length terms)))
 ]
@@ -321,16 +321,16 @@ search-step terms i flags order closed s l =
     let paths : All (λ t. leads terms (suc i) 0 t ≡ true) (edges terms a) = (λ k d m. leads-step terms i 0 a k d m (s.found.led i l)) in
     let all : FoundAll terms flags flags2 order order2 (edges terms a) = found-all terms (suc i) (edges terms a) flags order s.found (omega (arith, l)) paths (edges-within terms a closed) in
     record {
-        found = all.found;
-        start = all.goes.marked 0 s.start;
-        past = omega (arith, l, all.goes.longer);
-        closed = λ k m. elim (cases_lt k i) [
-            inl l2 ↦ (let e : at order2 k ≡ at order k = all.goes.same k (omega (arith, l, l2)) in
-              rw e (λ j d n. all.goes.marked (get_or (edges terms (at order k)) j d) (s.closed k l2 j d n)))
-          | inr l2 ↦ (let same : k ≡ i = omega (arith, m, l2) in
-              let e : at order2 k ≡ at order i = ap (at order2) same ∙ all.goes.same i l in
-              rw e all.marks)
-        ];
+      found = all.found;
+      start = all.goes.marked 0 s.start;
+      past = omega (arith, l, all.goes.longer);
+      closed = λ k m. elim (cases_lt k i) [
+        | inl l2 ↦ (let e : at order2 k ≡ at order k = all.goes.same k (omega (arith, l, l2)) in
+            rw e (λ j d n. all.goes.marked (get_or (edges terms (at order k)) j d) (s.closed k l2 j d n)))
+        | inr l2 ↦ (let same : k ≡ i = omega (arith, m, l2) in
+            let e : at order2 k ≡ at order i = ap (at order2) same ∙ all.goes.same i l in
+            rw e all.marks)
+      ];
     }
 
 -- at the end the marks are those of the reached blocks
@@ -342,6 +342,6 @@ search-ends terms i flags order s e =
     let closed : (a : ℕ) → flag_at flags a ≡ true → All (λ t. flag_at flags t ≡ true) (edges terms a) =
     (λ a h. let p = place a h in rw p.2 at (s.closed p.0 (omega (arith, p.1, e)))) in
     fill_by_all (reached terms) flags (length terms) false f.long (λ b l. same_tests (flag_at flags b) (reached terms b)
-        (λ h. let p = place b h in
-          rw p.2 at (leads-within terms p.0 (length terms) 0 (at order p.0) (omega (arith, p.1, search-few terms flags order f)) (f.led p.0 p.1)))
-        (λ h. leads-closed terms (flag_at flags) closed (length terms) 0 b s.start h))
+    (λ h. let p = place b h in
+    rw p.2 at (leads-within terms p.0 (length terms) 0 (at order p.0) (omega (arith, p.1, search-few terms flags order f)) (f.led p.0 p.1)))
+    (λ h. leads-closed terms (flag_at flags) closed (length terms) 0 b s.start h))

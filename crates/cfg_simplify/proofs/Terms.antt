@@ -57,7 +57,7 @@ goto-below (Assert x e text xs b) n d h l = l
 
 bare-below : (b : Block) (n d : ℕ) → All (λ b. b < n) (targets b.term) → d < n → unwrap_or (bare_goto b) d < n
 bare-below b n d h l = either (is_nil b.stmts)
-    where
+  where
     either : (nil : Bool) → unwrap_or (cond nil (goto_block b.term) None) d < n
     either true = goto-below b.term n d h l
     either false = l

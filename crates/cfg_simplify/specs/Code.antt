@@ -70,8 +70,8 @@ abbrev pub bare_whole : List Block → ℕ → Block
 bare_whole blocks a =
     let terms = map block_term blocks in
     record {
-        stmts = flat_map (stmts_in blocks) (line (joined terms) (length blocks) a);
-        term = retarget (new_number (stays terms)) (get_or terms (walk (onward (joined terms)) (length blocks) a) Unreachable)
+      stmts = flat_map (stmts_in blocks) (line (joined terms) (length blocks) a);
+      term = retarget (new_number (stays terms)) (get_or terms (walk (onward (joined terms)) (length blocks) a) Unreachable);
     }
 
 abbrev pub bare_regrouped : List Block → List Block

@@ -121,8 +121,8 @@ abbrev pub whole_block : List TypedBlock → ℕ → TypedBlock
 whole_block blocks a =
     let terms = map term_of blocks in
     record {
-        stmts = flat_map (stmts_at blocks) (line (joined terms) (length blocks) a);
-        term = retarget (new_number (stays terms)) (get_or terms (walk (onward (joined terms)) (length blocks) a) Unreachable)
+      stmts = flat_map (stmts_at blocks) (line (joined terms) (length blocks) a);
+      term = retarget (new_number (stays terms)) (get_or terms (walk (onward (joined terms)) (length blocks) a) Unreachable);
     }
 
 -- the blocks that are reached, each with those that are joined to it, renumbered

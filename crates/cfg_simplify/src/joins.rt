@@ -39,15 +39,17 @@ fn zeros(alloc: Global, count: usize) -> Result<Vec<u8>, OutOfMemory>
 {
     let mut counts = Vec::new(alloc);
     for _ in 0..count {
-        if counts.push(0).is_err() {
-            return Err(OutOfMemory);
-        }
+        counts.push(0)?;
     }
     Ok(counts)
 }
 
 /// For each block how many edges of reached blocks lead to it, or 2 for more.
-fn incoming_counts(alloc: Global, blocks: &[Block], reached: &[bool]) -> Result<Vec<u8>, OutOfMemory>
+fn incoming_counts(
+    alloc: Global,
+    blocks: &[Block],
+    reached: &[bool],
+) -> Result<Vec<u8>, OutOfMemory>
     requires closed { Closed (map block_term blocks.now) }
     requires marks { reached.now ≡ map (is_reached (map block_term blocks.now)) (numbers (length blocks.now)) }
     ensures len { IfOk result (λ counts. length counts.items ≡ length blocks.now) }
@@ -78,7 +80,11 @@ fn joined_block(is_reached: bool, block: u32, term: &Term, counts: &[u8]) -> Opt
 }
 
 /// For each block the one that is joined to it.
-pub(crate) fn joined_blocks(alloc: Global, blocks: &[Block], reached: &[bool]) -> Result<List<Option<u32>>, OutOfMemory>
+pub(crate) fn joined_blocks(
+    alloc: Global,
+    blocks: &[Block],
+    reached: &[bool],
+) -> Result<List<Option<u32>>, OutOfMemory>
     requires closed { Closed (map block_term blocks.now) }
     requires few { length blocks.now < 2 ^ 30 }
     requires marks { reached.now ≡ map (is_reached (map block_term blocks.now)) (numbers (length blocks.now)) }

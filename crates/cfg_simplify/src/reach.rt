@@ -22,11 +22,12 @@ impl Found {
     {
         let mut is_found = Vec::new(alloc);
         for _ in 0..blocks {
-            if is_found.push(false).is_err() {
-                return Err(OutOfMemory);
-            }
+            is_found.push(false)?;
         }
-        Ok(Found { is_found, order: List::new(alloc) })
+        Ok(Found {
+            is_found,
+            order: List::new(alloc),
+        })
     }
 
     fn find(&mut self, block: u32) -> Result<(), OutOfMemory>

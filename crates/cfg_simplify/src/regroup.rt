@@ -59,7 +59,12 @@ fn take_block(alloc: Global, blocks: &mut [Block], at: u32) -> Block
 }
 
 /// Takes a block and those that are joined to it, as one block.
-fn take_line(alloc: Global, blocks: &mut [Block], joins: &[Option<u32>], first: u32) -> Result<Block, OutOfMemory>
+fn take_line(
+    alloc: Global,
+    blocks: &mut [Block],
+    joins: &[Option<u32>],
+    first: u32,
+) -> Result<Block, OutOfMemory>
     requires within { first < length blocks.old }
     requires links { (a b : ℕ) → link_at joins.now a ≡ Some b → b < length blocks.old }
     requires joins { length joins.now ≡ length blocks.old }
@@ -95,7 +100,12 @@ fn stay_marks(reached: Vec<bool>, joins: &[Option<u32>]) -> Vec<bool>
 }
 
 /// The marked blocks, each with those that are joined to it, renumbered.
-fn kept_blocks(alloc: Global, blocks: List<Block>, marks: &[bool], joins: &[Option<u32>]) -> Result<List<Block>, OutOfMemory>
+fn kept_blocks(
+    alloc: Global,
+    blocks: List<Block>,
+    marks: &[bool],
+    joins: &[Option<u32>],
+) -> Result<List<Block>, OutOfMemory>
     requires closed { Closed (map block_term blocks) }
     requires few { length blocks < 2 ^ 30 }
     requires marks { marks.now ≡ map (stays (map block_term blocks)) (all_numbers (length blocks)) }

@@ -13,6 +13,6 @@ regrouped-requires-clause-closed c = rw c.in_ok-hopped.ensures (hopped-closed c.
 
 pub returns : goal.returns
 returns c =
-    let trees = trees_of c.args._program.now.types in
+    let trees = trees_of c.args.program.now.types in
     ap (with_blocks c.args.body.args (map (at_id trees) c.args.body.locals))
     (simple-same trees c.args.body.blocks c.in_ok-hopped.hopped c.in_ok-blocks.blocks c.in_ok-hopped.ensures c.in_ok-blocks.ensures)

@@ -33,13 +33,13 @@ loop-block-preserved c =
     let l : i < length blocks = omega arith in
     let mark : get_or c.args.reached.now i false ≡ reached terms i = get_from (reached terms) (length blocks) c.args.reached.now i false c.requires.marks l in
     elim c.if-reached-block.branch [
-        then-reached-block w ↦
+      | then-reached-block w ↦
           (let e : c.if-reached-block.counts.items ≡ counted c.loop-block.counts.items (targets (block_term (get_or blocks i w.index-blocks-block.result))) = grind (arith, common_steps) in
-           let same : targets (block_term (get_or blocks i w.index-blocks-block.result)) ≡ edges terms i = sym (ap targets (get_or-map block_term blocks i w.index-blocks-block.result Unreachable l)) in
-           rw (e ∙ ap (counted c.loop-block.counts.items) same) (counted-step terms i c.loop-block.counts.items c.loop-block.invariant (sym mark ∙ w.if-reached-block.true)))
+          let same : targets (block_term (get_or blocks i w.index-blocks-block.result)) ≡ edges terms i = sym (ap targets (get_or-map block_term blocks i w.index-blocks-block.result Unreachable l)) in
+          rw (e ∙ ap (counted c.loop-block.counts.items) same) (counted-step terms i c.loop-block.counts.items c.loop-block.invariant (sym mark ∙ w.if-reached-block.true)))
       | else-reached-block w ↦
           (let e : c.if-reached-block.counts.items ≡ c.loop-block.counts.items = ap (λ v. v.items) w.counts-is in
-           rw e (counted-skip terms i c.loop-block.counts.items c.loop-block.invariant (sym mark ∙ w.if-reached-block.false)))
+          rw e (counted-skip terms i c.loop-block.counts.items c.loop-block.invariant (sym mark ∙ w.if-reached-block.false)))
     ]
 
 pub returns-clause-each : goal.returns-clause-each

@@ -29,5 +29,5 @@ loop-block-preserved c =
     let mark : get_or c.args.reached.now i false ≡ reached terms i = get_from (reached terms) (length blocks) c.args.reached.now i false c.requires.marks l in
     map_step (joined terms) i c.loop-block.joins c.push.new.self c.joined_block.result c.loop-block.invariant
     (c.joined_block.ensures ∙ joined-is blocks c.as_slice.result.now i c.index-blocks-block.result c.requires.closed
-        (λ b m. ap (λ xs. at xs b) c.as_slice.ensures.value ∙ c.in_ok-counts.ensures.each b m) l (get_or c.args.reached.now i false) mark)
+    (λ b m. ap (λ xs. at xs b) c.as_slice.ensures.value ∙ c.in_ok-counts.ensures.each b m) l (get_or c.args.reached.now i false) mark)
     c.in_ok-push.ensures.ok

@@ -76,7 +76,7 @@ retargeted-term-requires c =
     let view : length c.as_mut_slice.result.now ≡ length blocks = ap length c.as_mut_slice.ensures.value ∙ c.loop-at.invariant.long in
     let left : (b : ℕ) → get_or c.as_mut_slice.result.now b hollow ≡ get_or c.loop-at.blocks.items b hollow = λ b. ap (λ xs. get_or xs b hollow) c.as_mut_slice.ensures.value in
     let term = line-term blocks c.as_mut_slice.result.now c.args.joins.now i (length c.as_mut_slice.result.now) c.requires.joins view c.in_ok-stmts.field-0.term stay
-        (λ b h. left b ∙ c.loop-at.invariant.stand b h) c.in_ok-stmts.ensures.term in
+    (λ b h. left b ∙ c.loop-at.invariant.stand b h) c.in_ok-stmts.ensures.term in
     let long = numbers-long blocks c.args.marks.now c.in_ok-numbers.numbers c.as_slice.result.now c.requires.marks c.in_ok-numbers.ensures c.as_slice.ensures in
     rw (term, long) (edges-within terms (walk (onward (joined terms)) (length blocks) i) c.requires.closed)
 
@@ -91,37 +91,37 @@ loop-at-preserved c =
     let i = c.loop-at.at in
     let l : i < length c.args.marks.now = omega arith in
     elim c.if-marks-at.branch [
-        then-marks-at+in_ok-stmts+in_ok-push w ↦
+      | then-marks-at+in_ok-stmts+in_ok-push w ↦
           (let stay : stays terms i ≡ true = stay-is blocks c.args.marks.now i true c.requires.marks l w.if-marks-at.true in
-           let view : length w.as_mut_slice.result.now ≡ length blocks = ap length w.as_mut_slice.ensures.value ∙ c.loop-at.invariant.long in
-           let left : (b : ℕ) → get_or w.as_mut_slice.result.now b hollow ≡ get_or c.loop-at.blocks.items b hollow = λ b. ap (λ xs. get_or xs b hollow) w.as_mut_slice.ensures.value in
-           let m = length w.as_mut_slice.result.now in
-           let stmts = line-stmts blocks w.as_mut_slice.result.now c.args.joins.now i m c.requires.joins view w.in_ok-stmts.field-0.stmts stay (λ b h. left b ∙ c.loop-at.invariant.stand b h) w.in_ok-stmts.ensures.stmts in
-           let last = line-term blocks w.as_mut_slice.result.now c.args.joins.now i m c.requires.joins view w.in_ok-stmts.field-0.term stay (λ b h. left b ∙ c.loop-at.invariant.stand b h) w.in_ok-stmts.ensures.term in
-           let wide : All (λ b. b < length terms) (targets w.in_ok-stmts.field-0.term) =
-           rw last (edges-within terms (walk (onward (joined terms)) (length blocks) i) c.requires.closed) in
-           let all-blocks : length terms ≡ length blocks = length-map blocks block_term in
-           let inside : All (λ b. b < length blocks) (targets w.in_ok-stmts.field-0.term) = (λ k d m. let x = wide k d m in omega (arith, x, all-blocks)) in
-           let term = w.retargeted-term.ensures ∙ renumbered (length blocks) (stays terms) w.as_slice.result.now w.in_ok-stmts.field-0.term c.args.marks.now c.requires.marks (w.as_slice.ensures ∙ c.in_ok-numbers.ensures) inside
-               ∙ ap (retarget (new_number (stays terms))) last in
-           let moved : c.if-marks-at.blocks.items ≡ w.take_line.new.blocks = grind (arith, common_steps) in
-           let size : length w.take_line.new.blocks ≡ length w.as_mut_slice.result.now = search rules in
-           record {
-               kept = kept-step (stays terms) (bare_whole blocks) i c.loop-at.kept c.if-marks-at.kept _ stay c.loop-at.invariant.kept (ap₂ made stmts term) (w.kept-is ∙ w.in_ok-push.ensures.ok);
-               long = ap length moved ∙ size ∙ view;
-               stand = λ b h.
-                   (let off : list_any (λ a. b == a) (line (link_at c.args.joins.now) m i) ≡ false =
-                    ap (list_any (λ a. b == a)) (line-is blocks w.as_mut_slice.result.now c.args.joins.now i m c.requires.joins view) ∙ h i (omega arith) stay in
-                    ap (λ xs. get_or xs b hollow) moved ∙ w.in_ok-stmts.ensures.others b off ∙ left b ∙ c.loop-at.invariant.stand b (λ g k s. h g (omega (arith, k)) s));
-           })
+          let view : length w.as_mut_slice.result.now ≡ length blocks = ap length w.as_mut_slice.ensures.value ∙ c.loop-at.invariant.long in
+          let left : (b : ℕ) → get_or w.as_mut_slice.result.now b hollow ≡ get_or c.loop-at.blocks.items b hollow = λ b. ap (λ xs. get_or xs b hollow) w.as_mut_slice.ensures.value in
+          let m = length w.as_mut_slice.result.now in
+          let stmts = line-stmts blocks w.as_mut_slice.result.now c.args.joins.now i m c.requires.joins view w.in_ok-stmts.field-0.stmts stay (λ b h. left b ∙ c.loop-at.invariant.stand b h) w.in_ok-stmts.ensures.stmts in
+          let last = line-term blocks w.as_mut_slice.result.now c.args.joins.now i m c.requires.joins view w.in_ok-stmts.field-0.term stay (λ b h. left b ∙ c.loop-at.invariant.stand b h) w.in_ok-stmts.ensures.term in
+          let wide : All (λ b. b < length terms) (targets w.in_ok-stmts.field-0.term) =
+          rw last (edges-within terms (walk (onward (joined terms)) (length blocks) i) c.requires.closed) in
+          let all-blocks : length terms ≡ length blocks = length-map blocks block_term in
+          let inside : All (λ b. b < length blocks) (targets w.in_ok-stmts.field-0.term) = (λ k d m. let x = wide k d m in omega (arith, x, all-blocks)) in
+          let term = w.retargeted-term.ensures ∙ renumbered (length blocks) (stays terms) w.as_slice.result.now w.in_ok-stmts.field-0.term c.args.marks.now c.requires.marks (w.as_slice.ensures ∙ c.in_ok-numbers.ensures) inside
+          ∙ ap (retarget (new_number (stays terms))) last in
+          let moved : c.if-marks-at.blocks.items ≡ w.take_line.new.blocks = grind (arith, common_steps) in
+          let size : length w.take_line.new.blocks ≡ length w.as_mut_slice.result.now = search rules in
+          record {
+            kept = kept-step (stays terms) (bare_whole blocks) i c.loop-at.kept c.if-marks-at.kept _ stay c.loop-at.invariant.kept (ap₂ made stmts term) (w.kept-is ∙ w.in_ok-push.ensures.ok);
+            long = ap length moved ∙ size ∙ view;
+            stand = λ b h.
+                (let off : list_any (λ a. b == a) (line (link_at c.args.joins.now) m i) ≡ false =
+                ap (list_any (λ a. b == a)) (line-is blocks w.as_mut_slice.result.now c.args.joins.now i m c.requires.joins view) ∙ h i (omega arith) stay in
+                ap (λ xs. get_or xs b hollow) moved ∙ w.in_ok-stmts.ensures.others b off ∙ left b ∙ c.loop-at.invariant.stand b (λ g k s. h g (omega (arith, k)) s));
+          })
       | else-marks-at w ↦
           (let gone : stays terms i ≡ false = stay-is blocks c.args.marks.now i false c.requires.marks l w.if-marks-at.false in
-           let same : c.if-marks-at.blocks.items ≡ c.loop-at.blocks.items = ap (λ v. v.items) w.blocks-is in
-           record {
-               kept = w.kept-is ∙ kept-skip blocks (stays terms) (bare_whole blocks) i c.loop-at.kept gone c.loop-at.invariant.kept;
-               long = ap length same ∙ c.loop-at.invariant.long;
-               stand = λ b h. ap (λ xs. get_or xs b hollow) same ∙ c.loop-at.invariant.stand b (λ g k s. h g (omega (arith, k)) s);
-           })
+          let same : c.if-marks-at.blocks.items ≡ c.loop-at.blocks.items = ap (λ v. v.items) w.blocks-is in
+          record {
+            kept = w.kept-is ∙ kept-skip blocks (stays terms) (bare_whole blocks) i c.loop-at.kept gone c.loop-at.invariant.kept;
+            long = ap length same ∙ c.loop-at.invariant.long;
+            stand = λ b h. ap (λ xs. get_or xs b hollow) same ∙ c.loop-at.invariant.stand b (λ g k s. h g (omega (arith, k)) s);
+          })
     ]
 
 pub returns : goal.returns

@@ -25,7 +25,7 @@ loop-mark-preserved c =
     let step = number-step keep i in
     let is : c.loop-mark.next ≡ new_number keep i = c.loop-mark.invariant.0 in
     elim c.if-mark.branch [
-        then-mark w ↦ (let one : ◌≡◌ {A = ℕ} (cond (keep i) 1 0) 1 = ap (λ v. cond {A = ℕ} v 1 0) w.if-mark.true in
+      | then-mark w ↦ (let one : ◌≡◌ {A = ℕ} (cond (keep i) 1 0) 1 = ap (λ v. cond {A = ℕ} v 1 0) w.if-mark.true in
           let after : c.if-mark.next ≡ c.loop-mark.next + 1 = w.next-is in
           (omega (arith, step, is, one, after), list))
       | else-mark w ↦ (let none : ◌≡◌ {A = ℕ} (cond (keep i) 1 0) 0 = ap (λ v. cond {A = ℕ} v 1 0) w.if-mark.false in

@@ -44,13 +44,13 @@ loop-preserved c =
     let new : list_any (λ a. next == a) (line link i first) ≡ false = c.requires.fresh i next l some in
     let here : c.take_block-stmts.result ≡ get_or blocks next hollow = c.take_block-stmts.ensures.block ∙ c.loop.invariant.others next new in
     record {
-        last = sym (walk-more link i first next some);
-        within = c.requires.links c.loop.last next c.in-Some.is;
-        stmts = c.in_ok-append.ensures.ok ∙ ap₂ (λ (xs ys : List Stmt). xs ++ ys) c.loop.invariant.stmts (ap (λ (b : Block). b.stmts) here)
-            ∙ flat_map_more (stmts_in blocks) [] (line link i first) next ∙ ap (flat_map (stmts_in blocks)) (sym more);
-        term = ap block_term here;
-        others = λ b h.
-            (let parts = or_parts (list_any (λ a. b == a) (line link i first)) ((b == next) || false) (sym (list_any-append (λ a. b == a) (line link i first) (next ∷ [])) ∙ sym (ap (list_any (λ a. b == a)) more) ∙ h) in
-             let apart = or_parts (b == next) false parts.1 in
-             ap (λ xs. get_or xs b hollow) c.take_block-stmts.ensures.others ∙ get_or-set_other c.loop.blocks next b hollow hollow (eqb-false b next apart.0) ∙ c.loop.invariant.others b parts.0);
+      last = sym (walk-more link i first next some);
+      within = c.requires.links c.loop.last next c.in-Some.is;
+      stmts = c.in_ok-append.ensures.ok ∙ ap₂ (λ (xs ys : List Stmt). xs ++ ys) c.loop.invariant.stmts (ap (λ (b : Block). b.stmts) here)
+          ∙ flat_map_more (stmts_in blocks) [] (line link i first) next ∙ ap (flat_map (stmts_in blocks)) (sym more);
+      term = ap block_term here;
+      others = λ b h.
+          (let parts = or_parts (list_any (λ a. b == a) (line link i first)) ((b == next) || false) (sym (list_any-append (λ a. b == a) (line link i first) (next ∷ [])) ∙ sym (ap (list_any (λ a. b == a)) more) ∙ h) in
+          let apart = or_parts (b == next) false parts.1 in
+          ap (λ xs. get_or xs b hollow) c.take_block-stmts.ensures.others ∙ get_or-set_other c.loop.blocks next b hollow hollow (eqb-false b next apart.0) ∙ c.loop.invariant.others b parts.0);
     }

@@ -26,9 +26,10 @@ pub loop-arm-preserved : goal.loop-arm-preserved
 unfolding no-arm
 loop-arm-preserved c =
     let arms = c.exits_of-exits.result.arms.now in
-    let within : c.loop-arm.arm-index < length arms = omega arith in
-    (flags_more arms c.loop-arm.arm-index no-arm within _ _ _ c.loop-arm.invariant.0 c.in_ok-find.ensures.flags,
-     order_more arms c.loop-arm.arm-index no-arm within _ _ _ _ _ c.loop-arm.invariant.0 c.loop-arm.invariant.1 c.in_ok-find.ensures.order)
+    let within : c.loop-arm.arm-index < length arms = omega arith in (
+      flags_more arms c.loop-arm.arm-index no-arm within _ _ _ c.loop-arm.invariant.0 c.in_ok-find.ensures.flags,
+      order_more arms c.loop-arm.arm-index no-arm within _ _ _ _ _ c.loop-arm.invariant.0 c.loop-arm.invariant.1 c.in_ok-find.ensures.order,
+    )
 
 pub find-requires-in-Some : goal.find-requires-in-Some
 find-requires-in-Some c =
