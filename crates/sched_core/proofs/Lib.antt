@@ -11,7 +11,15 @@ pub mod Keeps
 pub mod Waiting
 pub mod Turns
 pub mod Progress
+pub mod Listed
+pub mod Fields
 pub mod Start
 pub mod Falls
-pub mod Reasons
+pub mod Legality
 pub mod Ripe
+pub mod Whys
+pub mod Acts
+pub mod Holding
+pub mod Fresh
+pub mod Rounds
+pub mod Taking

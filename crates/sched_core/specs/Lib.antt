@@ -5,3 +5,5 @@ pub mod Waits
 pub mod Turn
 pub mod Work
 pub mod Table
+pub mod Shown
+pub mod Held

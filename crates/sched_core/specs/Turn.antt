@@ -5,7 +5,7 @@ use Rattle.sched_core.specs.declared.Status.TheVariants.{Unclaimed, Claimed, Don
 use Rattle.sched_core.specs.declared.Event.{Event}
 use Rattle.sched_core.specs.declared.Event.TheVariants.{Claim, Look, Borrow, Release, Steal, Publish, Fail, Draw}
 use Rattle.sched_core.specs.Plan.{Plan, has, next_need, Reads}
-use Rattle.sched_core.specs.State.{State, Entry, is, settled, untouched, is_stolen, all_seen}
+use Rattle.sched_core.specs.State.{State, Entry, is, settled, untouched, is_stolen, all_seen, after}
 
 abbrev pub drawing : Plan → State → ℕ → Option Event
 drawing p c w = if nat_lt c.drawn p.roots then Some (Draw w) else None
@@ -51,3 +51,22 @@ Useful c (Draw w) = Unit {0}
 abbrev pub ripe : Option ℕ → Option ℕ → (ℕ → Bool) → Bool
 ripe None steals seen = true
 ripe (Some n) steals seen = is steals n && seen n
+
+-- the state after a turn
+abbrev pub moved : Plan → State → Option Event → State
+moved p c None = c
+moved p c (Some e) = after p c e
+
+-- a claim of what is unclaimed, else a look
+abbrev pub claim_or_look : State → ℕ → ℕ → Event
+claim_or_look c w q = if untouched (c.status q) then Claim w q else Look w q
+
+-- the turn of a top whose next need is q
+abbrev pub turn_need : State → ℕ → ℕ → Option ℕ → Event → Event
+turn_need c w q steals end =
+    if untouched (c.status q) then Claim w q
+    else (if is steals q && c.seen w q then end else (if c.seen w q then Borrow w q else Look w q))
+
+abbrev pub ended : State → ℕ → Option ℕ → Event
+ended c w None = Publish w
+ended c w (Some s) = if is_stolen (c.status s) then Publish w else Steal w s

@@ -1,4 +1,4 @@
-use Rattle.sched_core.proofs.Reasons.{no_reason_legal, legal_no_reason}
+use Rattle.sched_core.proofs.Legality.{no_reason_legal, legal_no_reason}
 use Rattle.sched_core.proofs.laws.no_reason_is_legal.Goals as goal
 
 pub returns-clause-legal : goal.returns-clause-legal
