@@ -79,3 +79,6 @@ happens_good p l c d e g m h = record { sized = h.sized g.sized; rows = h.rows g
 pub root_below : (p : Plan) (c : State) → IsLawful p → Good p c → (w : ℕ) (o : Option ℕ) → c.root w ≡ o → IfSome o (λ r. r < p.queries)
 root_below p c l g w None e = tt
 root_below p c l g w (Some r) e = let i = g.rooted w r e in subst (λ (x : ℕ). x < p.queries) i.2 (l.roots_below i.0 i.1)
+
+pub no_top : (es : List Entry) (e : Entry) (fs : List Entry) → es ≡ [] → es ≡ e ∷ fs → ⊥
+no_top es e fs h k = (cc)

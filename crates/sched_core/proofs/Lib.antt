@@ -23,3 +23,4 @@ pub mod Holding
 pub mod Fresh
 pub mod Rounds
 pub mod Taking
+pub mod Weaving

@@ -6,10 +6,11 @@ use Rattle.sched_core.specs.declared.Status.TheVariants.{Unclaimed, Claimed, Don
 use Rattle.sched_core.specs.declared.Event.{Event}
 use Rattle.sched_core.specs.declared.Event.TheVariants.{Claim, Look, Borrow, Release, Steal, Publish, Fail, Draw}
 use Rattle.sched_core.specs.Plan.{Plan, IsLawful, next_need}
-use Rattle.sched_core.specs.State.{State, Entry, Legal, upd, saw, done, settled, untouched, is_stolen, all_seen, after, on_top, published_by, borrowed_more, borrowed_less}
+use Rattle.sched_core.specs.State.{State, Entry, Legal, upd, saw, done, settled, untouched, is_stolen, all_seen, after, on_top, published_by, failed_by, borrowed_more, borrowed_less}
 use Rattle.sched_core.specs.Good.{Good}
 use Rattle.sched_core.specs.Turn.{turn, turn_of, turn_free, turn_empty, turn_top, drawing, ending, moved, Useful}
 use Rattle.sched_core.specs.Work.{work_left}
+use Rattle.sched_core.specs.Shown.{worker_of}
 use Rattle.sched_core.specs.Held.{RootsStay}
 use Rattle.sched_core.proofs.Upd.{upd_same, upd_other, upd_tells, upd_at}
 use Rattle.sched_core.proofs.Lists.{bool_tells, nat_cases}
@@ -20,16 +21,26 @@ use Rattle.sched_core.proofs.Progress.{goes_on}
 use Rattle.sched_core.proofs.Holding.{more_done, less_done}
 use Rattle.sched_core.proofs.Fields.{saw_waits}
 
--- a turn is no failure, and a look is at what this worker hasn't seen
+-- a turn is an event of that worker and no failure, and a look is at what this worker hasn't seen
 abbrev pub IsTurn : State → ℕ → Event → Type 0
-IsTurn c w (Claim v q) = Unit {0}
-IsTurn c w (Look v q) = c.seen v q ≡ false
-IsTurn c w (Borrow v s) = Unit {0}
-IsTurn c w (Release v s) = Unit {0}
-IsTurn c w (Steal v s) = Unit {0}
-IsTurn c w (Publish v) = Unit {0}
+IsTurn c w (Claim v q) = v ≡ w
+IsTurn c w (Look v q) = (v ≡ w) × (c.seen v q ≡ false)
+IsTurn c w (Borrow v s) = v ≡ w
+IsTurn c w (Release v s) = v ≡ w
+IsTurn c w (Steal v s) = v ≡ w
+IsTurn c w (Publish v) = v ≡ w
 IsTurn c w (Fail v) = ⊥
-IsTurn c w (Draw v) = Unit {0}
+IsTurn c w (Draw v) = v ≡ w
+
+pub turn_worker : (c : State) (w : ℕ) (e : Event) → IsTurn c w e → worker_of e ≡ w
+turn_worker c w (Claim v q) t = t
+turn_worker c w (Look v q) t = t.0
+turn_worker c w (Borrow v s) t = t
+turn_worker c w (Release v s) t = t
+turn_worker c w (Steal v s) t = t
+turn_worker c w (Publish v) t = t
+turn_worker c w (Fail v) t = absurd t
+turn_worker c w (Draw v) t = t
 
 abbrev pub AreTurns : State → ℕ → Option Event → Type 0
 AreTurns c w None = Unit {0}
@@ -37,20 +48,20 @@ AreTurns c w (Some e) = IsTurn c w e
 
 module _ (p : Plan) (c : State) (w : ℕ) where
   drawing_turn : (b : Bool) → AreTurns c w (if b then Some (Draw w) else None)
-  drawing_turn true = tt
+  drawing_turn true = refl
   drawing_turn false = tt
 
   claim_turn : (q : ℕ) (b : Bool) → c.seen w q ≡ false → AreTurns c w (if b then Some (Claim w q) else Some (Look w q))
-  claim_turn q true h = tt
-  claim_turn q false h = h
+  claim_turn q true h = refl
+  claim_turn q false h = (refl, h)
 
   ending_turn : (o : Option ℕ) → AreTurns c w (ending c w o)
-  ending_turn None = tt
+  ending_turn None = refl
   ending_turn (Some s) = steal_turn (is_stolen (c.status s))
     where
       steal_turn : (b : Bool) → AreTurns c w (if b then Some (Publish w) else Some (Steal w s))
-      steal_turn true = tt
-      steal_turn false = tt
+      steal_turn true = refl
+      steal_turn false = refl
 
   empty_turn : (root : Option ℕ) → AreTurns c w (turn_empty p c w root)
   empty_turn None = drawing_turn (nat_lt c.drawn p.roots)
@@ -69,10 +80,10 @@ module _ (p : Plan) (c : State) (w : ℕ) where
   top_turn e (Some q) = go (untouched (c.status q)) (all_seen p c w e) (c.seen w q) refl
     where
       go : (a b d : Bool) → c.seen w q ≡ d → AreTurns c w (if a then Some (Claim w q) else (if b then ending c w (p.steals e.0) else (if d then Some (Borrow w q) else Some (Look w q))))
-      go true b d h = tt
+      go true b d h = refl
       go false true d h = ending_turn (p.steals e.0)
-      go false false true h = tt
-      go false false false h = h
+      go false false true h = refl
+      go false false false h = (refl, h)
 
   free_turn : (es : List Entry) → AreTurns c w (turn_free p c w es)
   free_turn [] = empty_turn (c.root w)
@@ -83,7 +94,7 @@ module _ (p : Plan) (c : State) (w : ℕ) where
     where
       go : (o : Option ℕ) → AreTurns c w (turn_of p c w o)
       go None = free_turn (c.stack w)
-      go (Some s) = tt
+      go (Some s) = refl
 
 pub not_fail : (c : State) (w : ℕ) (e : Event) → IsTurn c w e → (v : ℕ) → e ≢ Fail v
 not_fail c w (Claim v q) t u k = (cc)
@@ -105,7 +116,7 @@ module _ (p : Plan) (l : IsLawful p) (c : State) (g : Good p c) (clean : (q : �
   onward (Look v q) m t = go (settled (c.status q)) refl
     where
       go : (b : Bool) → settled (c.status q) ≡ b → (work_left p (after p c (Look v q)) < work_left p c) ⊎ (OnlyWaits c (after p c (Look v q)) × (Useful c (Look v q) → ⊥))
-      go true h = inl (falls p c l g (Look v q) m (h, t) (not_fail c w (Look v q) t))
+      go true h = inl (falls p c l g (Look v q) m (h, t.1) (not_fail c w (Look v q) t))
       go false h = inr ((upd c.wait v (Some q), saw_waits c v q (c.status q) h (clean q)), λ u. let k = u.0 in (cc))
   onward (Borrow v s) m t = inl (falls p c l g (Borrow v s) m tt (not_fail c w (Borrow v s) t))
   onward (Release v s) m t = inl (falls p c l g (Release v s) m tt (not_fail c w (Release v s) t))
@@ -208,3 +219,28 @@ round_less p l c d g clean i lt some_worker open_root so = elim so [
   | inl less ↦ less
   | inr same ↦ let f = goes_on p c l g clean i lt some_worker open_root in absurd (same.1 f.0 f.1 f.2 f.3 f.4)
 ]
+
+saw_workers : (c : State) (v q : ℕ) (st : Status) → (saw c v q st).workers ≡ c.workers
+saw_workers c v q Unclaimed = refl
+saw_workers c v q (Claimed u) = refl
+saw_workers c v q (Done b) = refl
+saw_workers c v q Failed = refl
+saw_workers c v q Stolen = refl
+
+top_workers : (c : State) (es : List Entry) (f : State → ℕ → State) → ((q : ℕ) → (f c q).workers ≡ c.workers) → (on_top c es f).workers ≡ c.workers
+top_workers c [] f h = refl
+top_workers c (e ∷ es) f h = h e.0
+
+after_workers : (p : Plan) (c : State) (e : Event) → (after p c e).workers ≡ c.workers
+after_workers p c (Claim v q) = refl
+after_workers p c (Look v q) = saw_workers c v q (c.status q)
+after_workers p c (Borrow v s) = refl
+after_workers p c (Release v s) = refl
+after_workers p c (Steal v s) = refl
+after_workers p c (Publish v) = top_workers c (c.stack v) (λ d q. published_by d v q) (λ q. refl)
+after_workers p c (Fail v) = top_workers c (c.stack v) (λ d q. failed_by d v q) (λ q. refl)
+after_workers p c (Draw v) = refl
+
+pub moved_workers : (p : Plan) (c : State) (o : Option Event) → (moved p c o).workers ≡ c.workers
+moved_workers p c None = refl
+moved_workers p c (Some e) = after_workers p c e

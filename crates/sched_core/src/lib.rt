@@ -4,8 +4,8 @@
 //! The state of the core and what each event does to it stand in `specs/State.antt`, the first reason against an event in
 //! `specs/Table.antt`, what holds of the core between any two events (`Good`) in `specs/Good.antt`, and the turn of a worker in
 //! `specs/Turn.antt`. The main contracts are the laws of `laws` (each legal event keeps `Good`, no stolen slot is read, waits are never
-//! circular, turns are legal and some turn goes on) and
-//! `Core::step` (an event happens exactly where it is legal).
+//! circular, turns are legal and some turn goes on), `Core::step` (an event happens exactly where it is legal), and `weave` (for
+//! every schedule it returns, with the roots' defined answers and the events of the schedule's turns).
 #![tactic(auto)]
 
 ghost use Rattle.sched_core.specs.Plan.{Plan, IsLawful, next_need, has};
@@ -15,6 +15,7 @@ use mir_syntax::OutOfMemory;
 
 mod effects;
 mod laws;
+mod loom;
 mod reasons;
 mod rows;
 mod state;
@@ -24,6 +25,7 @@ pub use laws::{
     events_keep_good, new_core_is_good, no_reason_is_legal, no_stolen_slot_is_read, ripeness_shows,
     some_turn_goes_on, turns_are_legal, waits_are_never_circular, what_goes_on_leaves_less,
 };
+pub use loom::{Woven, weave};
 pub use state::Core;
 
 /// What can be asked, what each query needs and steals, and how it is answered. Queries are the numbers below `queries`.

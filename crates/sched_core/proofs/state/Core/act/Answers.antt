@@ -9,7 +9,7 @@ use Rattle.sched_core.specs.State.{State, Entry, Legal}
 use Rattle.sched_core.specs.Shown.{state_of, stack_of, row_at, IsTold, GoodFor, Happens, worker_of}
 use Rattle.sched_core.proofs.Listed.{item_at}
 use Rattle.sched_core.proofs.Whys.{query_below}
-use Rattle.sched_core.proofs.Acts.{stack_at, claim_room, release_room, count_most, lent}
+use Rattle.sched_core.proofs.Acts.{stack_at, no_top, claim_room, release_room, count_most, lent}
 use Rattle.sched_core.proofs.state.Core.act.Goals as goal
 
 module _ (p : Plan) (c : Core) (e : Event) (m : Legal p (state_of c) e) (t : IsTold p c (worker_of e)) where
@@ -21,9 +21,6 @@ module _ (p : Plan) (c : Core) (e : Event) (m : Legal p (state_of c) e) (t : IsT
 
 happens_as : (p : Plan) (c d : Core) (e f : Event) → e ≡ f → Happens p c d f → Happens p c d e
 happens_as p c d e f k h = subst (Happens p c d) (sym k) h
-
-no_top : (es : List Entry) (e : Entry) (fs : List Entry) → es ≡ [] → es ≡ e ∷ fs → ⊥
-no_top es e fs h k = (cc)
 
 pub put_claim-requires-clause-room : goal.put_claim-requires-clause-room
 put_claim-requires-clause-room g c =
