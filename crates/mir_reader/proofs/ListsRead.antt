@@ -106,8 +106,10 @@ body-complete : (xs : List StmtRule) (x : TermRule) (rest : List Symbol) → All
 unfolding block_body open_brace semicolon close_brace
 body-complete xs x rest good is =
     let after = term_put x (s.Semicolon ∷ s.CloseBrace ∷ rest) in
-    rw (stmts-complete xs (suc (length (each_put ended_put xs after))) [] after (omega (arith, fewer_stmts xs after good)) good (term-begins x (s.Semicolon ∷ s.CloseBrace ∷ rest) is),
-      term-complete x (s.Semicolon ∷ s.CloseBrace ∷ rest) is) refl
+    rw (
+      stmts-complete xs (suc (length (each_put ended_put xs after))) [] after (omega (arith, fewer_stmts xs after good)) good (term-begins x (s.Semicolon ∷ s.CloseBrace ∷ rest) is),
+      term-complete x (s.Semicolon ∷ s.CloseBrace ∷ rest) is,
+    ) refl
 
 label-is : (k : ℕ) (ts : List Symbol) → label k (s.Block k ∷ ts) ≡ Some (tt, ts)
 unfolding label
@@ -126,9 +128,9 @@ body-sound ts b rest h k =
     let ss = stmts-sound (suc (length ts1)) [] ts1 xs ts2 f2 in
     let tr = term-sound ts2 x ts3 f3 in
     k ss.rules tr.rule ss.good tr.good
-      (ap (λ l. let c : Block = record { stmts = l; term = term_of tr.rule } in c) ss.reads ∙ ap (λ y. let c : Block = record { stmts = xs; term = y } in c) tr.reads ∙ ap (λ q. q.0) e)
-      (open_brace-sound ts (tt, ts1) f1 ∙ ap (λ l. s.OpenBrace ∷ l) (ss.yields ∙ ap (each_put ended_put ss.rules) (tr.yields ∙ ap (term_put tr.rule)
-        (semicolon-sound ts3 (tt, ts4) f4 ∙ ap (λ l. s.Semicolon ∷ l) (close_brace-sound ts4 (tt, ts5) f5 ∙ ap (λ q. s.CloseBrace ∷ q.1) e))))))))))
+    (ap (λ l. let c : Block = record { stmts = l; term = term_of tr.rule } in c) ss.reads ∙ ap (λ y. let c : Block = record { stmts = xs; term = y } in c) tr.reads ∙ ap (λ q. q.0) e)
+    (open_brace-sound ts (tt, ts1) f1 ∙ ap (λ l. s.OpenBrace ∷ l) (ss.yields ∙ ap (each_put ended_put ss.rules) (tr.yields ∙ ap (term_put tr.rule)
+    (semicolon-sound ts3 (tt, ts4) f4 ∙ ap (λ l. s.Semicolon ∷ l) (close_brace-sound ts4 (tt, ts5) f5 ∙ ap (λ q. s.CloseBrace ∷ q.1) e))))))))))
 
 label-sound : (k : ℕ) (ts : List Symbol) (q : Unit {0} × List Symbol) → label k ts ≡ Some q → ts ≡ s.Block k ∷ q.1
 unfolding label
@@ -148,6 +150,6 @@ block-sound k ts b rest h =
       rule = record { label = k; stmts = xs; term = x };
       reads = same ∙ ap (λ q. q.0) e;
       yields = label-sound k ts (tt, ts1) f1 ∙ ap (λ l. s.Block k ∷ l) (colon-sound ts1 (tt, ts2) f2 ∙ ap (λ l. s.Colon ∷ l)
-        (yields ∙ ap (λ q. s.OpenBrace ∷ each_put ended_put xs (term_put x (s.Semicolon ∷ s.CloseBrace ∷ q.1))) e));
+          (yields ∙ ap (λ q. s.OpenBrace ∷ each_put ended_put xs (term_put x (s.Semicolon ∷ s.CloseBrace ∷ q.1))) e));
       good = record { labelled = refl; stmts = good; term = is };
     }))))

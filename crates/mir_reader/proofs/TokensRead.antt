@@ -290,7 +290,7 @@ read-whole [] n before last left found stands ended h = (tt, faulty left n befor
 read-whole (q ∷ ps) zero before last left found stands ended h = absurd (none-read _ before last found h)
 read-whole (q ∷ ps) (suc n) before last left found stands ended h =
     read-next q ps n before last left found stands ended (ap (λ l. symbols_from (suc n) before last l) (sym (append_assoc (spelled q) (text_of ps) left)) ∙ h) (comment_or_not q)
-      (λ now name h2. read-whole ps n now name left found stands.2 ended h2)
+    (λ now name h2. read-whole ps n now name left found stands.2 ended h2)
 
 -- the cut of a text that is read
 read-cut : (bytes : List ℕ) (symbols : List Symbol) (last : List ℕ) (c : Cut bytes) → symbols_in bytes ≡ Some (symbols, last) → IsUncommented c.pieces × (c.left ≡ [])

@@ -83,11 +83,12 @@ checked f = if is_in_bounds f && in_order 1 f.args then if_good f (locals_of f.a
 -- the crate with the one function
 abbrev pub crate_with : List Tree → List ℕ → ℕ → List SmallTy → List Block → Crate
 crate_with trees name args locals blocks = record {
-    defs = [];
-    outsides = [];
-    functions = record {
-      path = name;
-      inlining = inlining.Plain;
-      is_drop = false;
-      body = record { args = args; locals = map tree_of locals; blocks = map (block_of trees) blocks }
-    } ∷ [] }
+  defs = [];
+  outsides = [];
+  functions = record {
+    path = name;
+    inlining = inlining.Plain;
+    is_drop = false;
+    body = record { args = args; locals = map tree_of locals; blocks = map (block_of trees) blocks };
+  } ∷ [];
+}
