@@ -16,10 +16,10 @@ impl Program {
         self.types.as_slice().len() as u32
     }
 
+    /// The type that an id stands for, made of ids that come before it.
     pub fn ty(&self, id: TyId) -> &Ty
         requires { id.0 < length self.now.types }
         ensures found { slice_get self.now.types id.0 ≡ Some result.now }
-        // It is made of earlier types.
         ensures made { IsTrue (ids_below id.0 result.now) }
         // What the id stands for is made of what theirs do.
         ensures stands { at_id (trees_of self.now.types) id ≡ node (trees_of self.now.types) result.now }
@@ -27,7 +27,8 @@ impl Program {
         &self.types.as_slice()[id.0 as usize]
     }
 
-    /// The id of a type. Equal types have one id.
+    /// The id of a type. Equal types have one id, found in expected constant time; a new one comes at the end of the table.
+    /// Where there is no memory, the type is spent and the program is as it was.
     pub fn intern(&mut self, ty: Ty) -> Result<TyId, OutOfMemory>
         requires made { IsTrue (ids_below (length self.old.types) ty) }
         requires room { length self.old.types < 2 ^ 32 - 1 }

@@ -14,6 +14,7 @@ mod intern;
 mod lines;
 mod list;
 mod number;
+mod place_ty;
 mod program;
 mod stage;
 mod type_index;

@@ -1,4 +1,4 @@
-ghost use Rattle.std.specs.Prelude.{◌≡◌, ℕ, ◌⊎◌, [], ◌+◌, ◌-◌, ◌^◌, ◌<◌, length, slice_get, Some, IfOk, OnOk, OnErr};
+ghost use Rattle.std.specs.Prelude.{◌≡◌, ℕ, ◌⊎◌, [], ◌+◌, ◌-◌, ◌^◌, ◌<◌, length, slice_get, option_copied, Some, IfOk, OnOk, OnErr};
 ghost use Rattle.mir_syntax.specs.Table.{Grows};
 
 use crate::type_index::TypeIndex;
@@ -40,6 +40,12 @@ impl TypeTable {
         ensures { result.now ≡ self.now }
     {
         self.types.as_slice()
+    }
+
+    pub fn get(&self, index: usize) -> Option<&Ty>
+        ensures { option_copied result ≡ slice_get self.now index }
+    {
+        self.types.get(index)
     }
 
     /// The place of the type, which is put at the end where it stood nowhere.

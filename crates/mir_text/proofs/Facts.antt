@@ -1,10 +1,9 @@
 -- Small texts, computed.
-use Rattle.std.specs.Prelude.{◌≡◌, refl, ℕ, List, [], ◌∷◌, codes, map}
+use Rattle.std.specs.Prelude.{◌≡◌, refl, List, [], ◌∷◌, codes}
 use Rattle.mir_syntax.specs.declared.types.IntTy.TheVariants as i
-use Rattle.mir_text.specs.declared.symbol.Symbol.{Symbol}
 use Rattle.mir_text.specs.declared.symbol.Symbol.TheVariants as s
-use Rattle.mir_text.specs.Pieces.{Piece, blank, line, comment, local, number, typed, text, word, under, mark, equals, semicolon, text_of}
-use Rattle.mir_text.specs.Symbols.{symbols_of, strings_of, lined_symbols, word_token, block_digits, symbol, name}
+use Rattle.mir_text.specs.Pieces.{Piece, blank, line, local, typed, mark, equals, semicolon, text_of}
+use Rattle.mir_text.specs.Symbols.{lined_symbols, word_token, block_digits, symbol, name}
 use Rattle.mir_text.specs.Words.{word_place}
 use Rattle.mir_syntax.specs.declared.body.BinOp.TheVariants as bin
 

@@ -12,7 +12,7 @@
 --     decl    = "let" "mut"? local ":" type ";"
 --             | "debug" (any token but ";")* ";"
 --             | "scope" number ( "(" "inlined" path ")" )? "{" decl* "}"
-use Rattle.std.specs.Prelude.{ℕ, ◌≡◌, Bool, true, false, List, [], ◌∷◌, Option, Some, None}
+use Rattle.std.specs.Prelude.{ℕ, ◌≡◌, Bool, true, false, List, ◌∷◌, Option, Some, None}
 use Rattle.mir_text.specs.declared.symbol.Symbol.{Symbol}
 use Rattle.mir_text.specs.declared.symbol.Symbol.TheVariants as s
 use Rattle.mir_text.specs.Symbols.{inline_name, always_name, never_name, inlined_name}

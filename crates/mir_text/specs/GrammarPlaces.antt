@@ -4,7 +4,7 @@
 --             | "(" "(" place "as" name ")" "." number ":" type ")"
 --     value   = "-"? number | "true" | "false" | "(" ")" | integer type "::" ( "MIN" | "MAX" )
 --     operand = "copy" place | "move" place | place | "const" value
-use Rattle.std.specs.Prelude.{ℕ, Bool, true, false, List, [], ◌∷◌}
+use Rattle.std.specs.Prelude.{ℕ, Bool, true, false, List, ◌∷◌}
 use Rattle.mir_syntax.specs.declared.types.IntTy.{IntTy}
 use Rattle.mir_text.specs.declared.symbol.Symbol.{Symbol}
 use Rattle.mir_text.specs.declared.symbol.Symbol.TheVariants as s

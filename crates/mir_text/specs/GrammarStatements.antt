@@ -9,7 +9,7 @@
 --     stmt   = place "=" rvalue | "nop"
 --            | "StorageLive" "(" local ")" | "StorageDead" "(" local ")"
 --            | "discriminant" "(" place ")" "=" number
-use Rattle.std.specs.Prelude.{ℕ, Bool, List, [], ◌∷◌}
+use Rattle.std.specs.Prelude.{ℕ, Bool, List, ◌∷◌}
 use Rattle.mir_syntax.specs.declared.body.BinOp.{BinOp}
 use Rattle.mir_syntax.specs.declared.body.OverOp.{OverOp}
 use Rattle.mir_syntax.specs.declared.body.UnOp.{UnOp}

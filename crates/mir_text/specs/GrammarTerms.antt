@@ -7,7 +7,7 @@
 --            | "assert" "(" "!"? operand ("," string) ("," operand)* ")" "->" "[" "success" ":" bb "," unwind "]"
 --     unwind = "unwind" ( "continue" | "unreachable" )
 --     block  = bb ":" "{" (stmt ";")* term ";" "}"
-use Rattle.std.specs.Prelude.{ℕ, Bool, true, false, List, [], ◌∷◌}
+use Rattle.std.specs.Prelude.{ℕ, Bool, true, false, List, ◌∷◌}
 use Rattle.mir_text.specs.declared.symbol.Symbol.{Symbol}
 use Rattle.mir_text.specs.declared.symbol.Symbol.TheVariants as s
 use Rattle.mir_text.specs.Symbols.{success_name}

@@ -5,7 +5,6 @@
 --          | "(" ")" | "(" type "," type,* ")"
 use Rattle.std.specs.Prelude.{ℕ, Bool, true, false, List, [], ◌∷◌}
 use Rattle.mir_syntax.specs.declared.types.IntTy.{IntTy}
-use Rattle.mir_text.specs.declared.symbol.Symbol.{Symbol}
 use Rattle.mir_text.specs.declared.symbol.Symbol.TheVariants as s
 use Rattle.mir_text.specs.Grammar.{Put}
 

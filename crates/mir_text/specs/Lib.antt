@@ -17,6 +17,8 @@ pub mod PartLines
 pub mod NameFaults
 pub mod ReadLines
 pub mod Reads
+pub mod Spans
+pub mod ReadFaults
 pub mod TypeText
 pub mod PlaceText
 pub mod StatementText

@@ -1,5 +1,5 @@
 -- What is wrong with the names of a derivation: its faults S10 to S15, each with its line.
-use Rattle.std.specs.Prelude.{ℕ, zero, suc, ◌-◌, max, Bool, true, false, ◌&&◌, ◌||◌, not, nat_eq, nat_lt, List, [], ◌∷◌, ◌++◌, map, length, Option, Some, None, is_some, codes, if◌then◌else◌}
+use Rattle.std.specs.Prelude.{ℕ, zero, suc, Bool, true, false, ◌&&◌, ◌||◌, not, nat_eq, nat_lt, List, [], ◌∷◌, ◌++◌, map, Option, Some, None, is_some, codes, if◌then◌else◌}
 use Rattle.std.specs.Str.{bytes_eq}
 use Rattle.mir_syntax.specs.declared.types.Form.{Form}
 use Rattle.mir_syntax.specs.declared.types.Form.TheVariants as form
@@ -8,17 +8,17 @@ use Rattle.mir_syntax.specs.Crate.{TypedField, TypedVariant, TypedDef}
 use Rattle.mir_syntax.specs.Shapes.{◌>>=◌}
 use Rattle.mir_text.specs.Words.{place_in}
 use Rattle.mir_text.specs.Grammar.{Items, items_of}
-use Rattle.mir_text.specs.GrammarTypes.{PathRule, TypeRule, TypesRule}
+use Rattle.mir_text.specs.GrammarTypes.{PathRule, TypeRule}
 use Rattle.mir_text.specs.GrammarPlaces as p
 use Rattle.mir_text.specs.GrammarPlaces.{PlaceRule, OperandRule}
 use Rattle.mir_text.specs.GrammarStatements as r
 use Rattle.mir_text.specs.GrammarStatements.{NamedRule, BuildRule, RvalueRule, StmtRule}
 use Rattle.mir_text.specs.GrammarTerms as g
-use Rattle.mir_text.specs.GrammarTerms.{ArmRule, TermRule, BlockRule}
+use Rattle.mir_text.specs.GrammarTerms.{ArmRule, TermRule}
 use Rattle.mir_text.specs.GrammarItems as m
-use Rattle.mir_text.specs.GrammarItems.{ArgRule, FieldRule, FieldsRule, VariantRule, FnRule, ItemRule, FileRule}
-use Rattle.mir_text.specs.Names.{Names, string_at, path_bytes, def_named, is_known, are_known, ty_of, same_type, struct, enum}
-use Rattle.mir_text.specs.NamedBodies.{Declared, declared_ty, variant_at_place, variant_names, built_by, called_by}
+use Rattle.mir_text.specs.GrammarItems.{ArgRule, FieldsRule, VariantRule, ItemRule}
+use Rattle.mir_text.specs.Names.{Names, string_at, path_bytes, is_known, are_known, ty_of, same_type}
+use Rattle.mir_text.specs.NamedBodies.{Declared, declared_ty, variant_at_place, built_by, called_by}
 use Rattle.mir_text.specs.Naming.{declared}
 use Rattle.mir_text.specs.PartLines.{Lined, LinedBlock, LinedFn, LinedItem, other, function}
 

@@ -1,7 +1,5 @@
 -- The places, statements and blocks that a derivation names.
-use Rattle.std.specs.Prelude.{ℕ, zero, suc, Bool, true, false, ◌&&◌, not, nat_eq, List, [], ◌∷◌, ◌++◌, map, length, get_or, slice_get, Option, Some, None, if◌then◌else◌}
-use Rattle.mir_syntax.specs.declared.types.FnId.{FnId}
-use Rattle.mir_syntax.specs.declared.types.OutId.{OutId}
+use Rattle.std.specs.Prelude.{ℕ, Bool, true, false, nat_eq, List, [], ◌∷◌, ◌++◌, map, slice_get, Option, Some, None, if◌then◌else◌}
 use Rattle.mir_syntax.specs.declared.body.Proj.{Proj}
 use Rattle.mir_syntax.specs.declared.body.Proj.TheVariants.{Field, Downcast, Deref}
 use Rattle.mir_syntax.specs.declared.body.Place.{Place}
@@ -14,21 +12,20 @@ use Rattle.mir_syntax.specs.declared.body.Callee.TheVariants as callee
 use Rattle.mir_syntax.specs.declared.body.Arm.{Arm}
 use Rattle.mir_syntax.specs.declared.body.Term.{Term}
 use Rattle.mir_syntax.specs.declared.body.Term.TheVariants as term
-use Rattle.mir_syntax.specs.Tree.{Tree, empty, more, named}
+use Rattle.mir_syntax.specs.Tree.{Tree, named}
 use Rattle.mir_syntax.specs.Crate as c
-use Rattle.mir_syntax.specs.Crate.{TypedVariant, TypedDef, TypedRvalue, TypedStmt, TypedBlock}
-use Rattle.mir_syntax.specs.Shapes.{Shape, proj_ty, pointee, ◌>>=◌}
+use Rattle.mir_syntax.specs.Crate.{TypedDef, TypedRvalue, TypedStmt, TypedBlock}
+use Rattle.mir_syntax.specs.Shapes.{proj_ty, pointee, ◌>>=◌}
 use Rattle.mir_text.specs.Numbers.{bits_of, least, greatest}
 use Rattle.mir_text.specs.Words.{place_in}
-use Rattle.mir_text.specs.Grammar.{Items, items_of}
+use Rattle.mir_text.specs.Grammar.{items_of}
 use Rattle.mir_text.specs.GrammarTypes.{PathRule}
 use Rattle.mir_text.specs.GrammarPlaces as p
 use Rattle.mir_text.specs.GrammarPlaces.{PlaceRule, ValueRule, OperandRule}
 use Rattle.mir_text.specs.GrammarStatements as r
-use Rattle.mir_text.specs.GrammarStatements.{NamedRule, BuildRule, RvalueRule, StmtRule}
+use Rattle.mir_text.specs.GrammarStatements.{BuildRule, RvalueRule, StmtRule}
 use Rattle.mir_text.specs.GrammarTerms as g
 use Rattle.mir_text.specs.GrammarTerms.{ArmRule, TermRule, BlockRule}
-use Rattle.mir_text.specs.GrammarItems.{ArgRule}
 use Rattle.mir_text.specs.Names.{Names, string_at, path_bytes, last_name, without_last, ty_of}
 
 -- the locals that a function declares, each with its type, in order

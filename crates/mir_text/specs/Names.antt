@@ -1,5 +1,5 @@
 -- What the names of a derivation mean: byte strings, paths, definitions, types. A name that is defined twice means its first definition.
-use Rattle.std.specs.Prelude.{ℕ, zero, suc, Bool, true, false, ◌&&◌, ◌==◌, nat_eq, List, [], ◌∷◌, ◌++◌, map, length, get_or, slice_get, Option, Some, None, is_some, codes}
+use Rattle.std.specs.Prelude.{ℕ, Bool, true, false, ◌&&◌, nat_eq, List, [], ◌∷◌, ◌++◌, map, get_or, Option, Some, None, is_some, codes}
 use Rattle.mir_syntax.specs.declared.types.IntTy.{IntTy}
 use Rattle.mir_syntax.specs.declared.types.IntTy.TheVariants as i
 use Rattle.mir_syntax.specs.declared.types.ScalarTy.{ScalarTy}

@@ -1,10 +1,10 @@
 -- The crate that a derivation names.
-use Rattle.std.specs.Prelude.{ℕ, zero, suc, Bool, List, [], ◌∷◌, ◌++◌, map, length, Option, Some, None}
+use Rattle.std.specs.Prelude.{ℕ, zero, suc, List, [], ◌∷◌, ◌++◌, map, length, Option, Some, None}
 use Rattle.mir_syntax.specs.declared.body.Inline.{Inline}
 use Rattle.mir_syntax.specs.declared.body.Inline.TheVariants as inlining
 use Rattle.mir_syntax.specs.Tree.{Tree, empty}
 use Rattle.mir_syntax.specs.Crate.{TypedOutside, TypedBody, TypedFunction, Crate}
-use Rattle.mir_text.specs.Grammar.{Items, items_of}
+use Rattle.mir_text.specs.Grammar.{items_of}
 use Rattle.mir_text.specs.GrammarTypes.{types_in}
 use Rattle.mir_text.specs.GrammarItems as m
 use Rattle.mir_text.specs.GrammarItems.{ArgRule, AttrRule, DeclRule, DeclsRule, FnRule, ItemRule, FileRule}

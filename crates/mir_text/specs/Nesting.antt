@@ -1,6 +1,6 @@
 -- Which derivations are good: types, places and scopes nest at most 65 deep, constants fit their types, and the numbers of fields, scopes
 -- and set variants are at most 4294967295. (The numbers of locals and blocks are so by their symbols.)
-use Rattle.std.specs.Prelude.{ℕ, suc, ◌≡◌, ◌≤◌, max, true, List}
+use Rattle.std.specs.Prelude.{ℕ, suc, ◌≡◌, ◌≤◌, max, true}
 use Rattle.mir_text.specs.declared.symbol.Symbol.{Symbol}
 use Rattle.mir_text.specs.declared.symbol.Symbol.TheVariants as s
 use Rattle.mir_text.specs.Numbers.{fits}
@@ -10,7 +10,7 @@ use Rattle.mir_text.specs.GrammarTypes.{TypeRule, TypesRule}
 use Rattle.mir_text.specs.GrammarPlaces.{PlaceRule, local, deref, field, variant_field, ValueRule, number, OperandRule, copy, move, bare, const}
 use Rattle.mir_text.specs.GrammarStatements as r
 use Rattle.mir_text.specs.GrammarStatements.{NamedRule, BuildRule, RvalueRule, StmtRule}
-use Rattle.mir_text.specs.GrammarTerms.{TermRule, goto, returns, never, switch, call, drop, assert, BlockRule}
+use Rattle.mir_text.specs.GrammarTerms.{TermRule, switch, call, drop, assert, BlockRule}
 use Rattle.mir_text.specs.GrammarItems as m
 use Rattle.mir_text.specs.GrammarItems.{FieldRule, FieldsRule, VariantRule, ArgRule, DebugSymbol, DeclRule, DeclsRule, FnRule, ItemRule, FileRule}
 

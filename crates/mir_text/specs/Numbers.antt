@@ -1,5 +1,5 @@
 -- The numbers of integer types: the bits that hold them, and how they are written.
-use Rattle.std.specs.Prelude.{ℕ, ◌-◌, ◌^◌, Bool, true, false, ◌==◌, ◌&&◌, ◌||◌, not, nat_lt, if◌then◌else◌}
+use Rattle.std.specs.Prelude.{ℕ, ◌-◌, ◌^◌, Bool, true, false, ◌==◌, ◌&&◌, not, nat_lt, if◌then◌else◌}
 use Rattle.mir_syntax.specs.declared.types.IntTy.{IntTy}
 use Rattle.mir_syntax.specs.declared.types.IntTy.TheVariants as i
 

@@ -1,10 +1,9 @@
 -- The lines of the parts of a derivation: of each item, argument, `let`, statement and terminator, that of its first symbol.
-use Rattle.std.specs.Prelude.{ℕ, zero, suc, List, [], ◌∷◌, ◌++◌, map, length, drop, get_or}
+use Rattle.std.specs.Prelude.{ℕ, List, [], ◌∷◌, ◌++◌, length, drop, get_or}
 use Rattle.mir_text.specs.declared.symbol.Symbol.TheVariants as s
 use Rattle.mir_text.specs.Grammar.{Put, Items, end, last, more, items_put, each_put}
 use Rattle.mir_text.specs.GrammarStatements.{StmtRule}
-use Rattle.mir_text.specs.GrammarTerms.{TermRule, BlockRule, ended_put}
-use Rattle.mir_text.specs.GrammarTerms.{block_put}
+use Rattle.mir_text.specs.GrammarTerms.{TermRule, BlockRule, ended_put, block_put}
 use Rattle.mir_text.specs.GrammarItems as m
 use Rattle.mir_text.specs.GrammarItems.{ArgRule, arg_put, DeclRule, DeclsRule, inlined_put, decl_put, decls_put, FnRule, fn_front_put, result_put, ItemRule, item_put, FileRule}
 

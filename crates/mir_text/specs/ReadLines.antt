@@ -4,8 +4,6 @@ use Rattle.mir_syntax.specs.declared.lines.BlockLines.{BlockLines}
 use Rattle.mir_syntax.specs.declared.lines.FnLines.{FnLines}
 use Rattle.mir_syntax.specs.declared.lines.Lines.{Lines}
 use Rattle.mir_syntax.specs.Tree.{Tree}
-use Rattle.mir_text.specs.Grammar.{Items, items_of}
-use Rattle.mir_text.specs.GrammarTypes.{TypeRule}
 use Rattle.mir_text.specs.GrammarPlaces as p
 use Rattle.mir_text.specs.GrammarPlaces.{PlaceRule, OperandRule}
 use Rattle.mir_text.specs.GrammarStatements as r
@@ -13,7 +11,7 @@ use Rattle.mir_text.specs.GrammarStatements.{BuildRule, RvalueRule, StmtRule}
 use Rattle.mir_text.specs.GrammarTerms as g
 use Rattle.mir_text.specs.GrammarTerms.{TermRule}
 use Rattle.mir_text.specs.GrammarItems as m
-use Rattle.mir_text.specs.GrammarItems.{ArgRule, ItemRule}
+use Rattle.mir_text.specs.GrammarItems.{ArgRule}
 use Rattle.mir_text.specs.Names.{Names, ty_of, same_type}
 use Rattle.mir_text.specs.NamedBodies.{Declared, place_ty_of}
 use Rattle.mir_text.specs.Naming.{declared}

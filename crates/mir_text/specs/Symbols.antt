@@ -1,9 +1,8 @@
 -- The symbols of pieces, each with its line.
-use Rattle.std.specs.Prelude.{ℕ, ◌+◌, ◌^◌, Bool, ◌==◌, ◌&&◌, nat_lt, List, [], ◌∷◌, ◌++◌, map, length, take, drop, get_or, Option, Some, None, codes, if◌then◌else◌}
+use Rattle.std.specs.Prelude.{ℕ, ◌^◌, Bool, ◌==◌, ◌&&◌, nat_lt, List, [], ◌∷◌, ◌++◌, map, length, get_or, Option, Some, None, codes, if◌then◌else◌}
 use Rattle.std.specs.List.{prefix_len}
 use Rattle.std.specs.Char.{is_ascii_digit}
 use Rattle.std.specs.Str.Parse.{digits_value}
-use Rattle.mir_syntax.specs.declared.types.IntTy.{IntTy}
 use Rattle.mir_syntax.specs.declared.types.IntTy.TheVariants as i
 use Rattle.mir_syntax.specs.declared.body.BinOp.TheVariants as bin
 use Rattle.mir_syntax.specs.declared.body.OverOp.TheVariants as over

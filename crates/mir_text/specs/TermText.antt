@@ -1,7 +1,5 @@
 -- The canonical text of terminators and blocks.
 use Rattle.std.specs.Prelude.{ℕ, suc, Bool, true, false, List, [], ◌∷◌, ◌++◌, get_or, codes, decimal}
-use Rattle.mir_syntax.specs.declared.types.FnId.{FnId}
-use Rattle.mir_syntax.specs.declared.types.OutId.{OutId}
 use Rattle.mir_syntax.specs.declared.body.Callee.{Callee}
 use Rattle.mir_syntax.specs.declared.body.Callee.TheVariants as callee
 use Rattle.mir_syntax.specs.declared.body.Arm.{Arm}

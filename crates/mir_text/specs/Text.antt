@@ -1,10 +1,10 @@
 -- The canonical text of a crate.
-use Rattle.std.specs.Prelude.{ℕ, suc, Bool, true, false, List, [], ◌∷◌, ◌++◌, take, drop, codes, decimal}
+use Rattle.std.specs.Prelude.{ℕ, suc, Bool, true, false, List, [], ◌∷◌, ◌++◌, take, drop, codes}
 use Rattle.mir_syntax.specs.declared.types.Form.{Form}
 use Rattle.mir_syntax.specs.declared.types.Form.TheVariants as form
 use Rattle.mir_syntax.specs.declared.body.Inline.{Inline}
 use Rattle.mir_syntax.specs.declared.body.Inline.TheVariants as inlining
-use Rattle.mir_syntax.specs.Tree.{Tree, empty}
+use Rattle.mir_syntax.specs.Tree.{Tree}
 use Rattle.mir_syntax.specs.Crate.{TypedField, TypedVariant, TypedDef, TypedOutside, TypedBody, TypedFunction, Crate}
 use Rattle.mir_text.specs.TypeText.{piece, more_items, comma_list, type_text}
 use Rattle.mir_text.specs.PlaceText.{local_text, local_ty}

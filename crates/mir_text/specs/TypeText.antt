@@ -1,5 +1,5 @@
 -- The canonical text of types and constants, and what all texts are made with.
-use Rattle.std.specs.Prelude.{ℕ, ◌-◌, ◌^◌, Bool, true, false, ◌&&◌, not, nat_lt, List, [], ◌∷◌, ◌++◌, get_or, codes, decimal, if◌then◌else◌}
+use Rattle.std.specs.Prelude.{ℕ, Bool, true, false, List, [], ◌∷◌, ◌++◌, get_or, codes, decimal}
 use Rattle.mir_syntax.specs.declared.types.IntTy.{IntTy}
 use Rattle.mir_syntax.specs.declared.types.IntTy.TheVariants as i
 use Rattle.mir_syntax.specs.declared.types.ScalarTy.{ScalarTy}
