@@ -1,24 +1,23 @@
 -- A text of one function of the first form is read by the grammar.
-use Rattle.std.proofs.Common.{◌≡◌, ℕ, zero, suc, ◌+◌, ◌<◌, ◌≤◌, Bool, true, false, List, [], ◌∷◌, ◌++◌, map, length, Option, Some, None, refl, sym, ap, subst, ◌∙◌, arith}
-use Rattle.mir_syntax.specs.declared.body.Block.{Block}
+use Rattle.std.proofs.Common.{◌≡◌, ℕ, suc, ◌<◌, ◌≤◌, true, false, List, [], ◌∷◌, map, length, Some, None, refl, ap, ◌∙◌, arith}
 use Rattle.mir_text.specs.declared.symbol.Symbol.{Symbol}
 use Rattle.mir_text.specs.declared.symbol.Symbol.TheVariants as s
 use Rattle.mir_text.specs.Grammar.{Items, end, last, more, items_put, items_of, AllItems, each_put, AllOf}
 use Rattle.mir_text.specs.GrammarTypes as t
-use Rattle.mir_text.specs.GrammarTypes.{TypeRule, type_put, path_put}
+use Rattle.mir_text.specs.GrammarTypes.{TypeRule, type_put}
 use Rattle.mir_text.specs.GrammarStatements.{StmtRule}
 use Rattle.mir_text.specs.GrammarTerms as g
 use Rattle.mir_text.specs.GrammarTerms.{TermRule, term_put, BlockRule, block_put, ended_put}
 use Rattle.mir_text.specs.GrammarItems as m
-use Rattle.mir_text.specs.GrammarItems.{ArgRule, arg_put, DeclRule, decl_put, DeclsRule, decls_put, FnRule, fn_put, result_put, FileRule, file_put}
+use Rattle.mir_text.specs.GrammarItems.{ArgRule, arg_put, DeclRule, decl_put, DeclsRule, decls_put, FnRule, fn_put, result_put, file_put}
 use Rattle.mir_reader.specs.declared.text.SmallTy.{SmallTy}
 use Rattle.mir_reader.specs.declared.text.Declared.{Declared}
 use Rattle.mir_reader.specs.declared.text.FunctionText.{FunctionText}
-use Rattle.mir_reader.specs.Parser.{Found, Parse, and_then, open_paren, open_brace, close_brace, arrow}
-use Rattle.mir_reader.specs.Reading.{small_ty, begins_block, blocks_from, blocks, begins_let, lets_from, lets, arguments_from, arguments, body_text, after_path, after_fn, function, whole_of, function_text}
+use Rattle.mir_reader.specs.Parser.{Found, open_paren, open_brace, close_brace, arrow}
+use Rattle.mir_reader.specs.Reading.{small_ty, begins_block, blocks, begins_let, lets, arguments, body_text, after_path, after_fn, function, whole_of, function_text}
 use Rattle.mir_reader.specs.First.{FirstType, FirstArg, FirstDecl, FirstDecls, FirstTerm}
 use Rattle.mir_reader.specs.FirstText.{small_of, GoodStmt, block_of, GoodBlocks, arg_of, lets_listed, GoodFn, text_of, file_of}
-use Rattle.mir_reader.proofs.Laws.{IsRead, in_steps, some_same, on, open_paren-sound, open_brace-sound, close_brace-sound, arrow-sound}
+use Rattle.mir_reader.proofs.Laws.{IsRead, in_steps, some_same, open_paren-sound, open_brace-sound, close_brace-sound, arrow-sound}
 use Rattle.mir_reader.proofs.TypesRead.{small-complete, small-sound}
 use Rattle.mir_reader.proofs.ListsRead.{stmt-longer}
 use Rattle.mir_reader.proofs.FunctionRead.{blocks-complete, blocks-sound, decl_count, lets-complete, lets-sound, item_count, args-complete, args-sound}

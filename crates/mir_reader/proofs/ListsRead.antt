@@ -1,22 +1,20 @@
 -- Statements, blocks, `let` lines and arguments are read by the grammar.
-use Rattle.std.proofs.Common.{◌≡◌, ℕ, zero, suc, ◌+◌, ◌-◌, ◌<◌, ◌≤◌, Bool, true, false, not, ◌==◌, ◌&&◌, nat_eq, nat_lt, List, [], ◌∷◌, ◌++◌, map, length, Option, Some, None, refl, sym, ap, subst, ◌∙◌, arith, append_assoc, append-nil, length-append}
+use Rattle.std.proofs.Common.{◌≡◌, ℕ, zero, suc, ◌+◌, ◌-◌, ◌<◌, ◌≤◌, true, false, ◌==◌, List, [], ◌∷◌, ◌++◌, map, length, Some, refl, sym, ap, ◌∙◌, arith, append_assoc, append-nil}
 use Rattle.std.proofs.lemmas.Bool.{eqb-true}
 use Rattle.std.proofs.lemmas.Bool.Decides.{nat_tests}
 use Rattle.mir_syntax.specs.declared.body.Stmt.{Stmt}
-use Rattle.mir_syntax.specs.declared.body.Term.{Term}
 use Rattle.mir_syntax.specs.declared.body.Block.{Block}
 use Rattle.mir_text.specs.declared.symbol.Symbol.{Symbol}
 use Rattle.mir_text.specs.declared.symbol.Symbol.TheVariants as s
 use Rattle.mir_text.specs.Grammar.{each_put, AllOf}
-use Rattle.mir_text.specs.GrammarTypes as t
 use Rattle.mir_text.specs.GrammarPlaces as p
 use Rattle.mir_text.specs.GrammarPlaces.{OperandRule, operand_put}
 use Rattle.mir_text.specs.GrammarStatements as r
-use Rattle.mir_text.specs.GrammarStatements.{StmtRule, stmt_put}
+use Rattle.mir_text.specs.GrammarStatements.{StmtRule}
 use Rattle.mir_text.specs.GrammarTerms as g
 use Rattle.mir_text.specs.GrammarTerms.{TermRule, term_put, BlockRule, block_put, ended_put}
-use Rattle.mir_reader.specs.Parser.{Found, Parse, and_then, open_brace, close_brace, colon, semicolon}
-use Rattle.mir_reader.specs.Reading.{assignment, term, begins_statement, more_statements, statements_from, statements, block_body, label, labelled, begins_block, more_blocks, blocks_from, blocks}
+use Rattle.mir_reader.specs.Parser.{open_brace, close_brace, colon, semicolon}
+use Rattle.mir_reader.specs.Reading.{assignment, term, begins_statement, statements_from, statements, block_body, label, labelled}
 use Rattle.mir_reader.specs.First.{FirstTerm}
 use Rattle.mir_reader.specs.FirstText.{GoodOperand, GoodStmt, stmt_of, term_of, GoodBlock, block_of}
 use Rattle.mir_reader.proofs.Laws.{IsRead, in_steps, some_same, on, colon-sound, semicolon-sound, open_brace-sound, close_brace-sound}
