@@ -1,0 +1,17 @@
+pub mod Upd
+pub mod Lists
+pub mod Parts
+pub mod Claims
+pub mod Draws
+pub mod Looks
+pub mod Counts
+pub mod Steals
+pub mod Ends
+pub mod Keeps
+pub mod Waiting
+pub mod Turns
+pub mod Progress
+pub mod Start
+pub mod Falls
+pub mod Reasons
+pub mod Ripe
