@@ -1,5 +1,6 @@
 pub mod formers
 pub mod Table
+pub mod TypeIndex
 pub mod Tree
 pub mod Crate
 pub mod Shapes

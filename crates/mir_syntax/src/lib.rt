@@ -6,6 +6,8 @@
 //! by `specs/Shapes.antt`) and `Body::copy` (an equal body).
 #![tactic(auto)]
 
+ghost use Rattle.std.specs.Prelude.{◌≡◌};
+
 mod body;
 mod copied;
 mod lines;
@@ -13,6 +15,8 @@ mod list;
 mod number;
 mod program;
 mod stage;
+mod type_index;
+mod type_table;
 mod types;
 
 pub use body::{
@@ -27,10 +31,28 @@ pub use program::Program;
 pub use stage::Stage;
 pub use types::{Def, Field, FnId, Form, IntTy, OutId, Outside, ScalarTy, Ty, TyId, Variant};
 
+use std::alloc::{AllocError, AllocFailed};
+
 /// Memory was asked for and not given.
 #[derive(Clone, Copy, Debug, PartialEq, Eq, thiserror::Error)]
 #[error("out of memory")]
 pub struct OutOfMemory;
+
+impl From<AllocError> for OutOfMemory {
+    ghost from_gives = { λ _ e. e ≡ record {} };
+
+    fn from(_error: AllocError) -> OutOfMemory {
+        OutOfMemory
+    }
+}
+
+impl<T: Drop> From<AllocFailed<T>> for OutOfMemory {
+    ghost from_gives = { λ _ e. e ≡ record {} };
+
+    fn from(_failed: AllocFailed<T>) -> OutOfMemory {
+        OutOfMemory
+    }
+}
 
 /// A name or a path, as its bytes.
 pub type Name = List<u8>;
