@@ -52,9 +52,7 @@ impl<J: Jobs> Slots<J> {
         ensures { IfOk result (λ s. s ≡ jobs.now) }
     {
         let count = jobs.queries();
-        let Ok(mut slots) = Vec::with_capacity(alloc, count as usize) else {
-            return Err(OutOfMemory);
-        };
+        let mut slots: Vec<StealSlot<Kept<J>>> = Vec::with_capacity(alloc, count as usize)?;
         for q in 0..count {
             let tag = Tag {
                 query: q,

@@ -349,15 +349,12 @@ impl<J: Jobs + Drop> QueryTable<J> {
         let _ = roots;
         let count = jobs.queries() as usize + 1;
         let slots = Slots::new(alloc, &jobs)?;
-        let Ok(words) = vec![in alloc; 0; count] else {
-            return Err(OutOfMemory);
-        };
+        let words: Vec<u64> = vec![in alloc; 0; count]?;
         let about = About { jobs, workers };
-        let Ok((table, mut first)) = Table::of_words(alloc, words.as_slice(), &about) else {
-            return Err(OutOfMemory);
-        };
-        let mut seats = List::new(alloc);
-        for _ in 1..workers {
+        let (table, mut first) = Table::of_words(alloc, words.as_slice(), &about)?;
+        let mut seats: List<Seat> = List::new(alloc);
+        for k in 1..workers {
+            let _ = k;
             seats.push(table.shared.split_seat::<NewSeat>(&mut first))?;
         }
         seats.push(first)?;

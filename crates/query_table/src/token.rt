@@ -1,3 +1,5 @@
+ghost use Rattle.std.specs.Prelude.{◌≡◌};
+
 use crate::table::Seat;
 use std::snapshot::Snapshot;
 

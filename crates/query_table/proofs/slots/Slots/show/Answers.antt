@@ -1,5 +1,5 @@
-use Rattle.std.proofs.Common.{◌≡◌, ◌<◌, ℕ, length, sym, ap, ◌∙◌, arith}
-use Rattle.sched_core.proofs.Listed.{item_at}
+use Rattle.std.proofs.Common.{◌≡◌, ◌<◌, ℕ, length, refl, sym, ap, ◌∙◌, arith}
+use Rattle.std.proofs.lemmas.Option.{slice_get_read}
 use Rattle.query_table.proofs.slots.Slots.show.Goals as goal
 
 pub returns : goal.returns
@@ -11,5 +11,5 @@ returns g c =
     let len = c.self.invariant.0 in
     let ok = s.slots.ok.0 in
     let lt' : q < length s.slots.items = omega arith in
-    let i = c.self.invariant.1 q c.index.result.now (item_at s.slots.items q c.index.result.now lt' c.index.ensures) in
+    let i = c.self.invariant.1 q c.index.result.now (slice_get_read s.slots.items (length s.slots.items) q c.index.result.now refl lt' c.index.ensures) in
     (ap (λ t. t.query) c.show.ensures ∙ i.0, ap (λ t. t.jobs.value) c.show.ensures ∙ (i.1 ∙ c.self.view_is))
