@@ -1,8 +1,7 @@
 -- What the calls answer, and which seats and tokens belong to a table.
 use Rattle.std.specs.Prelude.{◌≡◌, ◌≢◌, ℕ, ◌<◌, ◌≤◌, false, List, []}
 use Rattle.atomic_table.specs.Seated.{TableId}
-use Rattle.atomic_table.specs.declared.shared.Seat.{Seat}
-use Rattle.query_table.specs.declared.view.View.{View}
+use Rattle.query_table.specs.declared.table.Seat.{Seat}
 use Rattle.query_table.specs.declared.token.Claim.{Claim}
 use Rattle.query_table.specs.declared.token.Borrow.{Borrow}
 use Rattle.query_table.specs.declared.token.Stolen.{Stolen}
@@ -12,22 +11,22 @@ use Rattle.query_table.specs.declared.table.Claimed.{Claimed}
 use Rattle.query_table.specs.declared.table.Claimed.TheVariants.{Won, Lost}
 
 -- the seat is of this table, and holds none of its slots
-abbrev pub IsSeatOf : TableId → Seat (Unit {0}) View → Type 0
-IsSeatOf table seat = (seat.table_id ≡ table) × (seat.me.1 ≡ [])
+abbrev pub IsSeatOf : TableId → Seat → Type 0
+IsSeatOf table seat = (seat.token.table_id ≡ table) × (seat.token.me.1 ≡ [])
 
 -- the claim is of this table, of one of its queries
 pub record IsClaimOf (table : TableId) (queries : ℕ) (claim : Claim) : Type 0 where
-  pub same : claim.by.value.table_id ≡ table
+  pub same : claim.by.value.token.table_id ≡ table
   pub below : claim.query < queries
 
 -- the borrow is of this table, of the slot of one of its queries
 pub record IsBorrowOf (table : TableId) (queries : ℕ) (borrow : Borrow) : Type 0 where
-  pub same : borrow.by.value.table_id ≡ table
+  pub same : borrow.by.value.token.table_id ≡ table
   pub below : borrow.slot < queries
 
 -- the slot that was stolen is of this table, of one of its queries
 pub record IsStolenOf (table : TableId) (queries : ℕ) (stolen : Stolen) : Type 0 where
-  pub same : stolen.by.value.table_id ≡ table
+  pub same : stolen.by.value.token.table_id ≡ table
   pub below : stolen.slot < queries
 
 -- a claim of the query that was just won

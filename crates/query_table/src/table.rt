@@ -38,7 +38,22 @@ impl<J: Jobs> TableRule<(), View, About<J>> for Rule<J> {
     ghost first = { λ about. first_view };
 }
 
-pub type Seat = atomic_table::Seat<(), View>;
+/// A worker's place at a table: the token with which it steps, and the worker's number.
+#[derive(Drop)]
+pub struct Seat {
+    token: atomic_table::Seat<(), View>,
+    worker: u32,
+    ghost numbered: { token.me.0.number ≡ worker },
+}
+
+impl Seat {
+    /// The number of the seat's worker, counted from 0.
+    pub fn worker(&self) -> u32
+        ensures { result ≡ self.now.token.me.0.number }
+    {
+        self.worker
+    }
+}
 
 /// The words and the answers of the queries of some jobs, over which several seats work at once.
 #[derive(Drop)]
@@ -88,14 +103,14 @@ impl<J: Jobs> QueryTable<J> {
     pub fn claim(&self, seat: &mut Seat, q: u32) -> Claimed
         requires seat { IsSeatOf self.now.0 seat.old }
         requires query { q < (J.plan self.now.1).queries }
-        requires next { next_of_view (J.plan self.now.1) seat.old.me.0 ≡ Some q }
+        requires next { next_of_view (J.plan self.now.1) seat.old.token.me.0 ≡ Some q }
         ensures seat { IsSeatOf self.now.0 seat.new }
-        ensures step { (found : ℕ) × (seat.new.me.0 ≡ claim_view seat.old.me.0 q found) × claim_answer self.now.0 (J.plan self.now.1).queries q result found }
+        ensures step { (found : ℕ) × (seat.new.token.me.0 ≡ claim_view seat.old.token.me.0 q found) × claim_answer self.now.0 (J.plan self.now.1).queries q result found }
     {
         let found = self
             .table
             .shared
-            .compare_exchange::<Claims>(seat, q as usize + 1, 0, 1);
+            .compare_exchange::<Claims>(&mut seat.token, q as usize + 1, 0, 1);
         if found != 0 {
             return Claimed::Lost(found);
         }
@@ -154,12 +169,12 @@ impl<J: Jobs> QueryTable<J> {
     pub fn look(&self, seat: &mut Seat, q: u32) -> Looked
         requires seat { IsSeatOf self.now.0 seat.old }
         requires query { q < (J.plan self.now.1).queries }
-        requires next { WaitFits (J.plan self.now.1) seat.old.me.0.stack (last_root (J.plan self.now.1) seat.old.me.0.drawn) q }
-        requires other { has q (queries_of seat.old.me.0.stack) ≡ false }
+        requires next { WaitFits (J.plan self.now.1) seat.old.token.me.0.stack (last_root (J.plan self.now.1) seat.old.token.me.0.drawn) q }
+        requires other { has q (queries_of seat.old.token.me.0.stack) ≡ false }
         ensures seat { IsSeatOf self.now.0 seat.new }
-        ensures step { (found : ℕ) × (seat.new.me.0 ≡ look_view seat.old.me.0 q found) × look_answer result found }
+        ensures step { (found : ℕ) × (seat.new.token.me.0 ≡ look_view seat.old.token.me.0 q found) × look_answer result found }
     {
-        let found = self.table.shared.load::<Looks>(seat, q as usize + 1);
+        let found = self.table.shared.load::<Looks>(&mut seat.token, q as usize + 1);
         if found < 2 {
             Looked::NotYet(found)
         } else if found == FAILED {
@@ -175,9 +190,9 @@ impl<J: Jobs> QueryTable<J> {
         requires seat { IsSeatOf self.now.0 seat.old }
         requires claim { IsClaimOf self.now.0 (J.plan self.now.1).queries claim }
         requires filled { IsTrue claim.filled }
-        requires ripe { IsRipe (J.plan self.now.1) seat.old.me.0 claim.query }
+        requires ripe { IsRipe (J.plan self.now.1) seat.old.token.me.0 claim.query }
         ensures seat { IsSeatOf self.now.0 seat.new }
-        ensures step { seat.new.me.0 ≡ publish_view seat.old.me.0 claim.query }
+        ensures step { seat.new.token.me.0 ≡ publish_view seat.old.token.me.0 claim.query }
     {
         let Claim {
             query,
@@ -186,17 +201,17 @@ impl<J: Jobs> QueryTable<J> {
         } = claim;
         self.table
             .shared
-            .store::<Publishes>(seat, query as usize + 1, 2);
+            .store::<Publishes>(&mut seat.token, query as usize + 1, 2);
     }
 
     /// One store of 2^40 on the word of the claim's query. The claim is the seat's latest, and nothing is borrowed.
     pub fn fail(&self, seat: &mut Seat, claim: Claim)
         requires seat { IsSeatOf self.now.0 seat.old }
         requires claim { IsClaimOf self.now.0 (J.plan self.now.1).queries claim }
-        requires latest { (given : List ℕ) × ((rest : List (ℕ × List ℕ)) × (seat.old.me.0.stack ≡ (claim.query, given) ∷ rest)) }
-        requires free { seat.old.me.0.borrow ≡ None }
+        requires latest { (given : List ℕ) × ((rest : List (ℕ × List ℕ)) × (seat.old.token.me.0.stack ≡ (claim.query, given) ∷ rest)) }
+        requires free { seat.old.token.me.0.borrow ≡ None }
         ensures seat { IsSeatOf self.now.0 seat.new }
-        ensures step { seat.new.me.0 ≡ fail_view seat.old.me.0 claim.query }
+        ensures step { seat.new.token.me.0 ≡ fail_view seat.old.token.me.0 claim.query }
     {
         let Claim {
             query,
@@ -205,7 +220,7 @@ impl<J: Jobs> QueryTable<J> {
         } = claim;
         self.table
             .shared
-            .store::<Fails>(seat, query as usize + 1, FAILED);
+            .store::<Fails>(&mut seat.token, query as usize + 1, FAILED);
     }
 }
 
@@ -251,15 +266,15 @@ impl<J: Jobs> QueryTable<J> {
     pub fn borrow(&self, seat: &mut Seat, claim: &Claim, slot: u32) -> Borrow
         requires seat { IsSeatOf self.now.0 seat.old }
         requires claim { IsClaimOf self.now.0 (J.plan self.now.1).queries claim.now }
-        requires may { MayBorrowAs (J.plan self.now.1) seat.old.me.0 claim.now.query slot }
+        requires may { MayBorrowAs (J.plan self.now.1) seat.old.token.me.0 claim.now.query slot }
         ensures seat { IsSeatOf self.now.0 seat.new }
-        ensures step { (found : ℕ) × (seat.new.me.0 ≡ borrow_view seat.old.me.0 slot found) }
+        ensures step { (found : ℕ) × (seat.new.token.me.0 ≡ borrow_view seat.old.token.me.0 slot found) }
         ensures borrow { IsBorrowOf self.now.0 (J.plan self.now.1).queries result × (result.slot ≡ slot) }
     {
         let _ = claim;
         self.table
             .shared
-            .fetch_add::<Borrows>(seat, slot as usize + 1, 1);
+            .fetch_add::<Borrows>(&mut seat.token, slot as usize + 1, 1);
         Borrow {
             slot,
             by: Snapshot::of(seat),
@@ -270,14 +285,14 @@ impl<J: Jobs> QueryTable<J> {
     pub fn release(&self, seat: &mut Seat, borrow: Borrow)
         requires seat { IsSeatOf self.now.0 seat.old }
         requires borrow { IsBorrowOf self.now.0 (J.plan self.now.1).queries borrow }
-        requires holds { seat.old.me.0.borrow ≡ Some borrow.slot }
+        requires holds { seat.old.token.me.0.borrow ≡ Some borrow.slot }
         ensures seat { IsSeatOf self.now.0 seat.new }
-        ensures step { (found : ℕ) × (seat.new.me.0 ≡ release_view seat.old.me.0 borrow.slot found) }
+        ensures step { (found : ℕ) × (seat.new.token.me.0 ≡ release_view seat.old.token.me.0 borrow.slot found) }
     {
         let Borrow { slot, by: _ } = borrow;
         self.table
             .shared
-            .fetch_sub::<Releases>(seat, slot as usize + 1, 1);
+            .fetch_sub::<Releases>(&mut seat.token, slot as usize + 1, 1);
     }
 
     /// One compare and exchange of 2 with 2^41 on the slot's word, which always finds it done without borrowers. The claim is the seat's
@@ -285,15 +300,15 @@ impl<J: Jobs> QueryTable<J> {
     pub fn steal(&self, seat: &mut Seat, claim: &Claim, slot: u32) -> Stolen
         requires seat { IsSeatOf self.now.0 seat.old }
         requires claim { IsClaimOf self.now.0 (J.plan self.now.1).queries claim.now }
-        requires may { MayStealAs (J.plan self.now.1) seat.old.me.0 claim.now.query slot }
+        requires may { MayStealAs (J.plan self.now.1) seat.old.token.me.0 claim.now.query slot }
         ensures seat { IsSeatOf self.now.0 seat.new }
-        ensures step { seat.new.me.0 ≡ steal_view seat.old.me.0 slot 2 }
+        ensures step { seat.new.token.me.0 ≡ steal_view seat.old.token.me.0 slot 2 }
         ensures stolen { IsStolenOf self.now.0 (J.plan self.now.1).queries result × (result.slot ≡ slot) }
     {
         let _ = claim;
         self.table
             .shared
-            .compare_exchange::<Steals>(seat, slot as usize + 1, 2, STOLEN);
+            .compare_exchange::<Steals>(&mut seat.token, slot as usize + 1, 2, STOLEN);
         Stolen {
             slot,
             by: Snapshot::of(seat),
@@ -303,11 +318,11 @@ impl<J: Jobs> QueryTable<J> {
     /// One addition of 1 on the count of draws. The stack is empty, an earlier root was seen done or failed, and no draw has found none yet.
     pub fn draw(&self, seat: &mut Seat) -> Option<u32>
         requires seat { IsSeatOf self.now.0 seat.old }
-        requires may { MayDrawAs (J.plan self.now.1) seat.old.me.0 }
+        requires may { MayDrawAs (J.plan self.now.1) seat.old.token.me.0 }
         ensures seat { IsSeatOf self.now.0 seat.new }
-        ensures step { (found : ℕ) × (seat.new.me.0 ≡ draw_view seat.old.me.0 found) × MatchOption result ((J.plan self.now.1).roots ≤ found) (λ root. (found < (J.plan self.now.1).roots) × (root ≡ (J.plan self.now.1).root found)) }
+        ensures step { (found : ℕ) × (seat.new.token.me.0 ≡ draw_view seat.old.token.me.0 found) × MatchOption result ((J.plan self.now.1).roots ≤ found) (λ root. (found < (J.plan self.now.1).roots) × (root ≡ (J.plan self.now.1).root found)) }
     {
-        let found = self.table.shared.fetch_add::<Draws>(seat, 0, 1);
+        let found = self.table.shared.fetch_add::<Draws>(&mut seat.token, 0, 1);
         if found < self.jobs.roots() as u64 {
             Some(self.jobs.root(found as u32))
         } else {
@@ -343,7 +358,7 @@ impl<J: Jobs + Drop> QueryTable<J> {
         requires { (0 < workers) × (workers ≤ 64) }
         ensures jobs { IfOk result (λ o. o.table.1 ≡ jobs) }
         ensures count { IfOk result (λ o. length o.seats ≡ workers) }
-        ensures seats { IfOk result (λ o. All (λ s. IsSeatOf o.table.0 s × IsNew s.me.0) o.seats) }
+        ensures seats { IfOk result (λ o. All (λ s. IsSeatOf o.table.0 s × IsNew s.token.me.0) o.seats) }
     {
         let roots = jobs.roots();
         let _ = roots;
@@ -354,10 +369,15 @@ impl<J: Jobs + Drop> QueryTable<J> {
         let (table, mut first) = Table::of_words(alloc, words.as_slice(), &about)?;
         let mut seats: List<Seat> = List::new(alloc);
         for k in 1..workers {
-            let _ = k;
-            seats.push(table.shared.split_seat::<NewSeat>(&mut first))?;
+            seats.push(Seat {
+                token: table.shared.split_seat::<NewSeat>(&mut first),
+                worker: k,
+            })?;
         }
-        seats.push(first)?;
+        seats.push(Seat {
+            token: first,
+            worker: 0,
+        })?;
         let About { jobs, workers: _ } = about;
         Ok(Opened {
             table: QueryTable { table, slots, jobs },
