@@ -7,11 +7,15 @@
 //! `look`, `borrow`, `release`, `steal`, `publish`, `fail` and `draw`, which take no `Wait` and no memory, and `show`, `take`, `put`, under `Wait`.
 #![tactic(auto)]
 
+mod closed;
+mod gate;
 mod slots;
 mod table;
 mod token;
 mod view;
 
+pub use closed::Closed;
+pub use gate::{Gate, OpenGate};
 pub use slots::{AnswerShown, Kept, Slots, Tag};
 pub use table::{About, Claimed, Looked, Opened, QueryTable, Seat};
 pub use token::{Borrow, Claim, Stolen};

@@ -386,6 +386,20 @@ impl<J: Jobs + Drop> QueryTable<J> {
     }
 }
 
+impl<J: Jobs + Drop> QueryTable<J> {
+    /// The answers behind the words, and the jobs.
+    pub(crate) fn into_slots(self) -> (Slots<J>, J)
+        ensures { (result.0 ≡ self.1) × (result.1 ≡ self.1) }
+    {
+        let QueryTable {
+            table: _,
+            slots,
+            jobs,
+        } = self;
+        (slots, jobs)
+    }
+}
+
 impl<J: Jobs> QueryTable<J> {
     ghost use Rattle.query_table.specs.Answers.{IsClaimOf, IsBorrowOf, IsStolenOf};
     ghost use Rattle.std.specs.Prelude.{true, false};
