@@ -8,6 +8,7 @@
 #![tactic(auto)]
 
 mod closed;
+mod force;
 mod gate;
 mod slots;
 mod table;
