@@ -1,6 +1,9 @@
 -- Claims in a list and the stack of a seat's view.
 use Rattle.std.proofs.Common.{◌≡◌, ◌≢◌, ℕ, zero, suc, ◌+◌, ◌<◌, Bool, true, false, List, [], ◌∷◌, ◌++◌, length, ◌⊎◌, inl, inr, refl, sym, subst, ap, ◌∙◌, arith}
-use Rattle.std.specs.Prelude.{Option, Some, None}
+use Rattle.std.specs.Prelude.{Option, Some, None, slice_get, ◌-◌}
+use Rattle.std.proofs.lemmas.List.{length_push}
+use Rattle.std.proofs.lemmas.Option.{slice_get-get_or}
+use Rattle.std.proofs.Math.Seq.{get_or-append_seam}
 use Rattle.std.proofs.lemmas.Bool.Decides.{nat_tests}
 use Rattle.sched_core.specs.Plan.{Plan, IsLawful, has, next_need}
 use Rattle.sched_core.specs.State.{Entry, queries_of, below_top, next_of_top}
@@ -100,3 +103,23 @@ rising_more p laws q n (e ∷ es) next rising =
       ]),
       rising,
     )
+
+last_is : {H : Type 0} (hs : List H) (h : H) → slice_get (hs ++ h ∷ []) (length (hs ++ h ∷ []) - 1) ≡ Some h
+last_is hs h =
+    let long = length_push hs h in
+    let n : length (hs ++ h ∷ []) - 1 ≡ length hs = omega (arith, long) in
+    ap (slice_get (hs ++ h ∷ [])) n ∙ (slice_get-get_or (hs ++ h ∷ []) (length hs) h (omega (arith, long)) ∙ ap (λ x. Some x) (get_or-append_seam hs h [] h))
+
+-- the latest claim, read by its index, matches the top
+pub match_last : {H : Type 0} (R : H → Entry → Type 0) (es : List Entry) (items : List H) (h : H) → Matches R es items → Some h ≡ slice_get items (length items - 1)
+    → (e : Entry) × ((rest : List Entry) × ((es ≡ e ∷ rest) × R h e))
+match_last {H = H} R [] items h m at = let none : slice_get items (length items - 1) ≡ None = ap (λ (xs : List H). slice_get xs (length xs - 1)) m in let both : Some h ≡ None = at ∙ none in absurd (cc)
+match_last {H = H} R (e ∷ es) items h m at =
+    let here : slice_get items (length items - 1) ≡ Some m.0 = ap (λ (xs : List H). slice_get xs (length xs - 1)) m.1.1.0 ∙ last_is m.1.0 m.0 in
+    let both : Some h ≡ Some m.0 = at ∙ here in
+    let same : h ≡ m.0 = cc in
+    (e, (es, (refl, subst (λ (x : H). R x e) (sym same) m.1.1.1)))
+
+-- a top by its parts
+pub top_is : (e : Entry) (c : ℕ) (given : List ℕ) (rest es : List Entry) → es ≡ e ∷ rest → e.0 ≡ c → e.1 ≡ given → es ≡ (c, given) ∷ rest
+top_is e c given rest es h a b = h ∙ (λ i. (a i, b i) ∷ rest)
