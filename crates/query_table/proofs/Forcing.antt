@@ -91,9 +91,9 @@ looked_failed p table q n s t f sits step next =
 pub forcing_claimed : (p : Plan) → IsLawful p → (table : TableId) (q n found : ℕ) (s t : Seat) → IsForcing p table q s → IsSeatOf table t
     → t.token.me.0 ≡ claim_view s.token.me.0 n found → found ≡ 0 → next_of_top p s.token.me.0.stack (Some q) ≡ Some n
     → IsForcing p table q t × (t.token.me.0.stack ≡ (n, []) ∷ s.token.me.0.stack)
-forcing_claimed p laws table q n found s t f sits step zero next =
+forcing_claimed p laws table q n found s t f sits step nought next =
     let v = s.token.me.0 in
-    let won : t.token.me.0 ≡ claim_view v n 0 = step ∙ ap (claim_view v n) zero in
+    let won : t.token.me.0 ≡ claim_view v n 0 = step ∙ ap (claim_view v n) nought in
     let stack : t.token.me.0.stack ≡ (n, []) ∷ v.stack = ap (λ w. w.stack) won in (
       record {
         of_table = sits;
