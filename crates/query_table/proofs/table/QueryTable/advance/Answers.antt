@@ -31,3 +31,6 @@ returns-in-Failed-clause-turn g c =
       looked_failed (g.J.Jobs.plan c.args.self.now.1) c.args.self.now.0 c.args.q c.in-Some.need s t c.requires.seat c.in-Failed.ensures.seat (st.1 ∙ ap (look_view s.token.me.0 c.in-Some.need) st.2) (sym c.in-Some.ensures),
       match_at {H = Held g.row.J.Denot g.row.J-Answer.Denot g.row.J-Work.Denot} (λ h e. ClaimedAs c.args.self.now.0 (g.J.Jobs.plan c.args.self.now.1).queries h.claim e) s.token.me.0.stack t.token.me.0.stack c.args.chain.now.items looked.1 (match_weaker {H = Held g.row.J.Denot g.row.J-Answer.Denot g.row.J-Work.Denot} (λ h e. HeldAs {W = g.row.J-Work.Denot} (g.J.Jobs.plan c.args.self.now.1) (g.J.Jobs.is_work c.args.self.now.1) g.J.Jobs.given c.args.self.now.0 h.claim h.work e) (λ h e. ClaimedAs c.args.self.now.0 (g.J.Jobs.plan c.args.self.now.1).queries h.claim e) (λ h e r. record { of_table = r.of_table; query = r.query }) s.token.me.0.stack c.args.chain.now.items c.requires.chain),
     )
+
+pub next_need-requires-after_bounds : goal.next_need-requires-after_bounds
+next_need-requires-after_bounds g c κs within = subst (λ (xs : List (Held g.row.J.Denot g.row.J-Answer.Denot g.row.J-Work.Denot)). Matches {H = Held g.row.J.Denot g.row.J-Answer.Denot g.row.J-Work.Denot} (λ h e. HeldAs {W = g.row.J-Work.Denot} (g.J.Jobs.plan c.args.self.now.1) (g.J.Jobs.is_work c.args.self.now.1) g.J.Jobs.given c.args.self.now.0 h.claim h.work e) c.args.seat.now.token.me.0.stack xs) (sym c.deref.ensures.value) c.requires.chain
