@@ -45,7 +45,12 @@ impl<J: Jobs + Drop> QueryTable<J> {
 
     /// Closes the table and gives the jobs back with the roots' answers. The seat has seen every root done, and holds neither a claim nor a
     /// borrow.
-    pub fn answers<R: Wait>(self, rt: &R, alloc: Global, seat: Seat) -> Result<Closed<J>, OutOfMemory>
+    pub fn answers<R: Wait>(
+        self,
+        rt: &R,
+        alloc: Global,
+        seat: Seat,
+    ) -> Result<Closed<J>, OutOfMemory>
         requires seat { IsSeatOf self.0 seat }
         requires seen { (i : ℕ) → i < (J.plan self.1).roots → has ((J.plan self.1).root i) seat.token.me.0.seen ≡ true }
         requires empty { seat.token.me.0.stack ≡ [] }

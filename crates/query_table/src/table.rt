@@ -174,7 +174,10 @@ impl<J: Jobs> QueryTable<J> {
         ensures seat { IsSeatOf self.now.0 seat.new }
         ensures step { (found : ℕ) × (seat.new.token.me.0 ≡ look_view seat.old.token.me.0 q found) × look_answer result found }
     {
-        let found = self.table.shared.load::<Looks>(&mut seat.token, q as usize + 1);
+        let found = self
+            .table
+            .shared
+            .load::<Looks>(&mut seat.token, q as usize + 1);
         if found < 2 {
             Looked::NotYet(found)
         } else if found == FAILED {

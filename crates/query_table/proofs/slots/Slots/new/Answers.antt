@@ -16,11 +16,13 @@ loop-q-preserved g c =
     record {
       count = omega arith;
       room = omega arith;
-      tags = λ q slot h. elim (snoc_get c.loop-q.slots.items c.new.result slot q (ap (λ xs. slice_get xs q) (sym e.items) ∙ h))
-        [ inl k ↦ i.tags q slot k
-        | inr k ↦ (let here = k.0 in let same : c.loop-q.q ≡ q = omega arith in
-            (ap (λ t. t.query) (sym k.1) ∙ (ap (λ t. t.query) c.new.ensures ∙ same),
-              ap (λ t. t.jobs.value) (sym k.1) ∙ (ap (λ t. t.jobs.value) c.new.ensures ∙ c.of.ensures))) ];
+      tags = λ q slot h. elim (snoc_get c.loop-q.slots.items c.new.result slot q (ap (λ xs. slice_get xs q) (sym e.items) ∙ h)) [
+        | inl k ↦ i.tags q slot k
+        | inr k ↦ (let here = k.0 in let same : c.loop-q.q ≡ q = omega arith in (
+          ap (λ t. t.query) (sym k.1) ∙ (ap (λ t. t.query) c.new.ensures ∙ same),
+          ap (λ t. t.jobs.value) (sym k.1) ∙ (ap (λ t. t.jobs.value) c.new.ensures ∙ c.of.ensures),
+        ))
+      ];
     }
 
 pub invariant_of-result : goal.invariant_of-result
