@@ -82,9 +82,9 @@ looked_failed p table q n s t f sits step next =
       thieves = g.thieves;
       stands = g.stands;
       failed = λ none.
-        let root : Some q ≡ Some n = ap (λ (es : List Entry). next_of_top p es (Some q)) (sym none ∙ looked.1) ∙ next in
-        let same : q ≡ n = cc in
-        ap (λ w. has q w.gone) step ∙ (subst (λ (r : ℕ). has r (n ∷ s.token.me.0.gone) ≡ true) (sym same) (has_first n s.token.me.0.gone));
+          let root : Some q ≡ Some n = ap (λ (es : List Entry). next_of_top p es (Some q)) (sym none ∙ looked.1) ∙ next in
+          let same : q ≡ n = cc in
+          ap (λ w. has q w.gone) step ∙ (subst (λ (r : ℕ). has r (n ∷ s.token.me.0.gone) ≡ true) (sym same) (has_first n s.token.me.0.gone));
     }
 
 -- after a claim that was won
@@ -120,8 +120,8 @@ gave_up table q c given rest s t stands free thieves sits step top =
         thieves = ap (λ w. w.thieves) step ∙ thieves;
         stands = subst (λ (es : List Entry). StandsOn q es) (sym stack) (stands_below q (c, given) rest whole);
         failed = λ none.
-          let same = stands_alone q (c, given) rest whole (sym stack ∙ none) in
-          ap (λ w. has q w.gone) step ∙ subst (λ (r : ℕ). has r (c ∷ v.gone) ≡ true) same (has_first c v.gone);
+            let same = stands_alone q (c, given) rest whole (sym stack ∙ none) in
+            ap (λ w. has q w.gone) step ∙ subst (λ (r : ℕ). has r (c ∷ v.gone) ≡ true) same (has_first c v.gone);
       },
       stack,
     )
@@ -244,14 +244,14 @@ all_seen p laws v c given None next last seen kept = (
 all_seen p laws v c given (Some n) next last seen kept = elim last [
   | inl none ↦ absurd (cc)
   | inr steals ↦ (
-    let l = laws.stolen_last n c steals in
-    let next' : next_need (l.0 ++ n ∷ []) given ≡ Some n = ap (λ (ns : List ℕ). next_need ns given) (sym l.1) ∙ next in (
-      (λ m here other. elim (has_snoc l.0 n m (ap (has m) (sym l.1) ∙ here)) [
-        | inl before ↦ next_last l.0 n given l.2 next' m before
-        | inr same ↦ absurd (other (steals ∙ ap (λ (x : ℕ). Some x) (sym same)))
-      ]),
-      (λ s again. let both : Some n ≡ Some s = sym steals ∙ again in let same : n ≡ s = cc in seen s (ap (λ (x : ℕ). Some x) same)),
-    ))
+      let l = laws.stolen_last n c steals in
+      let next' : next_need (l.0 ++ n ∷ []) given ≡ Some n = ap (λ (ns : List ℕ). next_need ns given) (sym l.1) ∙ next in (
+        (λ m here other. elim (has_snoc l.0 n m (ap (has m) (sym l.1) ∙ here)) [
+          | inl before ↦ next_last l.0 n given l.2 next' m before
+          | inr same ↦ absurd (other (steals ∙ ap (λ (x : ℕ). Some x) (sym same)))
+        ]),
+        (λ s again. let both : Some n ≡ Some s = sym steals ∙ again in let same : n ≡ s = cc in seen s (ap (λ (x : ℕ). Some x) same)),
+      ))
 ]
 
 -- the next need is a query

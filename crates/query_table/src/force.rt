@@ -132,12 +132,7 @@ impl<J: Jobs> QueryTable<J> {
     }
 
     /// Steals the slot that the claim's query steals, if any, and takes its answer out.
-    fn take_stolen<R: Wait>(
-        &self,
-        rt: &R,
-        seat: &mut Seat,
-        claim: &Claim,
-    ) -> Option<J::Answer>
+    fn take_stolen<R: Wait>(&self, rt: &R, seat: &mut Seat, claim: &Claim) -> Option<J::Answer>
         requires seat { IsSeatOf self.now.0 seat.old }
         requires claim { IsClaimOf self.now.0 (J.plan self.now.1).queries claim.now }
         requires top { (given : List ℕ) × ((rest : List (ℕ × List ℕ)) × ((seat.old.token.me.0.stack ≡ (claim.now.query, given) ∷ rest) × AllSeenAs (J.plan self.now.1) seat.old.token.me.0 claim.now.query given)) }
@@ -195,13 +190,7 @@ impl<J: Jobs> QueryTable<J> {
             return None;
         };
         match self.jobs.steals(query) {
-            Some(slot) => {
-                if slot == need {
-                    None
-                } else {
-                    Some(need)
-                }
-            }
+            Some(slot) => { if slot == need { None } else { Some(need) } }
             None => Some(need),
         }
     }

@@ -118,5 +118,5 @@ returns-else-is_empty-clause-turn g c =
     let u = c.take_stolen-taken.new.seat in
     let h = c.take_stolen-taken.ensures.view in
     let done = forcing_published (g.J.Jobs.plan c.args.self.now.1) c.args.self.now.0 c.args.q c.args.held.claim.query given rest c.args.seat.now u c.publish.new.seat c.requires.seat whole h c.publish.ensures.seat
-        (c.publish.ensures.step ∙ ap (λ (x : Claim). publish_view u.token.me.0 x.query) c.put.ensures) in
+    (c.publish.ensures.step ∙ ap (λ (x : Claim). publish_view u.token.me.0 x.query) c.put.ensures) in
     (done.0, match_at {H = Held g.row.J.Denot g.row.J-Answer.Denot g.row.J-Work.Denot} (λ h e. HeldAs {W = g.row.J-Work.Denot} (g.J.Jobs.plan c.args.self.now.1) (g.J.Jobs.is_work c.args.self.now.1) g.J.Jobs.given c.args.self.now.0 h.claim h.work e) rest c.publish.new.seat.token.me.0.stack c.args.chain.now.items done.1 top.1.1.2)

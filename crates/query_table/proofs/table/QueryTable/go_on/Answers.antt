@@ -25,5 +25,5 @@ answer-requires-clause-seen g c κs within =
     let given = g.J.Jobs.given held.work in
     let whole = top_is top.0 held.claim.query given top.1.0 c.args.seat.now.token.me.0.stack top.1.1.0 k.query k.has_given in
     all_seen (g.J.Jobs.plan c.args.self.now.1) ((g.met.J.Jobs g.world.𝓛 g.world.𝓜 g.world.𝓡 ((λ s x. x), (λ x. x), (λ x. x), λ x. x)).lawful c.args.self.now.1) c.args.seat.now.token.me.0 held.claim.query given c.args.need
-        (ap (λ (es : List Entry). next_of_top (g.J.Jobs.plan c.args.self.now.1) es (Some c.args.q)) (sym whole) ∙ c.requires.next) c.in-None.ensures c.requires.seen
-        (λ s steals. ap (has s) (sym k.has_given) ∙ k.kept s (ap (g.J.Jobs.plan c.args.self.now.1).steals k.query ∙ steals))
+    (ap (λ (es : List Entry). next_of_top (g.J.Jobs.plan c.args.self.now.1) es (Some c.args.q)) (sym whole) ∙ c.requires.next) c.in-None.ensures c.requires.seen
+    (λ s steals. ap (has s) (sym k.has_given) ∙ k.kept s (ap (g.J.Jobs.plan c.args.self.now.1).steals k.query ∙ steals))

@@ -18,4 +18,4 @@ next-requires g c =
     let k = top.1.1.1 in
     let work = c.in-Some.held.now.work in
     subst (λ (j : g.row.J.Denot). (c.query.result < (g.J.Jobs.plan j).queries) × g.J.Jobs.is_work j c.query.result work) (sym jobs)
-        (subst (λ (x : ℕ). (x < (g.J.Jobs.plan c.args.self.now.1).queries) × g.J.Jobs.is_work c.args.self.now.1 x work) (sym c.query.ensures) (k.of_table.below, k.begun))
+    (subst (λ (x : ℕ). (x < (g.J.Jobs.plan c.args.self.now.1).queries) × g.J.Jobs.is_work c.args.self.now.1 x work) (sym c.query.ensures) (k.of_table.below, k.begun))

@@ -20,7 +20,7 @@ returns-in-Ok-clause-turn g c =
     let lent = c.borrow-borrow.ensures.step in
     let back = c.release.ensures.step in
     let given = forcing_given (g.J.Jobs.plan c.args.self.now.1) c.args.self.now.0 c.args.q e.0 c.args.need lent.0 back.0 e.1 rest c.args.seat.now c.borrow-borrow.new.seat c.release.new.seat c.requires.seat top.1.1.0 lent.1 c.release.ensures.seat
-        (back.1 ∙ ap (λ (n : ℕ). release_view c.borrow-borrow.new.seat.token.me.0 n back.0) c.borrow-borrow.ensures.borrow.1) in
+    (back.1 ∙ ap (λ (n : ℕ). release_view c.borrow-borrow.new.seat.token.me.0 n back.0) c.borrow-borrow.ensures.borrow.1) in
     let jobs = ap (λ t. t.1) c.self.view_is in (
       given.0,
       match_at {H = Held g.row.J.Denot g.row.J-Answer.Denot g.row.J-Work.Denot} (λ h e. HeldAs {W = g.row.J-Work.Denot} (g.J.Jobs.plan c.args.self.now.1) (g.J.Jobs.is_work c.args.self.now.1) g.J.Jobs.given c.args.self.now.0 h.claim h.work e) ((e.0, e.1 ++ c.args.need ∷ []) ∷ rest) c.release.new.seat.token.me.0.stack c.push_reserved.new.self.items given.1
@@ -43,10 +43,9 @@ returns-in-Err-clause-turn g c =
     let lent = c.borrow-borrow.ensures.step in
     let back = c.release.ensures.step in
     let given = forcing_given (g.J.Jobs.plan c.args.self.now.1) c.args.self.now.0 c.args.q e.0 c.args.need lent.0 back.0 e.1 rest c.args.seat.now c.borrow-borrow.new.seat c.release.new.seat c.requires.seat top.1.1.0 lent.1 c.release.ensures.seat
-        (back.1 ∙ ap (λ (n : ℕ). release_view c.borrow-borrow.new.seat.token.me.0 n back.0) c.borrow-borrow.ensures.borrow.1) in
-    (
+    (back.1 ∙ ap (λ (n : ℕ). release_view c.borrow-borrow.new.seat.token.me.0 n back.0) c.borrow-borrow.ensures.borrow.1) in (
       giving_up (g.J.Jobs.plan c.args.self.now.1) c.args.self.now.0 c.args.q c.release.new.seat (e.0, e.1 ++ c.args.need ∷ []) rest given.0 given.1,
       match_at {H = Held g.row.J.Denot g.row.J-Answer.Denot g.row.J-Work.Denot} (λ h e. ClaimedAs c.args.self.now.0 (g.J.Jobs.plan c.args.self.now.1).queries h.claim e) ((e.0, e.1 ++ c.args.need ∷ []) ∷ rest) c.release.new.seat.token.me.0.stack c.push_reserved.new.self.items given.1
           (match_more {H = Held g.row.J.Denot g.row.J-Answer.Denot g.row.J-Work.Denot} (λ h e. ClaimedAs c.args.self.now.0 (g.J.Jobs.plan c.args.self.now.1).queries h.claim e) rest c.push_reserved.new.self.items c.args.chain.now.items _ (e.0, e.1 ++ c.args.need ∷ [])
-              (match_weaker {H = Held g.row.J.Denot g.row.J-Answer.Denot g.row.J-Work.Denot} (λ h e. HeldAs {W = g.row.J-Work.Denot} (g.J.Jobs.plan c.args.self.now.1) (g.J.Jobs.is_work c.args.self.now.1) g.J.Jobs.given c.args.self.now.0 h.claim h.work e) (λ h e. ClaimedAs c.args.self.now.0 (g.J.Jobs.plan c.args.self.now.1).queries h.claim e) (λ h e r. record { of_table = r.of_table; query = r.query }) rest c.args.chain.now.items top.1.1.2) c.push_reserved.ensures.items (record { of_table = k.of_table; query = k.query })),
+          (match_weaker {H = Held g.row.J.Denot g.row.J-Answer.Denot g.row.J-Work.Denot} (λ h e. HeldAs {W = g.row.J-Work.Denot} (g.J.Jobs.plan c.args.self.now.1) (g.J.Jobs.is_work c.args.self.now.1) g.J.Jobs.given c.args.self.now.0 h.claim h.work e) (λ h e. ClaimedAs c.args.self.now.0 (g.J.Jobs.plan c.args.self.now.1).queries h.claim e) (λ h e r. record { of_table = r.of_table; query = r.query }) rest c.args.chain.now.items top.1.1.2) c.push_reserved.ensures.items (record { of_table = k.of_table; query = k.query })),
     )
