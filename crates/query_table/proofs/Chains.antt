@@ -1,14 +1,13 @@
 -- Claims in a list and the stack of a seat's view.
-use Rattle.std.proofs.Common.{◌≡◌, ◌≢◌, ℕ, zero, suc, ◌+◌, ◌<◌, Bool, true, false, List, [], ◌∷◌, ◌++◌, length, ◌⊎◌, inl, inr, refl, sym, subst, ap, ◌∙◌, arith}
-use Rattle.std.specs.Prelude.{Option, Some, None, slice_get, ◌-◌}
+use Rattle.std.proofs.Common.{◌≡◌, ◌≢◌, ℕ, Bool, true, false, List, [], ◌∷◌, ◌++◌, length, inl, inr, refl, sym, subst, ap, ◌∙◌, arith}
+use Rattle.std.specs.Prelude.{Some, None, slice_get, ◌-◌}
 use Rattle.std.proofs.lemmas.List.{length_push}
 use Rattle.std.proofs.lemmas.Option.{slice_get-get_or}
 use Rattle.std.proofs.Math.Seq.{get_or-append_seam}
 use Rattle.std.proofs.lemmas.Bool.Decides.{nat_tests}
-use Rattle.sched_core.specs.Plan.{Plan, IsLawful, has, next_need}
-use Rattle.sched_core.specs.State.{Entry, queries_of, below_top, next_of_top}
+use Rattle.sched_core.specs.Plan.{Plan, IsLawful, has}
+use Rattle.sched_core.specs.State.{Entry, queries_of, next_of_top}
 use Rattle.sched_core.proofs.Lists.{next_in, has_tells}
-use Rattle.query_table.specs.Steps.{without}
 use Rattle.query_table.specs.Chain.{Matches, Rising, StandsOn}
 
 -- the last items of equal lists are equal, and what is before them

@@ -1,11 +1,11 @@
 -- What each step of a seat that forces a root leaves.
-use Rattle.std.proofs.Common.{◌≡◌, ◌≢◌, ℕ, zero, suc, ◌+◌, ◌<◌, ◌≤◌, Bool, true, false, List, [], ◌∷◌, ◌++◌, length, ◌⊎◌, inl, inr, refl, sym, subst, ap, ◌∙◌, arith, eqb}
+use Rattle.std.proofs.Common.{◌≡◌, ◌≢◌, ℕ, ◌<◌, Bool, true, false, List, [], ◌∷◌, ◌++◌, ◌⊎◌, inl, inr, refl, sym, subst, ap, ◌∙◌, arith}
 use Rattle.std.specs.Prelude.{Option, Some, None, if◌then◌else◌, ◌==◌, nat_lt}
 use Rattle.std.proofs.lemmas.Bool.Decides.{nat_tests}
 use Rattle.atomic_table.specs.Seated.{TableId}
 use Rattle.sched_core.specs.Plan.{Plan, IsLawful, has, next_need}
-use Rattle.sched_core.specs.State.{Entry, queries_of, below_top, give, next_of_top}
-use Rattle.sched_core.proofs.Lists.{next_in, next_none, next_last, has_snoc, has_tells, bool_tells}
+use Rattle.sched_core.specs.State.{Entry, below_top, give, next_of_top}
+use Rattle.sched_core.proofs.Lists.{next_in, next_none, next_last, has_snoc, bool_tells}
 use Rattle.query_table.specs.declared.view.View.{View}
 use Rattle.query_table.specs.declared.table.Seat.{Seat}
 use Rattle.query_table.specs.Rule.{last_root}

@@ -1,5 +1,5 @@
 -- What the calls answer, and which seats and tokens belong to a table.
-use Rattle.std.specs.Prelude.{◌≡◌, ◌≢◌, ℕ, ◌<◌, ◌≤◌, false, List, []}
+use Rattle.std.specs.Prelude.{◌≡◌, ◌≢◌, ℕ, ◌<◌, ◌≤◌, false, []}
 use Rattle.atomic_table.specs.Seated.{TableId}
 use Rattle.query_table.specs.declared.table.Seat.{Seat}
 use Rattle.query_table.specs.declared.token.Claim.{Claim}

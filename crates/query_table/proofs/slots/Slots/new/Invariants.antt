@@ -1,4 +1,4 @@
-use Rattle.std.proofs.Common.{◌≡◌, ◌≤◌, ◌<◌, ℕ, vec_len, vec_capacity}
+use Rattle.std.proofs.Common.{◌≡◌, ◌≤◌, ℕ, vec_len, vec_capacity}
 use Rattle.std.specs.Prelude.{Some, slice_get}
 use Rattle.query_table.proofs.slots.Slots.new.Given as goal
 

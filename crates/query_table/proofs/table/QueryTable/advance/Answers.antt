@@ -1,14 +1,9 @@
-use Rattle.std.proofs.Common.{rules, ◌≡◌, ◌≢◌, ℕ, ◌+◌, ◌<◌, List, [], ◌∷◌, ◌++◌, true, false, refl, sym, subst, ap, ◌∙◌, arith}
-use Rattle.std.specs.Prelude.{Some, None}
-use Rattle.sched_core.specs.Plan.{has, next_need}
-use Rattle.sched_core.specs.State.{Entry, next_of_top}
-use Rattle.query_table.specs.declared.token.Claim.{Claim}
+use Rattle.std.proofs.Common.{ℕ, ◌<◌, List, sym, subst, ap, ◌∙◌}
 use Rattle.query_table.specs.declared.force.Held.{Held}
-use Rattle.query_table.specs.Steps.{without, publish_view, release_view, look_view, IsRipe}
-use Rattle.query_table.specs.Answers.{IsClaimOf}
-use Rattle.query_table.specs.Chain.{Matches, HeldAs, ClaimedAs, IsForcing, IsGivingUp, IsIdle, StandsOn}
-use Rattle.query_table.proofs.Chains.{match_top, match_none, match_more, match_weaker, match_last, top_is, none_left, next_not_own}
-use Rattle.query_table.proofs.Forcing.{match_at, forcing_looked, giving_up, looked_failed, forcing_claimed, gave_up, forcing_given, kept_more, ripe_taken, forcing_published, published_root, idle_of, all_seen, next_below}
+use Rattle.query_table.specs.Steps.{look_view}
+use Rattle.query_table.specs.Chain.{Matches, HeldAs, ClaimedAs}
+use Rattle.query_table.proofs.Chains.{match_weaker, next_not_own}
+use Rattle.query_table.proofs.Forcing.{match_at, forcing_looked, looked_failed, next_below}
 use Rattle.query_table.proofs.table.QueryTable.advance.Goals as goal
 
 pub look-requires-clause-query : goal.look-requires-clause-query

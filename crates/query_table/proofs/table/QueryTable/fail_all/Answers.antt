@@ -1,9 +1,9 @@
-use Rattle.std.proofs.Common.{rules, ◌≡◌, ℕ, List, [], ◌∷◌, true, refl, sym, subst, ap, ◌∙◌, arith}
+use Rattle.std.proofs.Common.{◌≡◌, ℕ, List, ◌∷◌, true, sym, subst, ap, ◌∙◌, arith}
 use Rattle.sched_core.specs.Plan.{has}
 use Rattle.sched_core.specs.State.{Entry, below_top}
 use Rattle.query_table.specs.declared.force.Held.{Held}
-use Rattle.query_table.specs.Steps.{without, fail_view}
-use Rattle.query_table.specs.Chain.{Matches, ClaimedAs, IsGivingUp, IsIdle, StandsOn}
+use Rattle.query_table.specs.Steps.{without}
+use Rattle.query_table.specs.Chain.{Matches, ClaimedAs, StandsOn}
 use Rattle.query_table.proofs.Chains.{match_top, match_none, stands_below, stands_alone, has_first, none_left}
 use Rattle.query_table.proofs.table.QueryTable.fail_all.Goals as goal
 

@@ -1,4 +1,3 @@
-use Rattle.std.proofs.Common.{◌≡◌}
 use Rattle.query_table.proofs.Forcing.{last_root_below}
 use Rattle.query_table.proofs.table.QueryTable.force.Goals as goal
 
