@@ -1,6 +1,10 @@
 //! Small jobs, over which the table is tried. Queries 1 and 2 are the roots, and each needs query 0 (`specs/Small.antt`). The main contracts
 //! are those of `Jobs`.
 #![tactic(auto)]
+
+#[cfg(test)]
+mod tests;
+
 ghost use Rattle.std.specs.Prelude.{◌≡◌, ℕ, []};
 
 use mir_syntax::OutOfMemory;
