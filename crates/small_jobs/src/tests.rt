@@ -1,99 +1,98 @@
-ghost use Rattle.std.specs.Prelude.{◌≡◌, All};
+ghost use Rattle.std.specs.Prelude.{◌≡◌, IfOk, IfSome};
 ghost use Rattle.query_table.specs.Answers.{IsSeatOf};
 ghost use Rattle.query_table.specs.Steps.{IsNew};
+ghost use Rattle.small_jobs.specs.Race.{HasClaimed};
 
 use crate::Small;
 use mir_syntax::OutOfMemory;
-use query_table::{OpenGate, Opened, QueryTable, Seat};
+use query_table::{Claim, Claimed, Looked, Opened, QueryTable, Seat};
 use std::alloc::Global;
-use std::sync::Wait;
 use std::test::Fail;
-use std::thread::{self, Threads};
 
-/// A seat, and whether its first root was answered.
-#[derive(Drop)]
-struct Worker {
-    seat: Seat,
-    answered: Option<bool>,
-}
-
-/// Draws a root and forces it.
-fn force_first<R: Wait>(rt: &R, alloc: Global, table: &QueryTable<Small>, worker: &mut Worker)
-    requires seat { IsSeatOf table.now.0 worker.old.seat }
-    requires new { IsNew worker.old.seat.token.me.0 }
+// A table of small jobs with two seats.
+fn opened(alloc: Global, fails: Option<u32>) -> Result<(QueryTable<Small>, Seat, Seat), OutOfMemory>
+    ensures first { IfOk result (λ o. IsSeatOf o.0.0 o.1 × IsNew o.1.token.me.0) }
+    ensures second { IfOk result (λ o. IsSeatOf o.0.0 o.2 × IsNew o.2.token.me.0) }
 {
-    let Some(root) = table.draw(&mut worker.seat) else {
-        return;
-    };
-    let forced = table.force(rt, alloc, &mut worker.seat, &OpenGate, root);
-    worker.answered = Some(forced.is_ok());
-}
-
-/// Each worker forces its first root.
-fn force_each<R: Threads + Wait + Sync>(
-    rt: &R,
-    alloc: Global,
-    table: &QueryTable<Small>,
-    workers: &mut [Worker],
-)
-    requires { All (λ w. IsSeatOf table.now.0 w.seat × IsNew w.seat.token.me.0) workers.old }
-{
-    thread::for_each_mut(
-        rt,
-        workers,
-        2,
-        &|_, worker: &mut Worker|
-            requires { IsSeatOf table.now.0 worker.now.seat × IsNew worker.now.seat.token.me.0 }
-        { force_first(rt, alloc, table, worker) },
-    );
-}
-
-/// How two threads fare that each force one of the roots.
-fn two_threads<R: Threads + Wait + Sync>(
-    rt: &R,
-    alloc: Global,
-    fails: Option<u32>,
-) -> Result<[Worker; 2], OutOfMemory> {
     let Opened { table, mut seats } = QueryTable::new(alloc, Small { fails }, 2)?;
-    let Some(second) = seats.pop() else {
-        return Err(OutOfMemory);
-    };
     let Some(first) = seats.pop() else {
         return Err(OutOfMemory);
     };
-    let mut workers = [
-        Worker {
-            seat: first,
-            answered: None,
-        },
-        Worker {
-            seat: second,
-            answered: None,
-        },
-    ];
-    force_each(rt, alloc, &table, &mut workers);
-    Ok(workers)
+    let Some(second) = seats.pop() else {
+        return Err(OutOfMemory);
+    };
+    Ok((table, first, second))
 }
 
-#[test]
-fn both_roots_are_answered(rt: HostRuntime) -> Result<(), Fail> {
-    for worker in two_threads(&rt, rt.alloc(), None)?.iter() {
-        assert_eq!(rt; worker.answered, Some(true));
+// Draws a root and claims it.
+fn claim_root(table: &QueryTable<Small>, seat: &mut Seat) -> Option<Claim>
+    requires seat { IsSeatOf table.now.0 seat.old }
+    requires new { IsNew seat.old.token.me.0 }
+    ensures { IfSome result (λ claim. HasClaimed table.now.0 claim seat.new) }
+{
+    let root = table.draw(seat)?;
+    match table.claim(seat, root) {
+        Claimed::Won(claim) => Some(claim),
+        Claimed::Lost(_) => None,
     }
-    Ok(())
 }
 
-#[test]
-fn a_failed_need_fails_both_roots(rt: HostRuntime) -> Result<(), Fail> {
-    for worker in two_threads(&rt, rt.alloc(), Some(0))?.iter() {
-        assert_eq!(rt; worker.answered, Some(false));
+// Claims query 1, looks at it where the claim is lost, and gives all up. What was found where it is lost.
+fn lose(table: &QueryTable<Small>, seat: &mut Seat, root: Claim) -> Option<(u64, Looked)>
+    requires { HasClaimed table.now.0 root seat.old }
+{
+    match table.claim(seat, 1) {
+        Claimed::Won(claim) => {
+            table.fail(seat, claim);
+            table.fail(seat, root);
+            None
+        }
+        Claimed::Lost(word) => {
+            let looked = table.look(seat, 1);
+            table.fail(seat, root);
+            Some((word, looked))
+        }
     }
-    Ok(())
+}
+
+// Claims query 1 for the first seat and then for the second. Whether the first won, and what the second found.
+fn race(
+    table: &QueryTable<Small>,
+    first: &mut Seat,
+    second: &mut Seat,
+    root: Claim,
+    other: Claim,
+) -> (bool, Option<(u64, Looked)>)
+    requires first { HasClaimed table.now.0 root first.old }
+    requires second { HasClaimed table.now.0 other second.old }
+{
+    let claimed = table.claim(first, 1);
+    let found = lose(table, second, other);
+    match claimed {
+        Claimed::Won(claim) => {
+            table.fail(first, claim);
+            table.fail(first, root);
+            (true, found)
+        }
+        Claimed::Lost(_) => {
+            table.fail(first, root);
+            (false, found)
+        }
+    }
 }
 
 #[test]
-fn a_failed_root_leaves_the_other(rt: HostRuntime) -> Result<(), Fail> {
-    let workers = two_threads(&rt, rt.alloc(), Some(2))?;
-    assert_eq!(rt; workers.iter().filter(|worker| worker.answered == Some(true)).count(), 1);
+fn the_second_claim_is_lost(rt: HostRuntime) -> Result<(), Fail> {
+    let (table, mut first, mut second) = opened(rt.alloc(), None)?;
+    let Some(root) = claim_root(&table, &mut first) else {
+        panic!(rt; "no root for the first seat")
+    };
+    let Some(other) = claim_root(&table, &mut second) else {
+        table.fail(&mut first, root);
+        panic!(rt; "no root for the second seat")
+    };
+    let (won, found) = race(&table, &mut first, &mut second, root, other);
+    assert!(rt; won);
+    assert_eq!(rt; found, Some((1, Looked::NotYet(1))));
     Ok(())
 }
