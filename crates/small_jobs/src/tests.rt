@@ -1,12 +1,15 @@
 ghost use Rattle.std.specs.Prelude.{◌≡◌, IfOk, IfSome};
 ghost use Rattle.query_table.specs.Answers.{IsSeatOf};
+ghost use Rattle.query_table.specs.Chain.{IsIdle};
 ghost use Rattle.query_table.specs.Steps.{IsNew};
 ghost use Rattle.small_jobs.specs.Race.{HasClaimed};
 
 use crate::Small;
-use mir_syntax::OutOfMemory;
-use query_table::{Claim, Claimed, Looked, Opened, QueryTable, Seat};
+use mir_syntax::{List, OutOfMemory};
+use query_table::{Claim, Claimed, Looked, OpenGate, Opened, QueryTable, Seat};
+use sched_core::{Woven, weave};
 use std::alloc::Global;
+use std::sync::Wait;
 use std::test::Fail;
 
 // A table of small jobs with two seats.
@@ -94,5 +97,72 @@ fn the_second_claim_is_lost(rt: HostRuntime) -> Result<(), Fail> {
     let (won, found) = race(&table, &mut first, &mut second, root, other);
     assert!(rt; won);
     assert_eq!(rt; found, Some((1, Looked::NotYet(1))));
+    Ok(())
+}
+
+// Draws a root and forces it. The root, and whether it is done.
+fn force_one<R: Wait>(
+    rt: &R,
+    alloc: Global,
+    table: &QueryTable<Small>,
+    mut seat: Seat,
+) -> (Seat, Option<(u32, bool)>)
+    requires seat { IsSeatOf table.now.0 seat }
+    requires new { IsNew seat.token.me.0 }
+    ensures { IsIdle table.now.0 result.0 }
+{
+    let Some(root) = table.draw(&mut seat) else {
+        return (seat, None);
+    };
+    let forced = table.force(rt, alloc, &mut seat, &OpenGate, root);
+    (seat, Some((root, forced.is_ok())))
+}
+
+// The answers of a table whose roots are done. `None` where one isn't.
+fn answers<R: Wait>(
+    rt: &R,
+    alloc: Global,
+    table: QueryTable<Small>,
+    mut seat: Seat,
+) -> Result<Option<List<u32>>, OutOfMemory>
+    requires { IsIdle table.0 seat }
+{
+    let Looked::Done = table.look(&mut seat, 2) else {
+        return Ok(None);
+    };
+    let Looked::Done = table.look(&mut seat, 3) else {
+        return Ok(None);
+    };
+    let (_, answers) = table.answers(rt, alloc, seat)?.into_parts();
+    Ok(Some(answers))
+}
+
+#[test]
+fn forced_roots_have_the_woven_answers(rt: HostRuntime) -> Result<(), Fail> {
+    let alloc = rt.alloc();
+    let (table, first, second) = opened(alloc, None)?;
+    let (seat, one) = force_one(&rt, alloc, &table, first);
+    let (_, two) = force_one(&rt, alloc, &table, second);
+    assert_eq!(rt; (one, two), (Some((2, true)), Some((3, true))));
+    let answers = answers(&rt, alloc, table, seat)?.ok_or("a root isn't done")?;
+    assert_eq!(rt; answers.as_slice(), [7, 8].as_slice());
+    let Woven {
+        answers: woven,
+        trail: _,
+    } = weave(alloc, &Small { fails: None }, 2, [].as_slice())?;
+    assert_eq!(rt; answers.as_slice(), woven.as_slice());
+    Ok(())
+}
+
+#[test]
+fn a_failure_reaches_who_needs_it(rt: HostRuntime) -> Result<(), Fail> {
+    let alloc = rt.alloc();
+    for fails in 0..4 {
+        let (table, first, second) = opened(alloc, Some(fails))?;
+        let (_, one) = force_one(&rt, alloc, &table, first);
+        let (_, two) = force_one(&rt, alloc, &table, second);
+        assert_eq!(rt; one, Some((2, fails == 3)), "where {fails} fails");
+        assert_eq!(rt; two, Some((3, fails == 2)), "where {fails} fails");
+    }
     Ok(())
 }
