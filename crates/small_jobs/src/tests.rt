@@ -11,6 +11,7 @@ use sched_core::{Woven, weave};
 use std::alloc::Global;
 use std::sync::Wait;
 use std::test::Fail;
+use std::thread::{self, Threads};
 
 // A table of small jobs with two seats.
 fn opened(alloc: Global, fails: Option<u32>) -> Result<(QueryTable<Small>, Seat, Seat), OutOfMemory>
@@ -137,20 +138,46 @@ fn answers<R: Wait>(
     Ok(Some(answers))
 }
 
+// Forces a root on each of two threads. The first seat is given back.
+fn force_both<R: Threads + Wait + Sync>(
+    rt: &R,
+    alloc: Global,
+    table: &QueryTable<Small>,
+    first: Seat,
+    second: Seat,
+) -> (Seat, Option<(u32, bool)>, Option<(u32, bool)>)
+    requires first { IsSeatOf table.now.0 first × IsNew first.token.me.0 }
+    requires second { IsSeatOf table.now.0 second × IsNew second.token.me.0 }
+    ensures { IsIdle table.now.0 result.0 }
+{
+    let ((seat, one), (_, two)) = thread::join(
+        rt,
+        move || -> (Seat, Option<(u32, bool)>)
+            requires { IsSeatOf table.now.0 first × IsNew first.token.me.0 }
+            ensures { IsIdle table.entry.now.0 result.0 }
+        { force_one(rt, alloc, table, first) },
+        move || -> (Seat, Option<(u32, bool)>)
+            requires { IsSeatOf table.now.0 second × IsNew second.token.me.0 }
+        { force_one(rt, alloc, table, second) },
+    );
+    (seat, one, two)
+}
+
 #[test]
-fn forced_roots_have_the_woven_answers(rt: HostRuntime) -> Result<(), Fail> {
+fn two_threads_have_the_woven_answers(rt: HostRuntime) -> Result<(), Fail> {
     let alloc = rt.alloc();
-    let (table, first, second) = opened(alloc, None)?;
-    let (seat, one) = force_one(&rt, alloc, &table, first);
-    let (_, two) = force_one(&rt, alloc, &table, second);
-    assert_eq!(rt; (one, two), (Some((2, true)), Some((3, true))));
-    let answers = answers(&rt, alloc, table, seat)?.ok_or("a root isn't done")?;
-    assert_eq!(rt; answers.as_slice(), [7, 8].as_slice());
-    let Woven {
-        answers: woven,
-        trail: _,
-    } = weave(alloc, &Small { fails: None }, 2, [].as_slice())?;
-    assert_eq!(rt; answers.as_slice(), woven.as_slice());
+    for _ in 0..100 {
+        let (table, first, second) = opened(alloc, None)?;
+        let (seat, one, two) = force_both(&rt, alloc, &table, first, second);
+        assert!(rt; one.is_some_and(|one| one.1) && two.is_some_and(|two| two.1));
+        let answers = answers(&rt, alloc, table, seat)?.ok_or("a root isn't done")?;
+        assert_eq!(rt; answers.as_slice(), [7, 8].as_slice());
+        let Woven {
+            answers: woven,
+            trail: _,
+        } = weave(alloc, &Small { fails: None }, 2, [].as_slice())?;
+        assert_eq!(rt; answers.as_slice(), woven.as_slice());
+    }
     Ok(())
 }
 
@@ -159,10 +186,14 @@ fn a_failure_reaches_who_needs_it(rt: HostRuntime) -> Result<(), Fail> {
     let alloc = rt.alloc();
     for fails in 0..4 {
         let (table, first, second) = opened(alloc, Some(fails))?;
-        let (_, one) = force_one(&rt, alloc, &table, first);
-        let (_, two) = force_one(&rt, alloc, &table, second);
-        assert_eq!(rt; one, Some((2, fails == 3)), "where {fails} fails");
-        assert_eq!(rt; two, Some((3, fails == 2)), "where {fails} fails");
+        let (_, one, two) = force_both(&rt, alloc, &table, first, second);
+        for (root, done) in [one.ok_or("no root")?, two.ok_or("no root")?] {
+            assert_eq!(rt;
+                done,
+                fails > 1 && fails != root,
+                "root {root} where {fails} fails"
+            );
+        }
     }
     Ok(())
 }
