@@ -43,16 +43,16 @@ Stands-extends old new id t e h =
     rw (e.1, trees_from-append [] old e.0, front.1) (slice_get-front (trees_of old) front.0 id.0 t h)
 
 -- a list of trees serves as well as a longer one for ids that are in it
-at_id-front : (trees later : List Tree) (id : TyId) → id.0 < length trees → at_id (trees ++ later) id ≡ at_id trees id
+pub at_id-front : (trees later : List Tree) (id : TyId) → id.0 < length trees → at_id (trees ++ later) id ≡ at_id trees id
 at_id-front trees later id h = get_or_append_left trees later (scalar scalar_ty.Bool) id.0 h
 
-at_ids-front : (trees later : List Tree) (ids : List TyId) → IsTrue (all_below (length trees) ids) → at_ids (trees ++ later) ids ≡ at_ids trees ids
+pub at_ids-front : (trees later : List Tree) (ids : List TyId) → IsTrue (all_below (length trees) ids) → at_ids (trees ++ later) ids ≡ at_ids trees ids
 at_ids-front trees later [] h = refl
 at_ids-front trees later (id ∷ ids) h =
     let both : (id.0 < length trees) × IsTrue (all_below (length trees) ids) = search rules in
     ap₂ more (at_id-front trees later id both.0) (at_ids-front trees later ids both.1)
 
-node-front : (trees later : List Tree) (ty : Ty) → IsTrue (ids_below (length trees) ty) → node (trees ++ later) ty ≡ node trees ty
+pub node-front : (trees later : List Tree) (ty : Ty) → IsTrue (ids_below (length trees) ty) → node (trees ++ later) ty ≡ node trees ty
 node-front trees later (Scalar s) h = refl
 node-front trees later (Tuple ids) h = at_ids-front trees later ids h
 node-front trees later (Ref id) h = ap ref (at_id-front trees later id (search rules))
@@ -86,3 +86,9 @@ Stands-at types k ty table h =
 
 pub at_id-node : (types : List Ty) (id : TyId) (ty : Ty) → IsTable types → slice_get types id.0 ≡ Some ty → at_id (trees_of types) id ≡ node (trees_of types) ty
 at_id-node types id ty table h = get_or_from_slice_get (trees_of types) id.0 (node (trees_of types) ty) (scalar scalar_ty.Bool) (Stands-at types id.0 ty table h)
+
+-- a place of a list lies before its end
+pub slice_get-below : {X : Type 0} (xs : List X) (k : ℕ) (x : X) → slice_get xs k ≡ Some x → k < length xs
+slice_get-below [] k x h = absurd cc
+slice_get-below (y ∷ xs) zero x h = omega arith
+slice_get-below (y ∷ xs) (suc k) x h = let below = slice_get-below xs k x h in omega arith

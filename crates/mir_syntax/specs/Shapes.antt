@@ -1,11 +1,13 @@
 -- What rules and meaning see of a crate's definitions: the fields of each variant and the destructor; and by them the types of places
 -- and which types need drop.
-use Rattle.std.specs.Prelude.{ℕ, zero, suc, Bool, true, false, ◌&&◌, ◌||◌, nat_eq, if◌then◌else◌, List, [], ◌∷◌, map, length, Option, Some, None, is_some, slice_get}
+use Rattle.std.specs.Prelude.{ℕ, zero, suc, Bool, true, false, ◌&&◌, ◌||◌, nat_eq, if◌then◌else◌, cond, List, [], ◌∷◌, map, length, Option, Some, None, is_some, slice_get}
 use Rattle.mir_syntax.specs.declared.body.Proj.{Proj}
 use Rattle.mir_syntax.specs.declared.body.Proj.TheVariants.{Field, Downcast, Deref}
 use Rattle.mir_syntax.specs.declared.body.Place.{Place}
 use Rattle.mir_syntax.specs.Tree.{Tree, scalar, empty, more, ref, ref_mut, named, tuple_of}
-use Rattle.mir_syntax.specs.Crate.{TypedField, TypedVariant, TypedDef, TypedBody, TypedFunction, Crate}
+use Rattle.mir_syntax.specs.declared.types.TyId.{TyId}
+use Rattle.mir_syntax.specs.declared.types.Field.{Field as SyntaxField}
+use Rattle.mir_syntax.specs.Crate.{field_of, TypedField, TypedVariant, TypedDef, TypedBody, TypedFunction, Crate}
 
 -- a struct has one variant; of each variant the tuple of its fields' types; the number of the function that is its destructor
 pub record Shape : Type 0 where
@@ -59,6 +61,14 @@ first_variant (t ∷ ts) = t
 abbrev pub struct_fields : Shape → Tree
 struct_fields s = first_variant s.variants
 
+-- the id of the type of a field as the program has it
+abbrev pub field_id : SyntaxField → TyId
+field_id f = f.ty
+
+-- the tuple of the types that fields of the program have
+abbrev pub fields_tree : List Tree → List SyntaxField → Tree
+fields_tree trees fields = tuple_of (map field_ty_of (map (field_of trees) fields))
+
 -- the type at a place of a tuple
 abbrev pub field_ty : Tree → ℕ → Option Tree
 field_ty (more t ts) zero = Some t
@@ -101,6 +111,22 @@ path_ty D t (p ∷ ps) = proj_ty D t p >>= λ u. path_ty D u ps
 -- the type of a place, given those of the locals; none where a projection doesn't fit
 unfoldable pub place_ty : List Shape → List Tree → Place → Option Tree
 place_ty D locals p = slice_get locals p.local >>= λ t. path_ty D t p.proj
+
+-- after a last downcast stands the tuple of a variant's fields, which is no type of a program
+abbrev pub ends_in_downcast : List Proj → Bool
+ends_in_downcast [] = false
+ends_in_downcast (Field i ∷ []) = false
+ends_in_downcast (Downcast k ∷ []) = true
+ends_in_downcast (Deref ∷ []) = false
+ends_in_downcast (p ∷ q ∷ ps) = ends_in_downcast (q ∷ ps)
+
+-- the type that stands at the end of a path; none where a projection doesn't fit, and none after a last downcast
+unfoldable pub whole_path_ty : List Shape → Tree → List Proj → Option Tree
+whole_path_ty D t ps = cond (ends_in_downcast ps) None (path_ty D t ps)
+
+-- the type of a place that is whole
+abbrev pub whole_place_ty : List Shape → List Tree → Place → Option Tree
+whole_place_ty D locals p = slice_get locals p.local >>= λ t. whole_path_ty D t p.proj
 
 -- ---- drop
 

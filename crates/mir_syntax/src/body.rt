@@ -1,6 +1,7 @@
 use crate::types::{FnId, IntTy, OutId, TyId};
 use crate::{List, Name};
 
+/// The attribute `inline` of a function (Rust Reference, code generation attributes): none, `inline`, `inline(always)`, `inline(never)`.
 #[derive(Clone, Copy, Debug, Drop, PartialEq, Eq)]
 pub enum Inline {
     Plain,
@@ -9,6 +10,7 @@ pub enum Inline {
     Never,
 }
 
+/// A function with its body. One with `is_drop` is the destructor of the type whose `&mut` is its one argument.
 #[derive(Debug, Drop)]
 pub struct Function {
     pub path: Name,
@@ -17,6 +19,8 @@ pub struct Function {
     pub body: Body,
 }
 
+/// A step from a place to a part of it (rustc-dev-guide, MIR: projections): a field by its number, a variant of an enum, after which
+/// a field of that variant comes, or what a reference points to.
 #[derive(Clone, Copy, Debug, Drop, PartialEq, Eq)]
 pub enum Proj {
     Field(u32),
@@ -24,12 +28,14 @@ pub enum Proj {
     Deref,
 }
 
+/// A place in memory: a local by its number, and the way from it (rustc-dev-guide, MIR: places).
 #[derive(Debug, Drop)]
 pub struct Place {
     pub local: u32,
     pub proj: List<Proj>,
 }
 
+/// A constant. An integer is its bits: the value modulo 2 to the width of its type.
 #[derive(Clone, Copy, Debug, Drop, PartialEq, Eq)]
 pub enum Const {
     Int(IntTy, u128),
@@ -37,6 +43,7 @@ pub enum Const {
     Unit,
 }
 
+/// What an rvalue or a terminator reads: a place that stays as it is, a place that is moved out of, or a constant.
 #[derive(Debug, Drop)]
 pub enum Operand {
     Copy(Place),
@@ -44,6 +51,7 @@ pub enum Operand {
     Const(Const),
 }
 
+/// The operators of two numbers. They wrap, as rustc's `BinOp`; those with `Unchecked` are undefined where the result doesn't fit.
 #[derive(Clone, Copy, Debug, Drop, PartialEq, Eq)]
 pub enum BinOp {
     Add,
@@ -67,6 +75,7 @@ pub enum BinOp {
     MulUnchecked,
 }
 
+/// The operators `AddWithOverflow` and its kin: they give the wrapped result and whether it was wrapped.
 #[derive(Clone, Copy, Debug, Drop, PartialEq, Eq)]
 pub enum OverOp {
     Add,
@@ -74,12 +83,15 @@ pub enum OverOp {
     Mul,
 }
 
+/// The operators of one number: `!` and `-`, which wraps.
 #[derive(Clone, Copy, Debug, Drop, PartialEq, Eq)]
 pub enum UnOp {
     Not,
     Neg,
 }
 
+/// What an assignment computes (rustc-dev-guide, MIR: rvalues). `Build` makes a struct, or an enum's variant, of its parts: the number of the
+/// definition, that of the variant, the parts in the fields' order. `Cast` is a cast between scalars to an integer type.
 #[derive(Debug, Drop)]
 pub enum Rvalue {
     Use(Operand),
@@ -94,6 +106,8 @@ pub enum Rvalue {
     Build(u32, u32, List<Operand>),
 }
 
+/// A statement of a basic block (rustc-dev-guide, MIR: statements). The storage statements name a local; `SetDiscriminant` makes a variant the
+/// active one.
 #[derive(Debug, Drop)]
 pub enum Stmt {
     Assign(Place, Rvalue),
@@ -102,18 +116,23 @@ pub enum Stmt {
     SetDiscriminant(Place, u32),
 }
 
+/// What a call calls: a function of the program, or one outside of it.
 #[derive(Clone, Copy, Debug, Drop, PartialEq, Eq)]
 pub enum Callee {
     Local(FnId),
     Outside(OutId),
 }
 
+/// An arm of a `switchInt`: the bits of a value, and the block to go to.
 #[derive(Clone, Copy, Debug, Drop, PartialEq, Eq)]
 pub struct Arm {
     pub value: u128,
     pub block: u32,
 }
 
+/// The terminator of a basic block (rustc-dev-guide, MIR: terminators), with the numbers of the blocks it goes to: `Switch` has its arms and the
+/// block otherwise; `Call` the place of the result and the block to return to; `Assert` the wanted value, the text of its message with the
+/// values shown in it, and the block where it holds. No terminator unwinds.
 #[derive(Debug, Drop)]
 pub enum Term {
     Goto(u32),
@@ -125,12 +144,14 @@ pub enum Term {
     Assert(Operand, bool, Name, List<Operand>, u32),
 }
 
+/// A basic block: statements that run in order, and a terminator.
 #[derive(Debug, Drop)]
 pub struct Block {
     pub stmts: List<Stmt>,
     pub term: Term,
 }
 
+/// The body of a function. Local 0 is the result, the next `args` locals are the arguments; block 0 is the first to run.
 #[derive(Debug, Drop)]
 pub struct Body {
     pub args: u32,

@@ -15,7 +15,7 @@ pub trait Copied: Drop {
 fn copy_all<T: Copied>(alloc: Global, items: &[T]) -> Result<List<T>, OutOfMemory>
     ensures { IfOk result (λ copy. copy ≡ items.now) }
 {
-    let mut copy = List::new(alloc);
+    let mut copy = List::with_capacity(alloc, items.len())?;
     for item in items {
         copy.push(item.copied(alloc)?)?;
     }

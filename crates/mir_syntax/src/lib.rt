@@ -6,13 +6,19 @@
 //! by `specs/Shapes.antt`) and `Body::copy` (an equal body).
 #![tactic(auto)]
 
+ghost use Rattle.std.specs.Prelude.{◌≡◌};
+
 mod body;
 mod copied;
+mod intern;
 mod lines;
 mod list;
 mod number;
+mod place_ty;
 mod program;
 mod stage;
+mod type_index;
+mod type_table;
 mod types;
 
 pub use body::{
@@ -25,12 +31,29 @@ pub use list::List;
 pub use number::Number;
 pub use program::Program;
 pub use stage::Stage;
+use std::alloc::{AllocError, AllocFailed};
 pub use types::{Def, Field, FnId, Form, IntTy, OutId, Outside, ScalarTy, Ty, TyId, Variant};
 
 /// Memory was asked for and not given.
 #[derive(Clone, Copy, Debug, PartialEq, Eq, thiserror::Error)]
 #[error("out of memory")]
 pub struct OutOfMemory;
+
+impl From<AllocError> for OutOfMemory {
+    ghost from_gives = { λ _ e. e ≡ record {} };
+
+    fn from(_error: AllocError) -> OutOfMemory {
+        OutOfMemory
+    }
+}
+
+impl<T: Drop> From<AllocFailed<T>> for OutOfMemory {
+    ghost from_gives = { λ _ e. e ≡ record {} };
+
+    fn from(_failed: AllocFailed<T>) -> OutOfMemory {
+        OutOfMemory
+    }
+}
 
 /// A name or a path, as its bytes.
 pub type Name = List<u8>;

@@ -1,0 +1,3 @@
+mod Digits
+pub mod PiecesFound
+pub mod PiecesSound

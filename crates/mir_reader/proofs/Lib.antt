@@ -1,0 +1,9 @@
+pub mod Slots
+pub mod Building
+pub mod Laws
+pub mod TypesRead
+pub mod ListsRead
+pub mod FunctionRead
+pub mod FileRead
+pub mod TokensRead
+pub mod FirstIs

@@ -1,0 +1,16 @@
+use Rattle.std.proofs.Common.{◌≡◌, ℕ, List, None, Result, Ok, Err, IfOk}
+use Rattle.mir_syntax.specs.declared.program.Program.{Program}
+use Rattle.mir_reader.specs.FirstRead.{first_read, IsOf}
+use Rattle.mir_reader.specs.FirstForm.{ReadsFirst, IsNotFirst}
+use Rattle.mir_reader.proofs.FirstIs.{first-sound, first-none}
+use Rattle.mir_reader.proofs.first.read_first.Goals as goal
+
+read : {E : Type 0} (bytes : List ℕ) (r : Result Program E) → IfOk r (λ p. IsOf (first_read bytes) p) → IfOk r (λ p. ReadsFirst bytes p)
+read bytes (Ok p) h = first-sound bytes p h
+read bytes (Err e) h = tt
+
+pub returns-clause-read : goal.returns-clause-read
+returns-clause-read c = read c.args.bytes.now c.read_whole.result c.read_whole.ensures.read
+
+pub returns-clause-refused : goal.returns-clause-refused
+returns-clause-refused c = λ e. first-none c.args.bytes.now (c.read_whole.ensures.refused e)

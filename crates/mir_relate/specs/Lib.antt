@@ -1,0 +1,5 @@
+pub mod Simulation
+pub mod Jumps
+pub mod Hops
+pub mod OneBody
+pub mod Lines

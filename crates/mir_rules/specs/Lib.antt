@@ -1,0 +1,12 @@
+pub mod Same
+pub mod Parts
+pub mod Typing
+pub mod Formed
+pub mod DefinitionRules
+pub mod BodyRules
+pub mod Broken
+pub mod Weights
+pub mod Limits
+pub mod Faults
+pub mod Valid
+pub mod Accepted

@@ -1,0 +1,4 @@
+pub mod Opened
+pub mod Sample
+mod FactsStep
+mod FactsDrop
