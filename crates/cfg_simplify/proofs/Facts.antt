@@ -1,12 +1,11 @@
 -- The definition on small bodies, by computation.
-use Rattle.std.proofs.Common.{◌≡◌, ℕ, List, [], ◌∷◌, refl}
+use Rattle.std.proofs.Common.{◌≡◌, ℕ, [], ◌∷◌, refl}
 use Rattle.mir_syntax.specs.declared.body.Arm.{Arm}
 use Rattle.mir_syntax.specs.declared.body.Const.TheVariants.{Unit as unit}
-use Rattle.mir_syntax.specs.declared.body.Operand.{Operand}
 use Rattle.mir_syntax.specs.declared.body.Operand.TheVariants as operand
 use Rattle.mir_syntax.specs.declared.body.Term.{Term}
 use Rattle.mir_syntax.specs.declared.body.Term.TheVariants.{Goto, Switch, Return, Unreachable}
-use Rattle.mir_syntax.specs.Crate.{TypedStmt, storage_live, TypedBlock}
+use Rattle.mir_syntax.specs.Crate.{storage_live, TypedBlock}
 use Rattle.cfg_simplify.specs.Simple.{simple_blocks}
 
 -- a block without statements, and one with a statement that a number tells apart

@@ -1,10 +1,10 @@
 -- The blocks that stay, as the code takes them out.
-use Rattle.std.proofs.Common.{◌≡◌, ℕ, zero, suc, ◌+◌, ◌<◌, ◌≤◌, List, [], ◌∷◌, ◌++◌, map, length, get_or, Bool, true, false, not, cond, ◌&&◌, ◌||◌, ◌==◌, ◌⊎◌, inl, inr, Option, Some, None, refl, sym, ap, ap₂, ◌∙◌, arith}
+use Rattle.std.proofs.Common.{◌≡◌, ℕ, zero, suc, ◌+◌, ◌<◌, ◌≤◌, List, [], ◌∷◌, ◌++◌, map, length, get_or, Bool, true, false, not, cond, ◌&&◌, ◌||◌, ◌==◌, inl, inr, Option, Some, None, refl, sym, ap, ap₂, ◌∙◌, arith}
 use Rattle.std.specs.List.{All, filter, count_by, flat_map, list_any}
-use Rattle.std.proofs.lemmas.Bool.{eq-eqb, or_cases, or_left, or_right, both_ways, cases_lt, cond-true, cond-false}
+use Rattle.std.proofs.lemmas.Bool.{eq-eqb, or_left, or_right, cases_lt, cond-true, cond-false}
 use Rattle.std.proofs.Math.ListN.{get_or-map as get_or_of}
 use Rattle.std.proofs.lemmas.List.FromFn.{fill_by_all}
-use Rattle.std.proofs.lemmas.List.{get_or_past, append-nil, length-map, get_or-map, map-append}
+use Rattle.std.proofs.lemmas.List.{get_or_past, append-nil, length-map, map-append}
 use Rattle.std.proofs.lemmas.List.Elements.{filter-append}
 use Rattle.std.proofs.lemmas.List.Sums.{sum_by-append}
 use Rattle.mir_syntax.specs.declared.body.Stmt.{Stmt}
@@ -12,10 +12,10 @@ use Rattle.mir_syntax.specs.declared.body.Block.{Block}
 use Rattle.mir_syntax.specs.declared.body.Term.{Term}
 use Rattle.mir_syntax.specs.declared.body.Term.TheVariants.{Unreachable}
 use Rattle.cfg_simplify.specs.Edges.{targets, retarget, goto_block, edges, Closed}
-use Rattle.cfg_simplify.specs.Simple.{numbers, onward, walk, reached, joins_to, only_if, joined, is_at, is_joined, stays, line, new_number}
-use Rattle.cfg_simplify.specs.Code.{at, link_at, flag_at, block_term, hollow, stmts_in, bare_whole, bare_regrouped}
-use Rattle.cfg_simplify.proofs.Lists.{numbers_push, get_from, length-numbers, same_numbers}
-use Rattle.cfg_simplify.proofs.Terms.{block-closed, retarget-agree}
+use Rattle.cfg_simplify.specs.Simple.{numbers, onward, walk, reached, joins_to, only_if, joined, is_at, stays, line, new_number}
+use Rattle.cfg_simplify.specs.Code.{at, link_at, flag_at, block_term, hollow, stmts_in}
+use Rattle.cfg_simplify.proofs.Lists.{numbers_push, get_from, length-numbers}
+use Rattle.cfg_simplify.proofs.Terms.{retarget-agree}
 use Rattle.cfg_simplify.proofs.Lines.{joined-tells, last-on-line, apart, walk-same, line-same}
 
 pub number-step : (keep : ℕ → Bool) (i : ℕ) → new_number keep (i + 1) ≡ new_number keep i + (0 + cond (keep i) 1 0)

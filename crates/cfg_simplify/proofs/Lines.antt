@@ -1,16 +1,16 @@
 -- Lines of joined blocks: no two of them meet.
-use Rattle.std.proofs.Common.{◌≡◌, ℕ, zero, suc, ◌+◌, ◌-◌, ◌<◌, ◌≤◌, List, [], ◌∷◌, ◌++◌, map, length, get_or, Bool, true, false, not, cond, ◌&&◌, ◌||◌, ◌==◌, ◌⊎◌, inl, inr, Option, Some, None, refl, sym, ap, ap₂, ◌∙◌, arith}
-use Rattle.std.specs.List.{filter, count_by, flat_map, list_any, range_with_len}
+use Rattle.std.proofs.Common.{◌≡◌, ℕ, zero, suc, ◌+◌, ◌-◌, ◌<◌, ◌≤◌, List, [], ◌∷◌, ◌++◌, length, get_or, Bool, true, false, not, cond, ◌&&◌, ◌==◌, ◌⊎◌, inl, inr, Option, Some, None, refl, sym, ap, ap₂, ◌∙◌, arith}
+use Rattle.std.specs.List.{count_by, flat_map, list_any}
 use Rattle.std.specs.Option.{option_to_list, unwrap_or}
-use Rattle.std.proofs.lemmas.Bool.{eqb-true, eq-eqb, ne_eqb, or_cases, or_left, or_right, or_parts, cases_Bool, cases_eq, cases_lt, cases_order, false_from_ne_true, both_ways, cond-true, cond-false, and_parts, not-true}
-use Rattle.std.proofs.lemmas.List.{get_or_past, append-nil, length-map}
+use Rattle.std.proofs.lemmas.Bool.{eqb-true, eq-eqb, or_cases, or_left, or_right, cases_lt, cases_order, false_from_ne_true, both_ways, cond-true, and_parts, not-true}
+use Rattle.std.proofs.lemmas.List.{get_or_past, append-nil}
 use Rattle.std.proofs.lemmas.List.Folds.{list_any-append, list_any_at}
 use Rattle.std.proofs.lemmas.List.FromFn.{get_or-range_with_len, length-range_with_len}
 use Rattle.std.proofs.lemmas.List.Sums.{sum_by-append}
 use Rattle.mir_syntax.specs.declared.body.Term.{Term}
 use Rattle.mir_syntax.specs.declared.body.Term.TheVariants.{Goto, Switch, Return, Unreachable, Drop, Call, Assert}
-use Rattle.cfg_simplify.specs.Edges.{targets, goto_block, edges, Closed}
-use Rattle.cfg_simplify.specs.Simple.{numbers, onward, walk, reached, ends, incoming, joins_to, only_if, joined, is_at, is_joined, stays, line}
+use Rattle.cfg_simplify.specs.Edges.{targets, goto_block, edges}
+use Rattle.cfg_simplify.specs.Simple.{numbers, onward, walk, reached, incoming, joins_to, only_if, joined, is_at, is_joined, stays, line}
 use Rattle.cfg_simplify.specs.Code.{IsFresh}
 use Rattle.cfg_simplify.proofs.Counts.{ends_of, ends-step}
 

@@ -1,15 +1,15 @@
 -- Laws of terminators and their edges.
-use Rattle.std.proofs.Common.{◌≡◌, ℕ, zero, suc, ◌<◌, List, [], ◌∷◌, ◌++◌, map, length, get_or, Option, Some, None, Bool, true, false, cond, refl, sym, ap, ap₂, ◌∙◌, arith}
+use Rattle.std.proofs.Common.{◌≡◌, ℕ, zero, suc, ◌<◌, List, [], ◌∷◌, map, length, get_or, None, Bool, true, false, cond, refl, ap, ap₂, arith}
 use Rattle.std.specs.List.{All}
 use Rattle.std.specs.Option.{unwrap_or}
-use Rattle.std.proofs.lemmas.List.Elements.{All-head, All-tail, All-get_or}
+use Rattle.std.proofs.lemmas.List.Elements.{All-head, All-tail}
 use Rattle.std.proofs.lemmas.List.{get_or-map, length-map}
 use Rattle.mir_syntax.specs.declared.body.Arm.{Arm}
 use Rattle.mir_syntax.specs.declared.body.Operand.{Operand}
 use Rattle.mir_syntax.specs.declared.body.Block.{Block}
 use Rattle.mir_syntax.specs.declared.body.Term.{Term}
 use Rattle.mir_syntax.specs.declared.body.Term.TheVariants.{Goto, Switch, Return, Unreachable, Drop, Call, Assert}
-use Rattle.cfg_simplify.specs.Edges.{arm_block, targets, retarget, retarget_arm, goto_block, edges, Closed}
+use Rattle.cfg_simplify.specs.Edges.{arm_block, targets, retarget, retarget_arm, goto_block, Closed}
 use Rattle.cfg_simplify.specs.Simple.{is_nil, onward, goto_link}
 use Rattle.cfg_simplify.specs.Code.{block_term, bare_goto, hollow}
 use Rattle.cfg_simplify.proofs.Lists.{All-left, All-last}

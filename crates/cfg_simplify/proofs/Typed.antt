@@ -1,17 +1,16 @@
 -- The code's blocks, seen with the types that their ids stand for.
-use Rattle.std.proofs.Common.{◌≡◌, ℕ, ◌<◌, List, [], ◌∷◌, ◌++◌, map, length, get_or, Option, None, cond, refl, sym, ap, ap₂, ◌∙◌}
+use Rattle.std.proofs.Common.{◌≡◌, ℕ, List, [], ◌∷◌, ◌++◌, map, length, get_or, None, cond, refl, sym, ap, ap₂, ◌∙◌}
 use Rattle.std.specs.List.{filter, flat_map}
 use Rattle.std.proofs.Math.ListN.{get_or-map as get_or_of}
 use Rattle.std.proofs.lemmas.List.{length-map, map-append}
 use Rattle.std.proofs.lemmas.Simd.{map-map}
-use Rattle.mir_syntax.specs.declared.body.Stmt.{Stmt}
 use Rattle.mir_syntax.specs.declared.body.Block.{Block}
 use Rattle.mir_syntax.specs.declared.body.Term.{Term}
 use Rattle.mir_syntax.specs.declared.body.Term.TheVariants.{Unreachable}
 use Rattle.mir_syntax.specs.Tree.{Tree}
 use Rattle.mir_syntax.specs.Crate.{TypedStmt, TypedBlock, stmt_of, block_of}
 use Rattle.cfg_simplify.specs.Edges.{retarget, goto_block}
-use Rattle.cfg_simplify.specs.Simple.{numbers, onward, walk, is_nil, empty_goto, landing, hopped_block, hopped, joined, stays, line, new_number, term_of, no_block, stmts_at, whole_block, regrouped, simple_blocks}
+use Rattle.cfg_simplify.specs.Simple.{numbers, onward, walk, is_nil, empty_goto, landing, hopped_block, hopped, joined, stays, line, new_number, term_of, stmts_at, whole_block, regrouped, simple_blocks}
 use Rattle.cfg_simplify.specs.Code.{block_term, bare_goto, hollow, stmts_in, bare_hopped_block, bare_hopped, bare_whole, bare_regrouped}
 
 map-same : {X Y : Type 0} (f g : X → Y) (xs : List X) → ((x : X) → f x ≡ g x) → map f xs ≡ map g xs

@@ -6,7 +6,7 @@ use Rattle.mir_syntax.specs.declared.body.Term.{Term}
 use Rattle.mir_syntax.specs.declared.body.Term.TheVariants.{Unreachable}
 use Rattle.mir_syntax.specs.declared.body.Block.{Block}
 use Rattle.cfg_simplify.specs.Edges.{goto_block, retarget}
-use Rattle.cfg_simplify.specs.Simple.{numbers, onward, walk, is_nil, goto_link, landing, joined, stays, line, new_number}
+use Rattle.cfg_simplify.specs.Simple.{numbers, onward, walk, is_nil, landing, joined, stays, line, new_number}
 
 abbrev pub block_term : Block → Term
 block_term b = b.term

@@ -6,7 +6,7 @@ use Rattle.std.specs.Option.{option_to_list, unwrap_or}
 use Rattle.mir_syntax.specs.declared.body.Term.{Term}
 use Rattle.mir_syntax.specs.declared.body.Term.TheVariants.{Unreachable}
 use Rattle.mir_syntax.specs.Crate.{TypedStmt, TypedBlock, TypedBody}
-use Rattle.cfg_simplify.specs.Edges.{targets, retarget, goto_block, edges}
+use Rattle.cfg_simplify.specs.Edges.{retarget, goto_block, edges}
 
 -- the numbers below a bound, in order
 abbrev pub numbers : ℕ → List ℕ

@@ -21,7 +21,7 @@ use Rattle.mir_lex.proofs.PiecesFound.{piece-found, pieces-lexed, fewer_pieces, 
 use Rattle.mir_lex.specs.declared.kind.LexFault.{LexFault}
 use Rattle.mir_lex.specs.Tokens.{digits_front, digits_rest, found_from, sign_two, number_of, number_at, number_with, suffixed, local_of, kind_of, word_at, underscore_at, text_past, text_with, sign_at, token_at, found_token, slash_at, found_at, lexed_from, lexed}
 use Rattle.mir_text.specs.Bytes.{suffix_in, suffixes, begins, is_blank, is_in_line, is_name_byte, suffix_at, suffix_text, AreAll}
-use Rattle.mir_text.specs.Pieces.{Mark, open_paren, close_paren, open_brace, close_brace, open_bracket, close_bracket, comma, semicolon, colon, colons, dot, ampersand, star, exclamation, equals, hash, minus, arrow, fat_arrow, less, greater, bar, question, mark_text, Piece, blank, line, comment, local, number, typed, text, word, under, mark, spelled, taken_next, IsContent, IsPiece, ends_mark, Ends, text_of, Stand, line_past}
+use Rattle.mir_text.specs.Pieces.{Mark, open_paren, close_paren, open_brace, close_brace, open_bracket, close_bracket, comma, semicolon, colon, colons, dot, ampersand, star, exclamation, equals, hash, minus, arrow, fat_arrow, less, greater, bar, question, mark_text, Piece, blank, line, comment, local, number, typed, text, word, under, mark, spelled, taken_next, IsContent, ends_mark, Ends, text_of, Stand, line_past}
 use Rattle.mir_lex.specs.Pieces.{mark_place, found_of, tokens_of, Front, IsFound, fault_code, FaultAt, EndsAt, Lexes}
 
 -- ---- tests

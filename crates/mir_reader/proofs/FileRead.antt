@@ -1,24 +1,23 @@
 -- A text of one function of the first form is read by the grammar.
-use Rattle.std.proofs.Common.{◌≡◌, ℕ, zero, suc, ◌+◌, ◌<◌, ◌≤◌, Bool, true, false, List, [], ◌∷◌, ◌++◌, map, length, Option, Some, None, refl, sym, ap, subst, ◌∙◌, arith}
-use Rattle.mir_syntax.specs.declared.body.Block.{Block}
+use Rattle.std.proofs.Common.{◌≡◌, ℕ, suc, ◌<◌, ◌≤◌, true, false, List, [], ◌∷◌, map, length, Some, None, refl, ap, ◌∙◌, arith}
 use Rattle.mir_text.specs.declared.symbol.Symbol.{Symbol}
 use Rattle.mir_text.specs.declared.symbol.Symbol.TheVariants as s
 use Rattle.mir_text.specs.Grammar.{Items, end, last, more, items_put, items_of, AllItems, each_put, AllOf}
 use Rattle.mir_text.specs.GrammarTypes as t
-use Rattle.mir_text.specs.GrammarTypes.{TypeRule, type_put, path_put}
+use Rattle.mir_text.specs.GrammarTypes.{TypeRule, type_put}
 use Rattle.mir_text.specs.GrammarStatements.{StmtRule}
 use Rattle.mir_text.specs.GrammarTerms as g
 use Rattle.mir_text.specs.GrammarTerms.{TermRule, term_put, BlockRule, block_put, ended_put}
 use Rattle.mir_text.specs.GrammarItems as m
-use Rattle.mir_text.specs.GrammarItems.{ArgRule, arg_put, DeclRule, decl_put, DeclsRule, decls_put, FnRule, fn_put, result_put, FileRule, file_put}
+use Rattle.mir_text.specs.GrammarItems.{ArgRule, arg_put, DeclRule, decl_put, DeclsRule, decls_put, FnRule, fn_put, result_put, file_put}
 use Rattle.mir_reader.specs.declared.text.SmallTy.{SmallTy}
 use Rattle.mir_reader.specs.declared.text.Declared.{Declared}
 use Rattle.mir_reader.specs.declared.text.FunctionText.{FunctionText}
-use Rattle.mir_reader.specs.Parser.{Found, Parse, and_then, open_paren, open_brace, close_brace, arrow}
-use Rattle.mir_reader.specs.Reading.{small_ty, begins_block, blocks_from, blocks, begins_let, lets_from, lets, arguments_from, arguments, body_text, after_path, after_fn, function, whole_of, function_text}
+use Rattle.mir_reader.specs.Parser.{Found, open_paren, open_brace, close_brace, arrow}
+use Rattle.mir_reader.specs.Reading.{small_ty, begins_block, blocks, begins_let, lets, arguments, body_text, after_path, after_fn, function, whole_of, function_text}
 use Rattle.mir_reader.specs.First.{FirstType, FirstArg, FirstDecl, FirstDecls, FirstTerm}
 use Rattle.mir_reader.specs.FirstText.{small_of, GoodStmt, block_of, GoodBlocks, arg_of, lets_listed, GoodFn, text_of, file_of}
-use Rattle.mir_reader.proofs.Laws.{IsRead, in_steps, some_same, on, open_paren-sound, open_brace-sound, close_brace-sound, arrow-sound}
+use Rattle.mir_reader.proofs.Laws.{IsRead, in_steps, some_same, open_paren-sound, open_brace-sound, close_brace-sound, arrow-sound}
 use Rattle.mir_reader.proofs.TypesRead.{small-complete, small-sound}
 use Rattle.mir_reader.proofs.ListsRead.{stmt-longer}
 use Rattle.mir_reader.proofs.FunctionRead.{blocks-complete, blocks-sound, decl_count, lets-complete, lets-sound, item_count, args-complete, args-sound}
@@ -110,7 +109,7 @@ function-complete f rest good =
 
 body-sound : {R : Type 0} (args : List Declared) (ty : SmallTy) (ts : List Symbol) (x : FunctionText) (rest : List Symbol) → body_text args ty ts ≡ Some (x, rest)
     → ((ds : DeclsRule) (bs : List BlockRule) → FirstDecls ds → GoodBlocks 0 bs → (let c : FunctionText = record { args = args; returned = ty; lets = lets_listed ds; blocks = map block_of bs } in c ≡ x)
-       → ts ≡ s.OpenBrace ∷ decls_put ds (each_put block_put bs (s.CloseBrace ∷ rest)) → R) → R
+    → ts ≡ s.OpenBrace ∷ decls_put ds (each_put block_put bs (s.CloseBrace ∷ rest)) → R) → R
 unfolding body_text
 body-sound args ty ts x rest h k =
     in_steps (open_brace ts) _ _ h (λ _ ts1 f1 w1. in_steps (lets ts1) _ _ w1 (λ ds ts2 f2 w2. in_steps (blocks ts2) _ _ w2 (λ bs ts3 f3 w3. in_steps (close_brace ts3) _ _ w3 (λ _ ts4 f4 w4.
@@ -118,9 +117,9 @@ body-sound args ty ts x rest h k =
     let l = lets-sound (suc (length ts1)) [] ts1 ds ts2 f2 in
     let b = blocks-sound (suc (length ts2)) [] ts2 bs ts3 f3 in
     k l.rules b.rules l.good b.good
-      (ap (λ y. let c : FunctionText = record { args = args; returned = ty; lets = y; blocks = map block_of b.rules } in c) l.reads
-       ∙ ap (λ y. let c : FunctionText = record { args = args; returned = ty; lets = ds; blocks = y } in c) b.reads ∙ ap (λ q. q.0) e)
-      (open_brace-sound ts (tt, ts1) f1 ∙ ap (λ y. s.OpenBrace ∷ y) (l.yields ∙ ap (decls_put l.rules) (b.yields ∙ ap (each_put block_put b.rules) (close_brace-sound ts3 (tt, ts4) f4 ∙ ap (λ q. s.CloseBrace ∷ q.1) e))))))))
+    (ap (λ y. let c : FunctionText = record { args = args; returned = ty; lets = y; blocks = map block_of b.rules } in c) l.reads
+    ∙ ap (λ y. let c : FunctionText = record { args = args; returned = ty; lets = ds; blocks = y } in c) b.reads ∙ ap (λ q. q.0) e)
+    (open_brace-sound ts (tt, ts1) f1 ∙ ap (λ y. s.OpenBrace ∷ y) (l.yields ∙ ap (decls_put l.rules) (b.yields ∙ ap (each_put block_put b.rules) (close_brace-sound ts3 (tt, ts4) f4 ∙ ap (λ q. s.CloseBrace ∷ q.1) e))))))))
 
 after_path-sound : (n : ℕ) (ts : List Symbol) (x : FunctionText) (rest : List Symbol) → after_path ts ≡ Some (x, rest) → IsRead fn_put text_of GoodFn (s.Fn ∷ s.Name n ∷ ts) x rest
 unfolding after_path
@@ -133,9 +132,9 @@ after_path-sound n ts x rest h =
     record {
       rule = record { attr = m.none; is_drop = false; path = t.name n; args = a.rules; result = u.rule; locals = ds; blocks = bs };
       reads = ap (λ z. let c : FunctionText = record { args = z; returned = small_of u.rule; lets = lets_listed ds; blocks = map block_of bs } in c) a.reads
-        ∙ ap (λ z. let c : FunctionText = record { args = args; returned = z; lets = lets_listed ds; blocks = map block_of bs } in c) u.reads ∙ same ∙ ap (λ q. q.0) e;
+          ∙ ap (λ z. let c : FunctionText = record { args = args; returned = z; lets = lets_listed ds; blocks = map block_of bs } in c) u.reads ∙ same ∙ ap (λ q. q.0) e;
       yields = ap (λ z. s.Fn ∷ s.Name n ∷ z) (open_paren-sound ts (tt, ts1) f1 ∙ ap (λ z. s.Open ∷ z) (a.yields ∙ ap (items_put arg_put s.Close a.rules)
-        (arrow-sound ts2 (tt, ts3) f3 ∙ ap (λ z. s.Arrow ∷ z) (u.yields ∙ ap (type_put u.rule) (yields ∙ ap (λ q. s.OpenBrace ∷ decls_put ds (each_put block_put bs (s.CloseBrace ∷ q.1))) e)))));
+          (arrow-sound ts2 (tt, ts3) f3 ∙ ap (λ z. s.Arrow ∷ z) (u.yields ∙ ap (type_put u.rule) (yields ∙ ap (λ q. s.OpenBrace ∷ decls_put ds (each_put block_put bs (s.CloseBrace ∷ q.1))) e)))));
       good = record { attr = refl; plain = refl; number = n; path = refl; args = a.good; result = u.good; locals = d; blocks = b };
     }))))))
 

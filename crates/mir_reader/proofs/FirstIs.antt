@@ -1,7 +1,6 @@
 -- What is read of a text is the first form.
-use Rattle.std.proofs.Common.{◌≡◌, ℕ, List, [], ◌∷◌, length, Option, Some, None, refl, sym, ap, subst, ◌∙◌}
+use Rattle.std.proofs.Common.{◌≡◌, ℕ, List, [], length, Option, Some, None, refl, sym, ap, ◌∙◌}
 use Rattle.mir_syntax.specs.Tree.{trees_of}
-use Rattle.mir_syntax.specs.Crate.{crate_of}
 use Rattle.mir_syntax.specs.declared.program.Program.{Program}
 use Rattle.mir_text.specs.declared.symbol.Symbol.{Symbol}
 use Rattle.mir_text.specs.GrammarItems.{FnRule, file_put}
@@ -12,7 +11,7 @@ use Rattle.mir_reader.specs.FirstText.{GoodFn, text_of, file_of}
 use Rattle.mir_reader.specs.Reading.{function_text}
 use Rattle.mir_reader.specs.Tokens.{symbols_in}
 use Rattle.mir_reader.specs.Checks.{checked, crate_with}
-use Rattle.mir_reader.specs.FirstRead.{Parts, with_locals, with_function, with_symbols, first_read, IsOf}
+use Rattle.mir_reader.specs.FirstRead.{with_locals, with_function, with_symbols, first_read, IsOf}
 use Rattle.mir_reader.specs.FirstForm.{IsFirst, ReadsFirst, IsNotFirst}
 use Rattle.mir_reader.proofs.TokensRead.{plain-found, found-plain}
 use Rattle.mir_reader.proofs.FileRead.{text-complete, text-sound}

@@ -1,22 +1,20 @@
 -- Blocks, `let` lines, arguments and a whole function are read by the grammar.
-use Rattle.std.proofs.Common.{◌≡◌, ℕ, zero, suc, ◌+◌, ◌-◌, ◌<◌, ◌≤◌, Bool, true, false, List, [], ◌∷◌, ◌++◌, map, length, Option, Some, None, refl, sym, ap, subst, ◌∙◌, arith, append_assoc, append-nil, length-append}
+use Rattle.std.proofs.Common.{◌≡◌, ℕ, zero, suc, ◌+◌, ◌-◌, ◌<◌, Bool, true, false, List, [], ◌∷◌, ◌++◌, map, length, Option, Some, None, refl, sym, ap, subst, ◌∙◌, arith, append_assoc, append-nil, length-append}
 use Rattle.mir_syntax.specs.declared.body.Block.{Block}
 use Rattle.mir_text.specs.declared.symbol.Symbol.{Symbol}
 use Rattle.mir_text.specs.declared.symbol.Symbol.TheVariants as s
-use Rattle.mir_text.specs.Grammar.{Items, end, last, more, items_put, items_of, AllItems, each_put, AllOf}
+use Rattle.mir_text.specs.Grammar.{Items, end, last, more, items_put, items_of, AllItems, each_put}
 use Rattle.mir_text.specs.GrammarTypes as t
-use Rattle.mir_text.specs.GrammarTypes.{TypeRule, type_put}
+use Rattle.mir_text.specs.GrammarTypes.{type_put}
 use Rattle.mir_text.specs.GrammarTerms.{BlockRule, block_put}
 use Rattle.mir_text.specs.GrammarItems as m
-use Rattle.mir_text.specs.GrammarItems.{ArgRule, arg_put, DeclRule, decl_put, DeclsRule, decls_put, FnRule, fn_put, result_put, file_put}
-use Rattle.mir_reader.specs.declared.text.SmallTy.{SmallTy}
+use Rattle.mir_text.specs.GrammarItems.{ArgRule, arg_put, DeclRule, decl_put, DeclsRule, decls_put}
 use Rattle.mir_reader.specs.declared.text.Declared.{Declared}
-use Rattle.mir_reader.specs.declared.text.FunctionText.{FunctionText}
-use Rattle.mir_reader.specs.Parser.{Found, Parse, and_then, open_paren, close, open_brace, close_brace, colon, comma, semicolon, arrow, local}
-use Rattle.mir_reader.specs.Reading.{small_ty, labelled, begins_block, blocks_from, blocks, declared, past_mut, let_line, begins_let, goes_on, let_turn_by, let_turn, lets_from, lets, past_close, after_by, after_argument, turn_by, argument_turn, arguments_from, arguments, body_text, after_path, after_fn, function, whole_of, function_text}
-use Rattle.mir_reader.specs.First.{FirstType, FirstArg, FirstDecl, FirstDecls}
+use Rattle.mir_reader.specs.Parser.{and_then, colon, comma, semicolon, local}
+use Rattle.mir_reader.specs.Reading.{small_ty, labelled, begins_block, blocks_from, declared, past_mut, let_line, begins_let, goes_on, let_turn_by, let_turn, lets_from, past_close, after_by, after_argument, turn_by, argument_turn, arguments_from}
+use Rattle.mir_reader.specs.First.{FirstArg, FirstDecl, FirstDecls}
 use Rattle.mir_reader.specs.FirstText.{GoodBlock, block_of, GoodBlocks, arg_of, let_of, lets_listed}
-use Rattle.mir_reader.proofs.Laws.{IsRead, in_steps, some_same, on, open_paren-sound, close-sound, open_brace-sound, close_brace-sound, colon-sound, comma-sound, semicolon-sound, arrow-sound, local-sound}
+use Rattle.mir_reader.proofs.Laws.{IsRead, in_steps, some_same, on, colon-sound, comma-sound, semicolon-sound, local-sound}
 use Rattle.mir_reader.proofs.TypesRead.{small-complete, small-sound}
 use Rattle.mir_reader.proofs.ListsRead.{block-complete, block-sound}
 

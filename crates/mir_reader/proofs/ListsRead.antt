@@ -1,22 +1,20 @@
 -- Statements, blocks, `let` lines and arguments are read by the grammar.
-use Rattle.std.proofs.Common.{◌≡◌, ℕ, zero, suc, ◌+◌, ◌-◌, ◌<◌, ◌≤◌, Bool, true, false, not, ◌==◌, ◌&&◌, nat_eq, nat_lt, List, [], ◌∷◌, ◌++◌, map, length, Option, Some, None, refl, sym, ap, subst, ◌∙◌, arith, append_assoc, append-nil, length-append}
+use Rattle.std.proofs.Common.{◌≡◌, ℕ, zero, suc, ◌+◌, ◌-◌, ◌<◌, ◌≤◌, true, false, ◌==◌, List, [], ◌∷◌, ◌++◌, map, length, Some, refl, sym, ap, ◌∙◌, arith, append_assoc, append-nil}
 use Rattle.std.proofs.lemmas.Bool.{eqb-true}
 use Rattle.std.proofs.lemmas.Bool.Decides.{nat_tests}
 use Rattle.mir_syntax.specs.declared.body.Stmt.{Stmt}
-use Rattle.mir_syntax.specs.declared.body.Term.{Term}
 use Rattle.mir_syntax.specs.declared.body.Block.{Block}
 use Rattle.mir_text.specs.declared.symbol.Symbol.{Symbol}
 use Rattle.mir_text.specs.declared.symbol.Symbol.TheVariants as s
 use Rattle.mir_text.specs.Grammar.{each_put, AllOf}
-use Rattle.mir_text.specs.GrammarTypes as t
 use Rattle.mir_text.specs.GrammarPlaces as p
 use Rattle.mir_text.specs.GrammarPlaces.{OperandRule, operand_put}
 use Rattle.mir_text.specs.GrammarStatements as r
-use Rattle.mir_text.specs.GrammarStatements.{StmtRule, stmt_put}
+use Rattle.mir_text.specs.GrammarStatements.{StmtRule}
 use Rattle.mir_text.specs.GrammarTerms as g
 use Rattle.mir_text.specs.GrammarTerms.{TermRule, term_put, BlockRule, block_put, ended_put}
-use Rattle.mir_reader.specs.Parser.{Found, Parse, and_then, open_brace, close_brace, colon, semicolon}
-use Rattle.mir_reader.specs.Reading.{assignment, term, begins_statement, more_statements, statements_from, statements, block_body, label, labelled, begins_block, more_blocks, blocks_from, blocks}
+use Rattle.mir_reader.specs.Parser.{open_brace, close_brace, colon, semicolon}
+use Rattle.mir_reader.specs.Reading.{assignment, term, begins_statement, statements_from, statements, block_body, label, labelled}
 use Rattle.mir_reader.specs.First.{FirstTerm}
 use Rattle.mir_reader.specs.FirstText.{GoodOperand, GoodStmt, stmt_of, term_of, GoodBlock, block_of}
 use Rattle.mir_reader.proofs.Laws.{IsRead, in_steps, some_same, on, colon-sound, semicolon-sound, open_brace-sound, close_brace-sound}
@@ -106,8 +104,10 @@ body-complete : (xs : List StmtRule) (x : TermRule) (rest : List Symbol) → All
 unfolding block_body open_brace semicolon close_brace
 body-complete xs x rest good is =
     let after = term_put x (s.Semicolon ∷ s.CloseBrace ∷ rest) in
-    rw (stmts-complete xs (suc (length (each_put ended_put xs after))) [] after (omega (arith, fewer_stmts xs after good)) good (term-begins x (s.Semicolon ∷ s.CloseBrace ∷ rest) is),
-      term-complete x (s.Semicolon ∷ s.CloseBrace ∷ rest) is) refl
+    rw (
+      stmts-complete xs (suc (length (each_put ended_put xs after))) [] after (omega (arith, fewer_stmts xs after good)) good (term-begins x (s.Semicolon ∷ s.CloseBrace ∷ rest) is),
+      term-complete x (s.Semicolon ∷ s.CloseBrace ∷ rest) is,
+    ) refl
 
 label-is : (k : ℕ) (ts : List Symbol) → label k (s.Block k ∷ ts) ≡ Some (tt, ts)
 unfolding label
@@ -126,9 +126,9 @@ body-sound ts b rest h k =
     let ss = stmts-sound (suc (length ts1)) [] ts1 xs ts2 f2 in
     let tr = term-sound ts2 x ts3 f3 in
     k ss.rules tr.rule ss.good tr.good
-      (ap (λ l. let c : Block = record { stmts = l; term = term_of tr.rule } in c) ss.reads ∙ ap (λ y. let c : Block = record { stmts = xs; term = y } in c) tr.reads ∙ ap (λ q. q.0) e)
-      (open_brace-sound ts (tt, ts1) f1 ∙ ap (λ l. s.OpenBrace ∷ l) (ss.yields ∙ ap (each_put ended_put ss.rules) (tr.yields ∙ ap (term_put tr.rule)
-        (semicolon-sound ts3 (tt, ts4) f4 ∙ ap (λ l. s.Semicolon ∷ l) (close_brace-sound ts4 (tt, ts5) f5 ∙ ap (λ q. s.CloseBrace ∷ q.1) e))))))))))
+    (ap (λ l. let c : Block = record { stmts = l; term = term_of tr.rule } in c) ss.reads ∙ ap (λ y. let c : Block = record { stmts = xs; term = y } in c) tr.reads ∙ ap (λ q. q.0) e)
+    (open_brace-sound ts (tt, ts1) f1 ∙ ap (λ l. s.OpenBrace ∷ l) (ss.yields ∙ ap (each_put ended_put ss.rules) (tr.yields ∙ ap (term_put tr.rule)
+    (semicolon-sound ts3 (tt, ts4) f4 ∙ ap (λ l. s.Semicolon ∷ l) (close_brace-sound ts4 (tt, ts5) f5 ∙ ap (λ q. s.CloseBrace ∷ q.1) e))))))))))
 
 label-sound : (k : ℕ) (ts : List Symbol) (q : Unit {0} × List Symbol) → label k ts ≡ Some q → ts ≡ s.Block k ∷ q.1
 unfolding label
@@ -148,6 +148,6 @@ block-sound k ts b rest h =
       rule = record { label = k; stmts = xs; term = x };
       reads = same ∙ ap (λ q. q.0) e;
       yields = label-sound k ts (tt, ts1) f1 ∙ ap (λ l. s.Block k ∷ l) (colon-sound ts1 (tt, ts2) f2 ∙ ap (λ l. s.Colon ∷ l)
-        (yields ∙ ap (λ q. s.OpenBrace ∷ each_put ended_put xs (term_put x (s.Semicolon ∷ s.CloseBrace ∷ q.1))) e));
+          (yields ∙ ap (λ q. s.OpenBrace ∷ each_put ended_put xs (term_put x (s.Semicolon ∷ s.CloseBrace ∷ q.1))) e));
       good = record { labelled = refl; stmts = good; term = is };
     }))))

@@ -1,6 +1,6 @@
 -- Slots that nothing stands in.
-use Rattle.std.proofs.Common.{◌≡◌, ℕ, zero, suc, ◌+◌, List, [], ◌∷◌, ◌++◌, None, length, refl, ap, arith}
-use Rattle.mir_reader.specs.Locals.{Slots, empty_slots}
+use Rattle.std.proofs.Common.{◌≡◌, ℕ, zero, suc, ◌+◌, [], ◌∷◌, ◌++◌, None, refl, ap}
+use Rattle.mir_reader.specs.Locals.{empty_slots}
 
 pub empty_more : (n : ℕ) → empty_slots n ++ None ∷ [] ≡ empty_slots (suc n)
 empty_more zero = refl

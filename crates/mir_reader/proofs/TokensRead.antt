@@ -1,25 +1,23 @@
 -- The symbols that the reader finds are those of the pieces of the text.
-use Rattle.std.proofs.Common.{◌≡◌, ℕ, zero, suc, ◌+◌, ◌-◌, ◌<◌, ◌≤◌, ◌^◌, ◌⊎◌, inl, inr, Bool, true, false, ◌==◌, nat_lt, List, [], ◌∷◌, ◌++◌, length, take, drop, Result, Ok, Err, Option, Some, None, refl, sym, ap, subst, ◌∙◌, arith, append_assoc, append-nil, length-append}
+use Rattle.std.proofs.Common.{◌≡◌, ℕ, zero, suc, ◌+◌, ◌-◌, ◌<◌, ◌≤◌, ◌^◌, ◌⊎◌, inl, inr, true, false, ◌==◌, nat_lt, List, [], ◌∷◌, ◌++◌, length, take, Ok, Err, Option, Some, None, refl, sym, ap, subst, ◌∙◌, arith, append_assoc, append-nil, length-append}
 use Rattle.std.proofs.Math.Seq.{take-append_seam}
 use Rattle.std.proofs.lemmas.Bool.Decides.{nat_tests}
-use Rattle.std.specs.Char.{is_ascii_digit, is_ascii_alphabetic}
+use Rattle.std.specs.Char.{is_ascii_alphabetic}
 use Rattle.std.specs.Str.Parse.{digits_value}
 use Rattle.mir_syntax.specs.declared.types.IntTy.{IntTy}
 use Rattle.mir_text.specs.declared.symbol.Symbol.{Symbol}
 use Rattle.mir_text.specs.declared.symbol.Symbol.TheVariants as s
-use Rattle.mir_text.specs.Bytes.{AreAll}
 use Rattle.mir_text.specs.Pieces.{Mark, open_paren, close_paren, open_brace, close_brace, open_bracket, close_bracket, comma, semicolon, colon, colons, dot, ampersand, star, exclamation, equals, hash, minus, arrow, fat_arrow, less, greater, bar, question, mark_text, Piece, blank, line, comment, local, number, typed, text, word, under, mark, spelled, IsPiece, Ends, text_of, Stand}
-use Rattle.mir_text.specs.Symbols.{Token, nothing, symbol, name, string, token_of, numbered, mark_symbol, word_symbol, block_digits, block_or_word, reserved_or_name, word_token}
+use Rattle.mir_text.specs.Symbols.{Token, nothing, symbol, name, string, token_of, numbered, mark_symbol, block_digits, block_or_word, reserved_or_name, word_token}
 use Rattle.mir_text.specs.Words.{word_place}
 use Rattle.mir_lex.specs.declared.kind.Kind.{Kind}
 use Rattle.mir_lex.specs.declared.kind.Kind.TheVariants as k
-use Rattle.mir_lex.specs.declared.scan.Found.{Found}
 use Rattle.mir_lex.specs.declared.scan.Found.TheVariants as f
 use Rattle.mir_lex.specs.Tokens.{number_of, numbered_by, local_of, block_of, kind_by, kind_of, found_from}
-use Rattle.mir_lex.specs.Pieces.{mark_place, found_of}
+use Rattle.mir_lex.specs.Pieces.{mark_place}
 use Rattle.mir_lex.proofs.PiecesFound.{piece-found, fewer_pieces}
 use Rattle.mir_lex.proofs.PiecesSound.{Cut, cut}
-use Rattle.mir_reader.specs.Tokens.{sign_symbol, symbol_of, name_after, Turn, turn_by, turn, goes_on, symbols_from, symbols_in}
+use Rattle.mir_reader.specs.Tokens.{sign_symbol, symbol_of, name_after, turn_by, turn, goes_on, symbols_from, symbols_in}
 use Rattle.mir_reader.specs.First.{IsUncommented}
 use Rattle.mir_reader.specs.FirstPieces.{put_plain, plain_symbols, named_by, last_name, IsPlain}
 use Rattle.mir_reader.proofs.Laws.{on, some_same}
@@ -290,7 +288,7 @@ read-whole [] n before last left found stands ended h = (tt, faulty left n befor
 read-whole (q ∷ ps) zero before last left found stands ended h = absurd (none-read _ before last found h)
 read-whole (q ∷ ps) (suc n) before last left found stands ended h =
     read-next q ps n before last left found stands ended (ap (λ l. symbols_from (suc n) before last l) (sym (append_assoc (spelled q) (text_of ps) left)) ∙ h) (comment_or_not q)
-      (λ now name h2. read-whole ps n now name left found stands.2 ended h2)
+    (λ now name h2. read-whole ps n now name left found stands.2 ended h2)
 
 -- the cut of a text that is read
 read-cut : (bytes : List ℕ) (symbols : List Symbol) (last : List ℕ) (c : Cut bytes) → symbols_in bytes ≡ Some (symbols, last) → IsUncommented c.pieces × (c.left ≡ [])

@@ -1,7 +1,6 @@
 -- Types, operands, statements, terminators and blocks are read by the grammar.
-use Rattle.std.proofs.Common.{◌≡◌, ℕ, zero, suc, ◌+◌, ◌-◌, ◌<◌, ◌≤◌, Bool, true, false, not, ◌==◌, nat_lt, List, [], ◌∷◌, ◌++◌, length, Option, Some, None, refl, sym, ap, subst, ◌∙◌, arith, append_assoc, append-nil}
+use Rattle.std.proofs.Common.{◌≡◌, ℕ, ◌-◌, Bool, true, false, List, [], ◌∷◌, Option, Some, None, refl, ap, ◌∙◌}
 use Rattle.mir_syntax.specs.declared.types.IntTy.{IntTy}
-use Rattle.mir_syntax.specs.declared.types.ScalarTy.TheVariants as scalar_ty
 use Rattle.mir_syntax.specs.declared.body.Const.{Const}
 use Rattle.mir_syntax.specs.declared.body.Const.TheVariants as const
 use Rattle.mir_syntax.specs.declared.body.Operand.{Operand}
@@ -10,29 +9,25 @@ use Rattle.mir_syntax.specs.declared.body.Rvalue.TheVariants as rvalue
 use Rattle.mir_syntax.specs.declared.body.Stmt.{Stmt}
 use Rattle.mir_syntax.specs.declared.body.Stmt.TheVariants as stmt_is
 use Rattle.mir_syntax.specs.declared.body.Term.{Term}
-use Rattle.mir_syntax.specs.declared.body.Term.TheVariants as term_is
 use Rattle.mir_syntax.specs.declared.body.Block.{Block}
 use Rattle.mir_text.specs.declared.symbol.Symbol.{Symbol}
 use Rattle.mir_text.specs.declared.symbol.Symbol.TheVariants as s
 use Rattle.mir_text.specs.Numbers.{fits, bits_of}
-use Rattle.mir_text.specs.Grammar.{each_put, AllOf}
 use Rattle.mir_text.specs.GrammarTypes as t
 use Rattle.mir_text.specs.GrammarTypes.{TypeRule, type_put}
 use Rattle.mir_text.specs.GrammarPlaces as p
-use Rattle.mir_text.specs.GrammarPlaces.{PlaceRule, place_put, ValueRule, value_put, OperandRule, operand_put}
+use Rattle.mir_text.specs.GrammarPlaces.{ValueRule, value_put, OperandRule, operand_put}
 use Rattle.mir_text.specs.GrammarStatements as r
-use Rattle.mir_text.specs.GrammarStatements.{RvalueRule, StmtRule, stmt_put}
+use Rattle.mir_text.specs.GrammarStatements.{StmtRule}
 use Rattle.mir_text.specs.GrammarTerms as g
-use Rattle.mir_text.specs.GrammarTerms.{TermRule, term_put, BlockRule, block_put, ended_put}
-use Rattle.mir_text.specs.Nesting.{ValueFits}
-use Rattle.mir_text.specs.NamedBodies.{local_in, value_named}
+use Rattle.mir_text.specs.GrammarTerms.{TermRule, term_put, ended_put}
+use Rattle.mir_text.specs.NamedBodies.{value_named}
 use Rattle.mir_reader.specs.declared.text.SmallTy.{SmallTy}
-use Rattle.mir_reader.specs.declared.text.SmallTy.TheVariants as small
-use Rattle.mir_reader.specs.Parser.{Found, Parse, and_then, open_paren, close, open_brace, close_brace, colon, semicolon, equals, arrow, local, block_number}
-use Rattle.mir_reader.specs.Reading.{small_ty, constant, constant_by, negative_value, value, whole, operand, assignment, goto, term, begins_statement, more_statements, statements_from, statements, block_body, label, labelled}
-use Rattle.mir_reader.specs.First.{FirstType, FirstPlace, FirstValue, FirstOperand, FirstRvalue, FirstStmt, FirstTerm, FirstBlock}
+use Rattle.mir_reader.specs.Parser.{and_then, close, semicolon, equals, arrow, local, block_number}
+use Rattle.mir_reader.specs.Reading.{small_ty, constant, constant_by, negative_value, value, whole, operand, assignment, goto, term}
+use Rattle.mir_reader.specs.First.{FirstType, FirstTerm}
 use Rattle.mir_reader.specs.FirstText.{small_of, GoodValue, GoodOperand, operand_of, GoodStmt, stmt_of, term_of}
-use Rattle.mir_reader.proofs.Laws.{IsRead, in_steps, some_same, on, close-sound, colon-sound, semicolon-sound, equals-sound, arrow-sound, open_brace-sound, close_brace-sound, local-sound, block_number-sound}
+use Rattle.mir_reader.proofs.Laws.{IsRead, in_steps, some_same, on, close-sound, semicolon-sound, equals-sound, arrow-sound, local-sound, block_number-sound}
 
 -- ---- types
 

@@ -1,5 +1,5 @@
 -- What the reader asks of a function that it has read. No public promise rests on these.
-use Rattle.std.specs.Prelude.{ℕ, suc, ◌-◌, Bool, true, false, not, ◌&&◌, nat_lt, nat_le, ◌==◌, List, [], ◌∷◌, map, length, slice_get, get_or, Option, Some, None, if◌then◌else◌}
+use Rattle.std.specs.Prelude.{ℕ, ◌-◌, Bool, true, false, not, ◌&&◌, nat_lt, nat_le, ◌==◌, List, [], ◌∷◌, map, length, slice_get, Option, Some, None, if◌then◌else◌}
 use Rattle.std.specs.List.{list_all}
 use Rattle.mir_syntax.specs.declared.types.ScalarTy.TheVariants as scalar_ty
 use Rattle.mir_syntax.specs.declared.body.Inline.TheVariants as inlining
@@ -7,7 +7,6 @@ use Rattle.mir_syntax.specs.declared.body.Const.{Const}
 use Rattle.mir_syntax.specs.declared.body.Const.TheVariants as const
 use Rattle.mir_syntax.specs.declared.body.Operand.{Operand}
 use Rattle.mir_syntax.specs.declared.body.Operand.TheVariants as operand
-use Rattle.mir_syntax.specs.declared.body.Rvalue.{Rvalue}
 use Rattle.mir_syntax.specs.declared.body.Rvalue.TheVariants as rvalue
 use Rattle.mir_syntax.specs.declared.body.Stmt.{Stmt}
 use Rattle.mir_syntax.specs.declared.body.Stmt.TheVariants as stmt
@@ -83,11 +82,12 @@ checked f = if is_in_bounds f && in_order 1 f.args then if_good f (locals_of f.a
 -- the crate with the one function
 abbrev pub crate_with : List Tree → List ℕ → ℕ → List SmallTy → List Block → Crate
 crate_with trees name args locals blocks = record {
-    defs = [];
-    outsides = [];
-    functions = record {
-      path = name;
-      inlining = inlining.Plain;
-      is_drop = false;
-      body = record { args = args; locals = map tree_of locals; blocks = map (block_of trees) blocks }
-    } ∷ [] }
+  defs = [];
+  outsides = [];
+  functions = record {
+    path = name;
+    inlining = inlining.Plain;
+    is_drop = false;
+    body = record { args = args; locals = map tree_of locals; blocks = map (block_of trees) blocks };
+  } ∷ [];
+}

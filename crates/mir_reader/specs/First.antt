@@ -1,7 +1,6 @@
 -- The first form of a text: which derivations are of it, and which crate such a text names.
-use Rattle.std.specs.Prelude.{ℕ, ◌≡◌, Bool, false, List, [], ◌∷◌, length}
-use Rattle.mir_syntax.specs.Crate.{Crate, TypedFunction}
-use Rattle.mir_text.specs.Pieces.{Piece, blank, line, comment, local, number, typed, text, word, under, mark}
+use Rattle.std.specs.Prelude.{◌≡◌, false, List, [], ◌∷◌}
+use Rattle.mir_text.specs.Pieces.{Piece, comment, local, number}
 use Rattle.mir_text.specs.Grammar.{AllItems, AllOf}
 use Rattle.mir_text.specs.GrammarTypes as t
 use Rattle.mir_text.specs.GrammarTypes.{PathRule, TypeRule}

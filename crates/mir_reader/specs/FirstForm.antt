@@ -1,14 +1,13 @@
 -- Which texts are read as the first form, and as which program.
-use Rattle.std.specs.Prelude.{◌≡◌, ℕ, List, [], map, length, Some}
+use Rattle.std.specs.Prelude.{◌≡◌, ℕ, List, [], length, Some}
 use Rattle.mir_syntax.specs.Tree.{trees_of}
 use Rattle.mir_syntax.specs.Crate.{crate_of}
 use Rattle.mir_syntax.specs.declared.program.Program.{Program}
 use Rattle.mir_text.specs.declared.symbol.Symbol.{Symbol}
-use Rattle.mir_text.specs.Grammar.{items_of}
 use Rattle.mir_text.specs.GrammarItems.{FnRule, file_put}
 use Rattle.mir_reader.specs.declared.text.SmallTy.{SmallTy}
 use Rattle.mir_reader.specs.FirstPieces.{IsPlain}
-use Rattle.mir_reader.specs.FirstText.{GoodFn, text_of, file_of, block_of}
+use Rattle.mir_reader.specs.FirstText.{GoodFn, text_of, file_of}
 use Rattle.mir_reader.specs.Checks.{checked, crate_with}
 
 -- A text is of the first form: its pieces, none a comment, have the symbols that the grammar puts for a file of one function; the

@@ -9,7 +9,7 @@ use Rattle.mir_syntax.specs.declared.body.Stmt.TheVariants as stmt_is
 use Rattle.mir_syntax.specs.declared.body.Term.{Term}
 use Rattle.mir_syntax.specs.declared.body.Term.TheVariants as term_is
 use Rattle.mir_syntax.specs.declared.body.Block.{Block}
-use Rattle.mir_text.specs.Grammar.{Items, items_of, AllItems, AllOf}
+use Rattle.mir_text.specs.Grammar.{items_of, AllItems, AllOf}
 use Rattle.mir_text.specs.GrammarTypes as t
 use Rattle.mir_text.specs.GrammarTypes.{TypeRule}
 use Rattle.mir_text.specs.GrammarPlaces as p

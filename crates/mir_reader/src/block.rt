@@ -2,12 +2,12 @@ ghost use Rattle.std.specs.Prelude.{◌≡◌, ◌<◌, ◌≤◌, [], length, I
 ghost use Rattle.mir_reader.specs.Parser.{Gives};
 ghost use Rattle.mir_reader.specs.Reading as spec;
 
+use crate::FirstRefused;
 use crate::operand::{read_operand, whole};
 use crate::sign::{
     read_arrow, read_block_number, read_close_brace, read_colon, read_equals, read_local,
     read_open_brace, read_semicolon,
 };
-use crate::FirstRefused;
 use mir_syntax::{Block, List, Rvalue, Stmt, Term};
 use mir_text::Symbol;
 use std::alloc::Global;
@@ -25,7 +25,10 @@ fn read_assignment<'a>(
     let (_, rest) = read_equals(rest)?;
     let (operand, rest) = read_operand(alloc, rest)?;
     let (_, rest) = read_semicolon(rest)?;
-    Ok((Stmt::Assign(whole(alloc, local), Rvalue::Use(operand)), rest))
+    Ok((
+        Stmt::Assign(whole(alloc, local), Rvalue::Use(operand)),
+        rest,
+    ))
 }
 
 #[tactic(auto, unfolding(crate::specs::Reading::goto))]

@@ -10,11 +10,7 @@ use mir_syntax::{Block, Body, Function, Inline, List, OutOfMemory, Program, Ty, 
 use std::alloc::Global;
 
 /// The type in the table that a type of the first form is.
-fn intern_small(
-    alloc: Global,
-    program: &mut Program,
-    ty: SmallTy,
-) -> Result<TyId, OutOfMemory>
+fn intern_small(alloc: Global, program: &mut Program, ty: SmallTy) -> Result<TyId, OutOfMemory>
     requires room { length program.old.types < 2 ^ 32 - 1 }
     ensures stands { IfOk result (λ id. at_id (trees_of program.new.types) id ≡ tree_of ty) }
     ensures within { IfOk result (λ id. id.0 < length program.new.types) }

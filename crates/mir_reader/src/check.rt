@@ -156,10 +156,7 @@ fn is_in_bounds(text: &FunctionText) -> bool
 {
     let args = text.args.len();
     let blocks = text.blocks.len();
-    args <= 10_000
-        && text.lets.len() <= 10_000 - args
-        && blocks <= 10_000
-        && !(blocks == 0)
+    args <= 10_000 && text.lets.len() <= 10_000 - args && blocks <= 10_000 && !(blocks == 0)
 }
 
 fn first_is(ty: SmallTy, locals: &[SmallTy]) -> bool

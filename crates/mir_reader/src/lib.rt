@@ -1,4 +1,9 @@
-//! Reads a text of the first form.
+//! Reads the text of a crate.
+//!
+//! So far the first form alone is read: one function whose statements assign an operand to a local, and whose terminators are `goto`,
+//! `return` and `unreachable`. `read_first` answers the program of such a text, and refuses exactly the others (`IsFirst`,
+//! `specs/FirstForm.antt`). The form is said over `mir_text`: the pieces of the text, none a comment, have the symbols that the grammar puts
+//! for the function (`specs/First.antt`, `specs/FirstText.antt`), and its locals, blocks and types keep the rules (`specs/Checks.antt`).
 #![tactic(auto)]
 
 mod block;
@@ -11,6 +16,8 @@ mod number;
 mod operand;
 mod refused;
 mod sign;
+#[cfg(test)]
+mod tests;
 mod text;
 mod tokens;
 

@@ -1,4 +1,4 @@
-use Rattle.std.proofs.Common.{◌≡◌, ℕ, List, map, ap}
+use Rattle.std.proofs.Common.{ℕ, List, map, ap}
 use Rattle.mir_syntax.specs.Tree.{Tree, at_id, trees_of}
 use Rattle.mir_syntax.specs.Crate.{TypedBlock, TypedBody}
 use Rattle.cfg_simplify.proofs.Landings.{hopped-closed}

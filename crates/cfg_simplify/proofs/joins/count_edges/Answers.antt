@@ -5,7 +5,7 @@ use Rattle.mir_syntax.specs.declared.body.Arm.{Arm}
 use Rattle.cfg_simplify.specs.Edges.{arm_block, targets}
 use Rattle.cfg_simplify.specs.Code.{counted}
 use Rattle.cfg_simplify.proofs.Paths.{arm-inside, last-inside}
-use Rattle.cfg_simplify.proofs.Counts.{length-counted, capped-counted, counts_more, counts_last, counts_none}
+use Rattle.cfg_simplify.proofs.Counts.{length-counted, capped-counted, counts_more, counts_last}
 use Rattle.cfg_simplify.proofs.joins.count_edges.Goals as goal
 
 no-arm : Arm

@@ -1,14 +1,14 @@
-use Rattle.std.proofs.Common.{◌≡◌, ℕ, ◌<◌, List, Bool, true, false, ◌==◌, map, length, get_or, min, sym, ap, ◌∙◌, arith}
+use Rattle.std.proofs.Common.{◌≡◌, ◌<◌, false, ◌==◌, map, length, get_or, min, sym, ap, ◌∙◌, arith}
 use Rattle.std.specs.List.{count_by}
 use Rattle.std.proofs.lemmas.Grind.{common_steps}
 use Rattle.std.proofs.lemmas.List.{length-map, get_or-map}
 use Rattle.mir_syntax.specs.declared.body.Term.TheVariants.{Unreachable}
 use Rattle.cfg_simplify.specs.Edges.{targets, edges}
 use Rattle.cfg_simplify.specs.Simple.{reached}
-use Rattle.cfg_simplify.specs.Code.{at, block_term, counted}
+use Rattle.cfg_simplify.specs.Code.{block_term, counted}
 use Rattle.cfg_simplify.proofs.Lists.{length-numbers, get_from}
 use Rattle.cfg_simplify.proofs.Terms.{block-closed}
-use Rattle.cfg_simplify.proofs.Counts.{IsCounted, ends_of, counted-skip, counted-step}
+use Rattle.cfg_simplify.proofs.Counts.{ends_of, counted-skip, counted-step}
 use Rattle.cfg_simplify.proofs.joins.incoming_counts.Goals as goal
 use Rattle.cfg_simplify.proofs.joins.incoming_counts.Goals.{then-reached-block, else-reached-block}
 

@@ -1,5 +1,4 @@
-use Rattle.std.proofs.Common.{◌≡◌, ℕ, ◌<◌, List, Bool, true, false, map, length, get_or, min, sym, ap, ◌∙◌, arith}
-use Rattle.std.proofs.lemmas.List.{length-map}
+use Rattle.std.proofs.Common.{◌≡◌, ◌<◌, false, map, length, get_or, ap, ◌∙◌, arith}
 use Rattle.cfg_simplify.specs.Simple.{reached, joined}
 use Rattle.cfg_simplify.specs.Code.{at, block_term}
 use Rattle.cfg_simplify.proofs.Lists.{length-numbers, get_from, map_step}

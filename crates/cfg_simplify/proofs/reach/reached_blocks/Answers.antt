@@ -1,12 +1,11 @@
-use Rattle.std.proofs.Common.{◌≡◌, ◌<◌, ◌≤◌, [], List, Bool, true, false, map, length, get_or, set, replicate, sym, ap, ap₂, ◌∙◌, arith}
-use Rattle.std.specs.List.{All}
+use Rattle.std.proofs.Common.{◌≡◌, ◌<◌, ◌≤◌, [], true, false, map, length, get_or, set, replicate, sym, ap, ap₂, ◌∙◌, arith}
 use Rattle.std.proofs.lemmas.List.{length-map, get_or-map}
 use Rattle.mir_syntax.specs.declared.body.Term.TheVariants.{Unreachable}
 use Rattle.cfg_simplify.specs.Edges.{targets, edges}
 use Rattle.cfg_simplify.specs.Simple.{numbers, reached}
 use Rattle.cfg_simplify.specs.Code.{at, block_term, found_order, flags_after, order_after}
 use Rattle.cfg_simplify.proofs.Terms.{block-closed}
-use Rattle.cfg_simplify.proofs.Paths.{IsSearch, search-few, order-below, search-begins, search-step, search-ends}
+use Rattle.cfg_simplify.proofs.Paths.{search-few, order-below, search-begins, search-step, search-ends}
 use Rattle.cfg_simplify.proofs.reach.reached_blocks.Goals as goal
 
 pub loop-at-init : goal.loop-at-init

@@ -1,14 +1,13 @@
-use Rattle.std.proofs.Common.{◌≡◌, ℕ, ◌<◌, ◌+◌, ◌^◌, List, [], ◌∷◌, ◌++◌, ◌==◌, Bool, map, length, get_or, Some, None, true, false, sym, ap, ap₂, ◌∙◌, arith, rules}
-use Rattle.std.specs.List.{All, filter, flat_map, list_any}
+use Rattle.std.proofs.Common.{◌≡◌, ℕ, ◌<◌, ◌^◌, List, ◌==◌, Bool, map, length, get_or, true, false, sym, ap, ap₂, ◌∙◌, arith, rules}
+use Rattle.std.specs.List.{All, filter, list_any}
 use Rattle.std.proofs.lemmas.Grind.{common_steps}
 use Rattle.std.proofs.lemmas.List.{length-map}
 use Rattle.mir_syntax.specs.declared.body.Stmt.{Stmt}
 use Rattle.mir_syntax.specs.declared.body.Term.{Term}
-use Rattle.mir_syntax.specs.declared.body.Term.TheVariants.{Unreachable}
 use Rattle.mir_syntax.specs.declared.body.Block.{Block}
 use Rattle.cfg_simplify.specs.Edges.{targets, retarget}
 use Rattle.cfg_simplify.specs.Simple.{numbers as all_numbers, onward, walk, joined, stays, line, new_number}
-use Rattle.cfg_simplify.specs.Code.{at, link_at, flag_at, block_term, hollow, stmts_in, bare_whole}
+use Rattle.cfg_simplify.specs.Code.{link_at, flag_at, block_term, hollow, bare_whole}
 use Rattle.cfg_simplify.proofs.Lists.{length-numbers, get_from}
 use Rattle.cfg_simplify.proofs.Paths.{edges-within}
 use Rattle.cfg_simplify.proofs.Lines.{fresh, fresh-same}

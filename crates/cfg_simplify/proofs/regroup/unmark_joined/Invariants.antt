@@ -1,4 +1,4 @@
-use Rattle.std.proofs.Common.{◌≡◌, ℕ, ◌&&◌, not, take, length}
+use Rattle.std.proofs.Common.{◌≡◌, ℕ, ◌&&◌, not, take}
 use Rattle.std.specs.List.{list_any}
 use Rattle.cfg_simplify.specs.Simple.{is_at}
 use Rattle.cfg_simplify.specs.Code.{flag_at}

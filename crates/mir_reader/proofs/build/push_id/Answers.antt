@@ -1,5 +1,4 @@
-use Rattle.std.proofs.Common.{◌≡◌, ◌∷◌, [], ◌++◌, IsTrue, length, map, OnOk, Result, Ok, Err, ap, sym, subst, ◌∙◌}
-use Rattle.mir_syntax.specs.declared.types.TyId.{TyId}
+use Rattle.std.proofs.Common.{IsTrue, length, map, OnOk, Result, Ok, Err, ap, sym, subst, ◌∙◌}
 use Rattle.mir_syntax.specs.Tree.{at_id, trees_of}
 use Rattle.mir_syntax.specs.Table.{all_below}
 use Rattle.mir_reader.specs.Checks.{tree_of}

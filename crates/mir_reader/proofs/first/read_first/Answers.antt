@@ -1,7 +1,7 @@
-use Rattle.std.proofs.Common.{◌≡◌, ℕ, List, None, Result, Ok, Err, IfOk}
+use Rattle.std.proofs.Common.{ℕ, List, Result, Ok, Err, IfOk}
 use Rattle.mir_syntax.specs.declared.program.Program.{Program}
 use Rattle.mir_reader.specs.FirstRead.{first_read, IsOf}
-use Rattle.mir_reader.specs.FirstForm.{ReadsFirst, IsNotFirst}
+use Rattle.mir_reader.specs.FirstForm.{ReadsFirst}
 use Rattle.mir_reader.proofs.FirstIs.{first-sound, first-none}
 use Rattle.mir_reader.proofs.first.read_first.Goals as goal
 
