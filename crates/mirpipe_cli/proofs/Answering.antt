@@ -2,10 +2,9 @@
 use Rattle.std.proofs.Common.{◌≡◌, ℕ, List, [], ◌++◌, Option, Some, None, inl, inr, refl, sym, subst, ◌∙◌}
 use Rattle.std.proofs.lemmas.List.{append-nil}
 use Rattle.std.specs.Io.KnownBytes.{Consumes, Appends, IsAtEnd}
-use Rattle.mir_syntax.specs.declared.program.Program.{Program}
-use Rattle.mir_syntax.specs.Crate.{crate_of}
+use Rattle.mir_syntax.specs.Crate.{Crate}
 use Rattle.mir_text.specs.Text.{text}
-use Rattle.mir_reader.specs.FirstForm.{IsNotFirst}
+use Rattle.mir_reader.specs.Form.{FirstForm}
 use Rattle.pipe_io.specs.Causes.{AppendsFront}
 use Rattle.mirpipe_cli.specs.Answer.{cleaned, IsRead, printed, not_first, word_fault, misfit, OfWords, Answers}
 
@@ -22,17 +21,16 @@ whole_input (Some xs) (Some ys) input bytes told taken end =
     sym e ∙ taken ∙ (rw end (append-nil bytes))
 
 -- an input that was read to its end and is not of the first form names no program
-pub names_none : (old new : Option (List ℕ)) (input bytes : List ℕ) → old ≡ Some input → Consumes old new bytes → IsAtEnd new → IsNotFirst bytes → (p : Program) → IsRead input p → ⊥
-names_none old new input bytes told taken end none p read =
+pub names_none : (old new : Option (List ℕ)) (input bytes : List ℕ) → old ≡ Some input → Consumes old new bytes → IsAtEnd new → ((C : Crate) → FirstForm bytes C → ⊥) → (C : Crate) → IsRead input C → ⊥
+names_none old new input bytes told taken end none C read =
     let same : input ≡ bytes = whole_input old new input bytes told taken end in
-    let never : IsNotFirst input = subst IsNotFirst (sym same) none in
-    never read.first.name read.first.function read.first.locals read.first.is
+    none C (subst (λ (bs : List ℕ). FirstForm bs C) same read.first)
 
 pub answers_word : (words : List (List ℕ)) (input : List ℕ) (k : ℕ) → misfit words ≡ Some k → Answers words input (word_fault k)
 answers_word words input k e = subst (λ m. OfWords m input (word_fault k)) (sym e) refl
 
-pub answers_printed : (words : List (List ℕ)) (input : List ℕ) (p : Program) → misfit words ≡ None → IsRead input p → Answers words input (printed (crate_of p))
-answers_printed words input p e read = subst (λ m. OfWords m input (printed (crate_of p))) (sym e) (inl (p, read, refl))
+pub answers_printed : (words : List (List ℕ)) (input : List ℕ) (C : Crate) → misfit words ≡ None → IsRead input C → Answers words input (printed C)
+answers_printed words input C e read = subst (λ m. OfWords m input (printed C)) (sym e) (inl (C, read, refl))
 
-pub answers_not_first : (words : List (List ℕ)) (input : List ℕ) → misfit words ≡ None → ((p : Program) → IsRead input p → ⊥) → Answers words input not_first
+pub answers_not_first : (words : List (List ℕ)) (input : List ℕ) → misfit words ≡ None → ((C : Crate) → IsRead input C → ⊥) → Answers words input not_first
 answers_not_first words input e none = subst (λ m. OfWords m input not_first) (sym e) (inr (none, refl))
