@@ -1,8 +1,8 @@
 -- Runs of small crates: statements, calls, asserts, outside calls.
 use Rattle.std.proofs.Common.{◌≡◌, refl, ℕ, ◌^◌, ◌-◌, true, false, List, [], ◌∷◌, Some, None}
 use Rattle.std.specs.Prelude.{pos, negsuc}
-use Rattle.mir_syntax.specs.declared.types.IntTy.TheVariants.{I32, Isize, U8, U32}
-use Rattle.mir_syntax.specs.declared.body.BinOp.TheVariants.{Sub, AddUnchecked}
+use Rattle.mir_syntax.specs.declared.types.IntTy.TheVariants.{I32, I128, Isize, U8, U32}
+use Rattle.mir_syntax.specs.declared.body.BinOp.TheVariants.{Sub, Div, AddUnchecked}
 use Rattle.mir_syntax.specs.declared.body.OverOp.TheVariants as over_op
 use Rattle.mir_syntax.specs.declared.body.Proj.TheVariants.{Field, Downcast, Deref}
 use Rattle.mir_syntax.specs.declared.body.Term.TheVariants.{Goto, Switch, Return, Unreachable, Call, Assert}
@@ -63,6 +63,18 @@ unchecked_overflow_is_undefined = refl
 unchecked_sum_that_fits : run (unchecked 250 5) (entry 0 []) [] 3 ≡ ended [] (returned (number 255))
 unfolding Opened
 unchecked_sum_that_fits = refl
+
+abbrev quotient : Code
+quotient = code_of (record {
+  defs = [];
+  outsides = [];
+  functions = function (body 0 (int I128 ∷ int I128 ∷ [])
+      (block (assign (place 1) («use» (lit I128 (2 ^ 127))) ∷ assign (place 0) (binary Div (copy (place 1)) (lit I128 (2 ^ 128 - 1))) ∷ []) Return ∷ [])) ∷ [];
+})
+
+least_by_minus_one_is_undefined : run quotient (entry 0 []) [] 9 ≡ undefined []
+unfolding Opened
+least_by_minus_one_is_undefined = refl
 
 -- ---- wrapping subtraction after a swap
 
@@ -126,6 +138,10 @@ bool_answer_is_modulo_2 = refl
 no_answer_is_left : run (asking (int U8)) (entry 0 []) [] 1 ≡ ended [] no_answer
 unfolding Opened
 no_answer_is_left = refl
+
+a_hole_is_not_passed : run (code_of (record { defs = []; outsides = outside (int U8 ∷ []) empty ∷ []; functions = function (body 0 (empty ∷ int U8 ∷ []) (block [] (Call (place 0) (to_outside 0) (copy (place 1) ∷ []) 1) ∷ block [] Return ∷ [])) ∷ [] })) (entry 0 []) [] 1 ≡ undefined []
+unfolding Opened
+a_hole_is_not_passed = refl
 
 unit_takes_no_answer : run (asking empty) (entry 0 []) [] 2 ≡ ended (record { outside = 0; args = 3 ∷ []; answer = None } ∷ []) (returned nil)
 unfolding Opened

@@ -61,10 +61,11 @@ first_variant (t ∷ ts) = t
 abbrev pub struct_fields : Shape → Tree
 struct_fields s = first_variant s.variants
 
--- the tuple of the fields of a variant as the program has it, given what the ids stand for
+-- the id of the type of a field as the program has it
 abbrev pub field_id : SyntaxField → TyId
 field_id f = f.ty
 
+-- the tuple of the types that fields of the program have
 abbrev pub fields_tree : List Tree → List SyntaxField → Tree
 fields_tree trees fields = tuple_of (map field_ty_of (map (field_of trees) fields))
 
