@@ -7,3 +7,15 @@ pub mod FunctionRead
 pub mod FileRead
 pub mod TokensRead
 pub mod FirstIs
+pub mod Signs
+pub mod FirstSigns
+pub mod SameTypes
+pub mod Faults
+pub mod LocalsFound
+pub mod LocalsCovered
+pub mod LocalsTold
+pub mod BlocksTyped
+pub mod FnFaults
+pub mod NamedOnce
+pub mod CrateNamed
+pub mod FormIsFirst

@@ -3,6 +3,7 @@ use Rattle.mir_syntax.specs.declared.program.Program.{Program}
 use Rattle.mir_reader.specs.FirstRead.{first_read, IsOf}
 use Rattle.mir_reader.specs.FirstForm.{ReadsFirst}
 use Rattle.mir_reader.proofs.FirstIs.{first-sound, first-none}
+use Rattle.mir_reader.proofs.FormIsFirst.{none_of_form}
 use Rattle.mir_reader.proofs.first.read_first.Goals as goal
 
 read : {E : Type 0} (bytes : List ℕ) (r : Result Program E) → IfOk r (λ p. IsOf (first_read bytes) p) → IfOk r (λ p. ReadsFirst bytes p)
@@ -13,4 +14,4 @@ pub returns-clause-read : goal.returns-clause-read
 returns-clause-read c = read c.args.bytes.now c.read_whole.result c.read_whole.ensures.read
 
 pub returns-clause-refused : goal.returns-clause-refused
-returns-clause-refused c = λ e. first-none c.args.bytes.now (c.read_whole.ensures.refused e)
+returns-clause-refused c = λ e C form. none_of_form c.args.bytes.now (first-none c.args.bytes.now (c.read_whole.ensures.refused e)) C form
