@@ -19,3 +19,7 @@ pub mod FnFaults
 pub mod NamedOnce
 pub mod CrateNamed
 pub mod FormIsFirst
+pub mod FirstKept
+pub mod FirstFits
+pub mod FirstRules
+pub mod FirstIsForm
