@@ -5,3 +5,4 @@ pub mod Jumps
 pub mod Hops
 pub mod OneBody
 pub mod Lines
+pub mod Aligned

@@ -1,12 +1,11 @@
 -- Blocks that are joined, left out and renumbered keep the meaning.
-use Rattle.std.proofs.Common.{◌≡◌, ◌⊎◌, inl, inr, refl, sym, ap, ap₂, ◌∙◌, subst, ℕ, zero, suc, ◌+◌, ◌-◌, ◌<◌, ◌≤◌, List, [], ◌∷◌, ◌++◌, length, Option, Some, None, slice_get, arith}
+use Rattle.std.proofs.Common.{◌≡◌, inl, inr, refl, ap, ◌∙◌, subst, ℕ, zero, suc, ◌+◌, ◌<◌, ◌≤◌, List, [], ◌∷◌, ◌++◌, length, Option, Some, None, slice_get, arith}
 use Rattle.std.proofs.lemmas.Option.{slice_get_within}
 use Rattle.mir_syntax.proofs.Trees.{slice_get-front}
-use Rattle.mir_syntax.specs.declared.body.Term.{Term}
 use Rattle.mir_syntax.specs.declared.body.Term.TheVariants.{Goto}
 use Rattle.mir_syntax.specs.Crate.{TypedBody, TypedBlock, TypedStmt, Crate}
 use Rattle.mir_semantics.specs.Refines.{Refines}
-use Rattle.mir_relate.specs.Jumps.{SameTerm, To, Meets}
+use Rattle.mir_relate.specs.Jumps.{SameTerm, Meets}
 use Rattle.mir_relate.specs.Lines.{Begins, IsLine, Joins}
 use Rattle.mir_relate.specs.OneBody.{with_body, Replaces, BodyJumps}
 use Rattle.mir_relate.proofs.Hops.{same_term_map}

@@ -1,5 +1,5 @@
 -- Statements under a renaming of locals.
-use Rattle.std.proofs.Common.{◌≡◌, ◌⊎◌, inl, inr, ⊎_elim, refl, sym, ap, ap₂, ◌∙◌, subst, ℕ, zero, suc, ◌+◌, Bool, true, false, not, nat_eq, ◌&&◌, ◌||◌, if◌then◌else◌, List, [], ◌∷◌, ◌++◌, map, length, Option, Some, None, is_some, slice_get, option_map, arith}
+use Rattle.std.proofs.Common.{◌≡◌, refl, sym, ap, ap₂, ◌∙◌, subst, ℕ, zero, suc, Bool, true, false, not, nat_eq, ◌&&◌, if◌then◌else◌, List, [], ◌∷◌, length, Option, Some, None, slice_get, arith}
 use Rattle.std.proofs.lemmas.Bool.{eqb-true}
 use Rattle.mir_syntax.specs.declared.body.Place.{Place}
 use Rattle.mir_syntax.specs.declared.body.Const.{Const}
@@ -11,11 +11,11 @@ use Rattle.mir_syntax.specs.Crate.{TypedRvalue, «use», binary, overflow, unary
 use Rattle.mir_syntax.specs.Crate as rvalue
 use Rattle.mir_syntax.specs.Shapes.{Shape, ◌>>=◌, struct_fields, needs_drop, variant_ty, path_ty, place_ty}
 use Rattle.mir_num.specs.Numbers as num
-use Rattle.mir_semantics.specs.Values.{Addr, Value, number, nil, cons, variant, pointer, hole, listed, is_hole, whole, put, is_unit, blank_by, blank_of, blank_def, blank, full_by, full_of, full_def, full}
+use Rattle.mir_semantics.specs.Values.{Addr, Value, number, cons, variant, pointer, hole, listed, is_hole, whole, is_unit, blank_by, blank_of, blank_def, blank, full_by, full_of, full_def, full}
 use Rattle.mir_semantics.specs.Memory.{Memory, local_at, value_at, write, walk}
-use Rattle.mir_semantics.specs.Step.{Dest, Here, Reading, only_if, local_addr, resolve, type_of, has_deref, guard_of, dest_of, allows, store, const_value, const_ty, read_at, read, read_all, number_in, read_number, operand_ty, scalar_in, scalar_ty_of, variant_in, built_by, built, read_two, pair_of, eval, set_blank, is_variant, write_unless, exec}
-use Rattle.mir_renaming.specs.Renaming.{Renaming, AddrRel, ValueRel, SomeRel, Sub, MemRel, AddrThere, RootOf, NoClash}
-use Rattle.mir_renaming.proofs.Memory.{bind_some, some_bind, whole_rel, sub_addr, value_at_rel, walk_rel, write_rel, write_back, write_again, put_rel}
+use Rattle.mir_semantics.specs.Step.{Dest, Here, only_if, local_addr, resolve, type_of, guard_of, dest_of, allows, store, const_value, const_ty, read_at, read, read_all, number_in, read_number, operand_ty, scalar_in, scalar_ty_of, variant_in, built_by, built, read_two, pair_of, eval, set_blank, is_variant, write_unless, exec}
+use Rattle.mir_renaming.specs.Renaming.{Renaming, AddrRel, ValueRel, SomeRel, Sub, MemRel, AddrThere, NoClash}
+use Rattle.mir_renaming.proofs.Memory.{bind_some, some_bind, whole_rel, value_at_rel, walk_rel, write_rel, write_back, write_again}
 
 -- a value without references is related to itself
 blank_by_rel : (j : Renaming) (of_def : ℕ → Value) → ((d : ℕ) → ValueRel j (of_def d) (of_def d)) → (t : Tree) → ValueRel j (blank_by of_def t) (blank_by of_def t)
@@ -135,7 +135,7 @@ pub record Linked (j L : Renaming) (m2 m1 : Memory) : Type 0 where
 abbrev pub Got : {A : Type 0} → (A → A → Type 0) → Renaming → Renaming → A × Memory → Option (A × Memory) → Type 0
 Got {A = A} V j L r o = (q : A × Memory) × (o ≡ Some q) × V r.0 q.0 × Linked j L q.1 r.1
 
-got_at : {A : Type 0} (V : A → A → Type 0) (j L : Renaming) (x r : A × Memory) (o : Option (A × Memory)) → Some x ≡ Some r → Got V j L x o → Got V j L r o
+pub got_at : {A : Type 0} (V : A → A → Type 0) (j L : Renaming) (x r : A × Memory) (o : Option (A × Memory)) → Some x ≡ Some r → Got V j L x o → Got V j L r o
 got_at V j L x r o e g = subst (λ r. Got V j L r o) (let k : x ≡ r = grind arith in k) g
 
 pub write_linked : (j L : Renaming) (m2 m1 : Memory) (a b : Addr) (v w u : Value) → Linked j L m2 m1 → AddrRel L a b → ValueRel j v w → value_at m1 a ≡ Some u → Linked j L (write m2 b w) (write m1 a v)
@@ -213,7 +213,7 @@ module _ (D : List Shape) (ts1 ts2 : List Tree) (f1 f2 : ℕ) (j L : Renaming) (
   operand_ty_rel (operand.Const c) (operand.Const d) r = ap (λ c. Some (const_ty c)) r
   operand_ty_rel o p r = absurd r
 
-  scalar_ty_rel : (o p : Operand) → OperandRel o p → scalar_ty_of H1 o ≡ scalar_ty_of H2 p
+  pub scalar_ty_rel : (o p : Operand) → OperandRel o p → scalar_ty_of H1 o ≡ scalar_ty_of H2 p
   unfolding scalar_ty_of
   scalar_ty_rel o p r = ap (λ x. x >>= scalar_in) (operand_ty_rel o p r)
 

@@ -13,10 +13,10 @@ use Rattle.mir_syntax.specs.declared.body.Operand.TheVariants as operand
 use Rattle.mir_syntax.specs.Tree.{Tree, scalar, empty, more, ref, ref_mut, named}
 use Rattle.mir_syntax.specs.Crate.{TypedRvalue, «use», binary, overflow, unary, cast, discriminant, tuple, build, TypedStmt, assign, storage_live, storage_dead, set_discriminant}
 use Rattle.mir_syntax.specs.Crate as rvalue
-use Rattle.mir_syntax.specs.Shapes.{Shape, ◌>>=◌, struct_fields, fields_of_struct, fields_of, field_ty, variant_of_enum, variant_ty, pointee, proj_ty, path_ty, place_ty}
-use Rattle.mir_semantics.specs.Values.{Addr, Value, number, nil, cons, variant, pointer, hole, listed, is_hole, whole, part, payload, inner, at_path, change_part, change_payload, change_inner, put, blank_by, blank_of, blank_def, blank}
+use Rattle.mir_syntax.specs.Shapes.{Shape, struct_fields, fields_of_struct, fields_of, field_ty, variant_of_enum, variant_ty, pointee, proj_ty, path_ty, place_ty}
+use Rattle.mir_semantics.specs.Values.{Addr, Value, number, nil, cons, variant, pointer, hole, listed, whole, part, payload, inner, at_path, change_part, change_payload, change_inner, put, blank_by, blank_of, blank_def, blank}
 use Rattle.mir_semantics.specs.Memory.{Memory, local_at, value_at, write, further, there, referent, project, walk}
-use Rattle.mir_semantics.specs.Step.{Dest, Here, only_if, local_addr, resolve, type_of, dest_of, store, const_value, const_ty, read_at, read, read_all, read_number, operand_ty, built_by, built, read_two, eval, set_blank, is_variant, write_unless, exec}
+use Rattle.mir_semantics.specs.Step.{Dest, Here, only_if, local_addr, resolve, type_of, dest_of, store, const_value, read_at, read, read_all, read_number, operand_ty, built_by, built, read_two, eval, set_blank, is_variant, write_unless, exec}
 use Rattle.mir_renaming.specs.Renaming.{Renaming, ValueRel, RootOf}
 use Rattle.mir_renaming.proofs.Memory.{bind_some, some_bind, root_or_not, write_same, write_other}
 

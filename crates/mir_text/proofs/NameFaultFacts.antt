@@ -25,17 +25,25 @@ use Rattle.mir_text.proofs.Cut.{cut, cut_from, piece_at, number_piece, if_stand,
 name_fault : (bytes : List ℕ) (file : FileRule) (code line : ℕ) → text_of (cut bytes) ≡ bytes → is_some (if_stand (cut bytes) []) ≡ true
     → symbols_of (cut bytes) ≡ file_put file [] → FileGood file → first_fault (faults_in (cut bytes) file) ≡ Some (line, code) → IsReadFault bytes code line
 name_fault bytes file code line whole standing derives good first = inr (inr (inr (record {
-    pieces = cut bytes;
-    cut = record { whole = rw (append-nil (text_of (cut bytes))) (sym whole); stand = stands (cut bytes) [] standing };
-    file = file;
-    derives = derives;
-    good = good;
-    first = first })))
+  pieces = cut bytes;
+  cut = record { whole = rw (append-nil (text_of (cut bytes))) (sym whole); stand = stands (cut bytes) [] standing };
+  file = file;
+  derives = derives;
+  good = good;
+  first = first;
+})))
 
 -- a function with a path of one name, no arguments and the result `()`
 abbrev plain_fn : ℕ → DeclsRule → List BlockRule → FileRule
 plain_fn name locals blocks = n.function (record {
-    attr = n.none; is_drop = false; path = t.name name; args = g.end; result = t.unit; locals = locals; blocks = blocks }) ∷ []
+  attr = n.none;
+  is_drop = false;
+  path = t.name name;
+  args = g.end;
+  result = t.unit;
+  locals = locals;
+  blocks = blocks;
+}) ∷ []
 
 abbrev let_0 : DeclsRule
 let_0 = n.decls (n.«let» false 0 t.unit) n.no_decls

@@ -41,13 +41,14 @@ returning_pieces = cut returning_text
 
 returning_file : FileRule
 returning_file = n.function (record {
-    attr = n.none;
-    is_drop = false;
-    path = t.name 8;
-    args = g.end;
-    result = t.unit;
-    locals = n.decls (n.«let» true 0 t.unit) n.no_decls;
-    blocks = record { label = 0; stmts = []; term = m.returns } ∷ [] }) ∷ []
+  attr = n.none;
+  is_drop = false;
+  path = t.name 8;
+  args = g.end;
+  result = t.unit;
+  locals = n.decls (n.«let» true 0 t.unit) n.no_decls;
+  blocks = record { label = 0; stmts = []; term = m.returns } ∷ [];
+}) ∷ []
 
 returning-stands : Stand returning_pieces []
 unfolding returning_pieces cut cut_from piece_at number_piece suffix_at
@@ -64,13 +65,14 @@ returning-good = ((tt, omega arith, (omega arith, (tt, tt)), ((tt, tt), tt)), tt
 returning-derivation : Derivation returning_text
 unfolding returning_pieces returning_file cut cut_from piece_at number_piece suffix_at word_token block_digits word_place
 returning-derivation = record {
-    pieces = returning_pieces;
-    whole = refl;
-    stand = returning-stands;
-    file = returning_file;
-    derives = returning-derives;
-    good = returning-good;
-    faultless = refl }
+  pieces = returning_pieces;
+  whole = refl;
+  stand = returning-stands;
+  file = returning_file;
+  derives = returning-derives;
+  good = returning-good;
+  faultless = refl;
+}
 
 reads-returning : Reads returning_text returning
 unfolding returning-derivation returning_pieces returning_file cut cut_from piece_at number_piece suffix_at word_token block_digits word_place
@@ -125,15 +127,17 @@ part_of x k u = p.move (p.field (p.local x) k u)
 
 abbrev first_rule : BlockRule
 first_rule = record {
-    label = 0;
-    stmts = r.live 3 ∷ r.assign (p.local 4) (r.overflow over.Add (copied 1) (copied 2)) ∷ [];
-    term = m.assert false (part_of 4 1 t.bool) 12 (copied 1 ∷ copied 2 ∷ []) 1 m.continues }
+  label = 0;
+  stmts = r.live 3 ∷ r.assign (p.local 4) (r.overflow over.Add (copied 1) (copied 2)) ∷ [];
+  term = m.assert false (part_of 4 1 t.bool) 12 (copied 1 ∷ copied 2 ∷ []) 1 m.continues;
+}
 
 abbrev second_rule : BlockRule
 second_rule = record {
-    label = 1;
-    stmts = r.assign (p.local 3) (r.«use» (part_of 4 0 i32_rule)) ∷ r.assign (p.local 0) (r.«use» (copied 3)) ∷ r.dead 3 ∷ [];
-    term = m.returns }
+  label = 1;
+  stmts = r.assign (p.local 3) (r.«use» (part_of 4 0 i32_rule)) ∷ r.assign (p.local 0) (r.«use» (copied 3)) ∷ r.dead 3 ∷ [];
+  term = m.returns;
+}
 
 abbrev adding_locals : DeclsRule
 adding_locals =
@@ -142,13 +146,14 @@ adding_locals =
 
 adding_file : FileRule
 adding_file = n.function (record {
-    attr = n.none;
-    is_drop = false;
-    path = t.name 8;
-    args = g.more (1, i32_rule) (g.last (2, i32_rule));
-    result = i32_rule;
-    locals = adding_locals;
-    blocks = first_rule ∷ second_rule ∷ [] }) ∷ []
+  attr = n.none;
+  is_drop = false;
+  path = t.name 8;
+  args = g.more (1, i32_rule) (g.last (2, i32_rule));
+  result = i32_rule;
+  locals = adding_locals;
+  blocks = first_rule ∷ second_rule ∷ [];
+}) ∷ []
 
 adding-stands : Stand adding_pieces []
 unfolding adding_pieces cut cut_from piece_at number_piece suffix_at
@@ -163,47 +168,57 @@ unfolding adding_file
 adding-good =
     let whole : PlaceGood 65 (p.local 0) = (omega arith, tt) in
     let part : PlaceGood 65 (p.field (p.local 4) 0 i32_rule) = (omega arith, (omega arith, tt)) in
-    let free : AllOf DebugSymbolGood (symbol_shown 0 1) = (tt, (tt, (tt, tt))) in
-    (((omega arith, omega arith),
-      omega arith,
-      (omega arith, (free, (free, (tt, (tt, (tt, ((omega arith, (free, tt)), tt))))))),
-      (((tt, ((whole, (whole, whole)), tt)), ((omega arith, (omega arith, tt)), (whole, (whole, tt)))),
-       ((((whole, part), ((whole, whole), (tt, tt))), tt), tt))), tt)
+    let free : AllOf DebugSymbolGood (symbol_shown 0 1) = (tt, (tt, (tt, tt))) in (
+      (
+        (omega arith, omega arith),
+        omega arith,
+        (omega arith, (free, (free, (tt, (tt, (tt, ((omega arith, (free, tt)), tt))))))),
+        (
+          ((tt, ((whole, (whole, whole)), tt)), ((omega arith, (omega arith, tt)), (whole, (whole, tt)))),
+          ((((whole, part), ((whole, whole), (tt, tt))), tt), tt),
+        ),
+      ),
+      tt,
+    )
 
 -- the program before any pass: `_3` is a local of its own, and `nop`, scopes and `debug` lines are gone
 abbrev pub read_adding : Crate
 read_adding = record {
-    defs = [];
-    outsides = [];
-    functions = record {
-        path = codes "add";
-        inlining = inlining.Plain;
-        is_drop = false;
-        body = record {
-            args = 2;
-            locals = i32 ∷ i32 ∷ i32 ∷ i32 ∷ more i32 (more bool empty) ∷ [];
-            blocks =
-                block
-                    (C.storage_live 3 ∷
-                     C.assign (of_local 4) (C.overflow over.Add (operand.Copy (of_local 1)) (operand.Copy (of_local 2))) ∷ [])
-                    (term.Assert (operand.Move (at 4 (Field 1 ∷ []))) false (codes "attempt to compute `{} + {}`, which would overflow")
-                        (operand.Copy (of_local 1) ∷ operand.Copy (of_local 2) ∷ []) 1) ∷
-                block
-                    (C.assign (of_local 3) (C.«use» (operand.Move (at 4 (Field 0 ∷ [])))) ∷
-                     C.assign (of_local 0) (C.«use» (operand.Copy (of_local 3))) ∷
-                     C.storage_dead 3 ∷ [])
-                    term.Return ∷ [] } } ∷ [] }
+  defs = [];
+  outsides = [];
+  functions = record {
+    path = codes "add";
+    inlining = inlining.Plain;
+    is_drop = false;
+    body = record {
+      args = 2;
+      locals = i32 ∷ i32 ∷ i32 ∷ i32 ∷ more i32 (more bool empty) ∷ [];
+      blocks =
+          block
+          (C.storage_live 3 ∷
+          C.assign (of_local 4) (C.overflow over.Add (operand.Copy (of_local 1)) (operand.Copy (of_local 2))) ∷ [])
+          (term.Assert (operand.Move (at 4 (Field 1 ∷ []))) false (codes "attempt to compute `{} + {}`, which would overflow")
+          (operand.Copy (of_local 1) ∷ operand.Copy (of_local 2) ∷ []) 1) ∷
+          block
+          (C.assign (of_local 3) (C.«use» (operand.Move (at 4 (Field 0 ∷ [])))) ∷
+          C.assign (of_local 0) (C.«use» (operand.Copy (of_local 3))) ∷
+          C.storage_dead 3 ∷ [])
+          term.Return ∷ [];
+    };
+  } ∷ [];
+}
 
 adding-derivation : Derivation adding_text
 unfolding adding_pieces adding_file cut cut_from piece_at number_piece suffix_at word_token block_digits word_place ◌>>=◌
 adding-derivation = record {
-    pieces = adding_pieces;
-    whole = refl;
-    stand = adding-stands;
-    file = adding_file;
-    derives = adding-derives;
-    good = adding-good;
-    faultless = refl }
+  pieces = adding_pieces;
+  whole = refl;
+  stand = adding-stands;
+  file = adding_file;
+  derives = adding-derives;
+  good = adding-good;
+  faultless = refl;
+}
 
 reads-adding : Reads adding_text read_adding
 unfolding adding-derivation adding_pieces adding_file cut cut_from piece_at number_piece suffix_at word_token block_digits word_place ◌>>=◌
@@ -211,12 +226,14 @@ reads-adding = record { derivation = adding-derivation; named = refl }
 
 -- the lines of its items, locals, statements and terminators
 lines-of-adding : lines_read adding-derivation ≡ record {
-    defs = [];
-    outsides = [];
-    functions = record {
-        head = 2;
-        locals = 5 ∷ 2 ∷ 2 ∷ 6 ∷ 7 ∷ [];
-        blocks = record { stmts = 13 ∷ 14 ∷ []; term = 15 } ∷ record { stmts = 19 ∷ 20 ∷ 21 ∷ []; term = 22 } ∷ [] } ∷ [];
-    wrong_field = None }
+  defs = [];
+  outsides = [];
+  functions = record {
+    head = 2;
+    locals = 5 ∷ 2 ∷ 2 ∷ 6 ∷ 7 ∷ [];
+    blocks = record { stmts = 13 ∷ 14 ∷ []; term = 15 } ∷ record { stmts = 19 ∷ 20 ∷ 21 ∷ []; term = 22 } ∷ [];
+  } ∷ [];
+  wrong_field = None;
+}
 unfolding adding-derivation adding_pieces adding_file cut cut_from piece_at number_piece suffix_at word_token block_digits word_place ◌>>=◌
 lines-of-adding = refl

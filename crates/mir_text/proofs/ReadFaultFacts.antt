@@ -148,29 +148,35 @@ no-piece (mark m) rest h ends e = no-mark m rest e
 -- S01: `@` begins no token
 no-token : IsReadFault (codes "@") 1 1
 no-token = inr (inl (record {
-    pieces = [];
-    left = codes "@";
-    cut = record { whole = refl; stand = tt };
-    first = none-refused;
-    fault = inl (refl, record { byte = 64; past = []; front = refl; no_digit = refl; no_quote = apart (λ z. z == 34) 64 34 refl refl; no_piece = no-piece });
-    on_line = refl }))
+  pieces = [];
+  left = codes "@";
+  cut = record { whole = refl; stand = tt };
+  first = none-refused;
+  fault = inl (refl, record { byte = 64; past = []; front = refl; no_digit = refl; no_quote = apart (λ z. z == 34) 64 34 refl refl; no_piece = no-piece });
+  on_line = refl;
+}))
 
 -- S02: 2^128
 large-number : IsReadFault (codes "340282366920938463463374607431768211456") 2 1
 large-number = inr (inl (record {
-    pieces = [];
-    left = codes "340282366920938463463374607431768211456";
-    cut = record { whole = refl; stand = tt };
-    first = none-refused;
-    fault = inr (inl (refl, record {
-        digit = 51;
-        digits = codes "40282366920938463463374607431768211456";
-        rest = [];
-        front = refl;
-        are_digits = from_some (if_all is_ascii_digit (codes "340282366920938463463374607431768211456")) refl;
-        whole = refl;
-        large = ltb-false (digits_value 10 (codes "340282366920938463463374607431768211456")) (2 ^ 128) refl }));
-    on_line = refl }))
+  pieces = [];
+  left = codes "340282366920938463463374607431768211456";
+  cut = record { whole = refl; stand = tt };
+  first = none-refused;
+  fault = inr (inl (
+    refl,
+    record {
+      digit = 51;
+      digits = codes "40282366920938463463374607431768211456";
+      rest = [];
+      front = refl;
+      are_digits = from_some (if_all is_ascii_digit (codes "340282366920938463463374607431768211456")) refl;
+      whole = refl;
+      large = ltb-false (digits_value 10 (codes "340282366920938463463374607431768211456")) (2 ^ 128) refl;
+    },
+  ));
+  on_line = refl;
+}))
 
 never-closed : (content rest : List ℕ) → IsContent false content → codes "a" ≡ content ++ 34 ∷ rest → ⊥
 never-closed [] rest h e = apart (λ z. z == 34) 97 34 refl refl (first_is e)
@@ -180,12 +186,13 @@ never-closed (a ∷ b ∷ bs) rest h e = no-more (rest_is e)
 -- S03: the string isn't closed
 open-string : IsReadFault (codes "\"a") 3 1
 open-string = inr (inl (record {
-    pieces = [];
-    left = codes "\"a";
-    cut = record { whole = refl; stand = tt };
-    first = none-refused;
-    fault = inr (inr (refl, record { past = codes "a"; front = refl; open_ended = never-closed }));
-    on_line = refl }))
+  pieces = [];
+  left = codes "\"a";
+  cut = record { whole = refl; stand = tt };
+  first = none-refused;
+  fault = inr (inr (refl, record { past = codes "a"; front = refl; open_ended = never-closed }));
+  on_line = refl;
+}))
 
 -- ---- with what a file begins
 
@@ -235,16 +242,17 @@ below-four k small (inr (inr (inr (inr (e, h))))) = omega arith
 a-name : IsReadFault (codes "x") 4 1
 unfolding word_token block_digits word_place
 a-name = inl (record {
-    pieces = word 120 [] ∷ [];
-    left = [];
-    cut = record { whole = refl; stand = ((refl, tt), refl, tt) };
-    before = [];
-    at = (s.Name 8, 1);
-    after = [];
-    symbols = refl;
-    first = none-refused;
-    refused = (inl (refl, (λ e. absurd cc, name-stops)), below-four);
-    on_line = inl (refl, refl) })
+  pieces = word 120 [] ∷ [];
+  left = [];
+  cut = record { whole = refl; stand = ((refl, tt), refl, tt) };
+  before = [];
+  at = (s.Name 8, 1);
+  after = [];
+  symbols = refl;
+  first = none-refused;
+  refused = (inl (refl, (λ e. absurd cc, name-stops)), below-four);
+  on_line = inl (refl, refl);
+})
 
 no-debug : InDebug [] → ⊥
 no-debug v = not-viable refl v
@@ -259,26 +267,28 @@ below-seven k small (inr (inr (inr (inr (e, h))))) = omega arith
 -- an item begins in place of the word
 an-item : Reading [] s.LeftOut
 an-item = record {
-    other = s.Struct;
-    read_as = inr (inr refl);
-    file = n.struct (t.name 8) n.plain ∷ [];
-    more = s.Name 8 ∷ s.Semicolon ∷ [];
-    derives = refl }
+  other = s.Struct;
+  read_as = inr (inr refl);
+  file = n.struct (t.name 8) n.plain ∷ [];
+  more = s.Name 8 ∷ s.Semicolon ∷ [];
+  derives = refl;
+}
 
 -- S07: `static` is left out
 a-static : IsReadFault (codes "\nstatic") 7 2
 unfolding word_token block_digits word_place an-item
 a-static = inl (record {
-    pieces = line ∷ word 115 (codes "tatic") ∷ [];
-    left = [];
-    cut = record { whole = refl; stand = (tt, tt, ((refl, (refl, (refl, (refl, (refl, (refl, tt)))))), refl, tt)) };
-    before = [];
-    at = (s.LeftOut, 2);
-    after = [];
-    symbols = refl;
-    first = none-refused;
-    refused = (inr (inr (inl (refl, (refl, no-debug)))), below-seven);
-    on_line = inr (λ e. apart (λ z. z == 4) 7 4 refl refl e, inl ((an-item, refl), refl)) })
+  pieces = line ∷ word 115 (codes "tatic") ∷ [];
+  left = [];
+  cut = record { whole = refl; stand = (tt, tt, ((refl, (refl, (refl, (refl, (refl, (refl, tt)))))), refl, tt)) };
+  before = [];
+  at = (s.LeftOut, 2);
+  after = [];
+  symbols = refl;
+  first = none-refused;
+  refused = (inr (inr (inl (refl, (refl, no-debug)))), below-seven);
+  on_line = inr (λ e. apart (λ z. z == 4) 7 4 refl refl e, inl ((an-item, refl), refl));
+})
 
 struct-goes-on : Viable (s.Struct ∷ [])
 struct-goes-on = record { file = n.struct (t.name 8) n.plain ∷ []; more = s.Name 8 ∷ s.Semicolon ∷ []; derives = refl }
@@ -316,9 +326,10 @@ no-struct-file (n.function f ∷ items) e = no-fn-file f.attr f.is_drop _ e
 ends-inside : IsReadFault (codes "struct\n\n") 5 3
 unfolding word_token block_digits word_place
 ends-inside = inr (inr (inl (record {
-    pieces = word 115 (codes "truct") ∷ line ∷ line ∷ [];
-    cut = record { whole = refl; stand = ((refl, (refl, (refl, (refl, (refl, (refl, tt)))))), refl, (tt, tt, (tt, tt, tt))) };
-    first = struct-not-refused;
-    no_file = no-struct-file;
-    code_is = refl;
-    on_line = refl })))
+  pieces = word 115 (codes "truct") ∷ line ∷ line ∷ [];
+  cut = record { whole = refl; stand = ((refl, (refl, (refl, (refl, (refl, (refl, tt)))))), refl, (tt, tt, (tt, tt, tt))) };
+  first = struct-not-refused;
+  no_file = no-struct-file;
+  code_is = refl;
+  on_line = refl;
+})))

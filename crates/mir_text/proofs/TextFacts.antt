@@ -75,7 +75,7 @@ abbrev added : TypedBlock
 added = block
     (C.assign (of_local 3) (C.overflow over.Add (operand.Copy (of_local 1)) (operand.Copy (of_local 2))) ∷ [])
     (term.Assert (operand.Move (at 3 (Field 1 ∷ []))) false (codes "attempt to compute `{} + {}`, which would overflow")
-        (operand.Copy (of_local 1) ∷ operand.Copy (of_local 2) ∷ []) 1)
+    (operand.Copy (of_local 1) ∷ operand.Copy (of_local 2) ∷ []) 1)
 
 abbrev taken : TypedBlock
 taken = block (C.assign (of_local 0) (C.«use» (operand.Move (at 3 (Field 0 ∷ [])))) ∷ []) term.Return
@@ -105,18 +105,20 @@ text-of-adding = rw (decimal_digit 0 (omega arith), decimal_digit 1 (omega arith
 
 abbrev node_def : TypedDef
 node_def = record {
-    path = codes "N";
-    is_enum = false;
-    variants = record {
-        name = [];
-        form = form.Named;
-        fields = record { name = codes "v"; ty = i32 } ∷ record { name = codes "next"; ty = ref (named 0) } ∷ [] } ∷ [] }
+  path = codes "N";
+  is_enum = false;
+  variants = record {
+    name = [];
+    form = form.Named;
+    fields = record { name = codes "v"; ty = i32 } ∷ record { name = codes "next"; ty = ref (named 0) } ∷ [];
+  } ∷ [];
+}
 
 abbrev walked : TypedBlock
 walked = block
     (C.assign (of_local 2) (C.«use» (operand.Copy (at 1 (Deref ∷ [])))) ∷
-     C.assign (of_local 2) (C.«use» (operand.Copy (at 2 (Field 1 ∷ Deref ∷ [])))) ∷
-     C.assign (of_local 0) (C.«use» (operand.Copy (at 2 (Field 0 ∷ [])))) ∷ [])
+    C.assign (of_local 2) (C.«use» (operand.Copy (at 2 (Field 1 ∷ Deref ∷ [])))) ∷
+    C.assign (of_local 0) (C.«use» (operand.Copy (at 2 (Field 0 ∷ [])))) ∷ [])
     term.Return
 
 abbrev pub walking : Crate
@@ -143,9 +145,10 @@ text-of-walking = rw (decimal_digit 0 (omega arith), decimal_digit 1 (omega arit
 
 abbrev guard_def : TypedDef
 guard_def = record {
-    path = codes "G";
-    is_enum = false;
-    variants = record { name = []; form = form.Tuple; fields = record { name = []; ty = u32 } ∷ [] } ∷ [] }
+  path = codes "G";
+  is_enum = false;
+  variants = record { name = []; form = form.Tuple; fields = record { name = []; ty = u32 } ∷ [] } ∷ [];
+}
 
 abbrev note_fn : TypedOutside
 note_fn = record { path = codes "note"; args = u32 ∷ []; result = empty }
@@ -161,28 +164,31 @@ just_returns = block [] term.Return
 
 abbrev drop_g : TypedFunction
 drop_g = record {
-    path = codes "drop_g";
-    inlining = inlining.Plain;
-    is_drop = true;
-    body = record {
-        args = 1;
-        locals = empty ∷ ref_mut (named 0) ∷ [];
-        blocks = block [] (term.Call (of_local 0) (to_outside 0) (operand.Copy (at 1 (Deref ∷ Field 0 ∷ [])) ∷ []) 1) ∷ just_returns ∷ [] } }
+  path = codes "drop_g";
+  inlining = inlining.Plain;
+  is_drop = true;
+  body = record {
+    args = 1;
+    locals = empty ∷ ref_mut (named 0) ∷ [];
+    blocks = block [] (term.Call (of_local 0) (to_outside 0) (operand.Copy (at 1 (Deref ∷ Field 0 ∷ [])) ∷ []) 1) ∷ just_returns ∷ [];
+  };
+}
 
 abbrev eat : TypedFunction
 eat = record {
-    path = codes "eat";
-    inlining = inlining.Never;
-    is_drop = false;
-    body = record { args = 1; locals = empty ∷ named 0 ∷ []; blocks = block [] (term.Drop (of_local 1) 1) ∷ just_returns ∷ [] } }
+  path = codes "eat";
+  inlining = inlining.Never;
+  is_drop = false;
+  body = record { args = 1; locals = empty ∷ named 0 ∷ []; blocks = block [] (term.Drop (of_local 1) 1) ∷ just_returns ∷ [] };
+}
 
 abbrev moves : TypedFunction
 moves = fun (codes "f") 1 (empty ∷ bool ∷ named 0 ∷ empty ∷ [])
     (block (C.assign (of_local 2) (C.build 0 0 (operand.Const (const.Int i.U32 7) ∷ [])) ∷ [])
-        (term.Switch (operand.Copy (of_local 1)) (record { value = 0; block = 2 } ∷ []) 1) ∷
-     block [] (term.Call (of_local 3) (to_local 1) (operand.Move (of_local 2) ∷ []) 2) ∷
-     block [] (term.Drop (of_local 2) 3) ∷
-     just_returns ∷ [])
+    (term.Switch (operand.Copy (of_local 1)) (record { value = 0; block = 2 } ∷ []) 1) ∷
+    block [] (term.Call (of_local 3) (to_local 1) (operand.Move (of_local 2) ∷ []) 2) ∷
+    block [] (term.Drop (of_local 2) 3) ∷
+    just_returns ∷ [])
 
 abbrev pub moving : Crate
 moving = record { defs = guard_def ∷ []; outsides = note_fn ∷ []; functions = drop_g ∷ eat ∷ moves ∷ [] }
@@ -245,20 +251,21 @@ text-of-moving = rw (decimal_digit 0 (omega arith), decimal_digit 1 (omega arith
 
 abbrev either_def : TypedDef
 either_def = record {
-    path = codes "E";
-    is_enum = true;
-    variants =
-        record { name = codes "A"; form = form.Unit; fields = [] } ∷
-        record { name = codes "B"; form = form.Tuple; fields = record { name = []; ty = u8 } ∷ [] } ∷ [] }
+  path = codes "E";
+  is_enum = true;
+  variants =
+      record { name = codes "A"; form = form.Unit; fields = [] } ∷
+      record { name = codes "B"; form = form.Tuple; fields = record { name = []; ty = u8 } ∷ [] } ∷ [];
+}
 
 abbrev looks : TypedFunction
 looks = fun (codes "k") 1 (u8 ∷ named 0 ∷ scalar (scalar_ty.Int i.Isize) ∷ [])
     (block (C.assign (of_local 2) (C.discriminant (of_local 1)) ∷ [])
-        (term.Switch (operand.Move (of_local 2)) (record { value = 0; block = 1 } ∷ record { value = 1; block = 2 } ∷ []) 3) ∷
-     block (C.assign (of_local 0) (C.«use» (operand.Const (const.Int i.U8 0))) ∷ []) (term.Goto 4) ∷
-     block (C.assign (of_local 0) (C.«use» (operand.Copy (at 1 (Downcast 1 ∷ Field 0 ∷ [])))) ∷ []) (term.Goto 4) ∷
-     block [] term.Unreachable ∷
-     just_returns ∷ [])
+    (term.Switch (operand.Move (of_local 2)) (record { value = 0; block = 1 } ∷ record { value = 1; block = 2 } ∷ []) 3) ∷
+    block (C.assign (of_local 0) (C.«use» (operand.Const (const.Int i.U8 0))) ∷ []) (term.Goto 4) ∷
+    block (C.assign (of_local 0) (C.«use» (operand.Copy (at 1 (Downcast 1 ∷ Field 0 ∷ [])))) ∷ []) (term.Goto 4) ∷
+    block [] term.Unreachable ∷
+    just_returns ∷ [])
 
 abbrev pub looking : Crate
 looking = record { defs = either_def ∷ []; outsides = []; functions = looks ∷ [] }

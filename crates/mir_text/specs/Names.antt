@@ -173,12 +173,13 @@ defs_named strings items = map (def_named strings (def_paths strings items)) (de
 
 abbrev pub names_of : Strings → FileRule → Names
 names_of strings items = record {
-    strings = strings;
-    paths = def_paths strings items;
-    defs = defs_named strings items;
-    shapes = shapes_from [] 0 (defs_named strings items);
-    functions = function_paths_in strings items;
-    outsides = outside_paths_in strings items }
+  strings = strings;
+  paths = def_paths strings items;
+  defs = defs_named strings items;
+  shapes = shapes_from [] 0 (defs_named strings items);
+  functions = function_paths_in strings items;
+  outsides = outside_paths_in strings items;
+}
 
 abbrev pub ty_of : Names → TypeRule → Tree
 ty_of names u = type_named names.strings names.paths u

@@ -53,16 +53,18 @@ inline_named m.never = inlining.Never
 
 abbrev pub body_named : Names → Declared → FnRule → TypedBody
 body_named names locals f = record {
-    args = length (items_of (λ a. a) f.args);
-    locals = locals_from locals 0 (length locals);
-    blocks = map (block_named names locals) f.blocks }
+  args = length (items_of (λ a. a) f.args);
+  locals = locals_from locals 0 (length locals);
+  blocks = map (block_named names locals) f.blocks;
+}
 
 abbrev pub function_named : Names → FnRule → TypedFunction
 function_named names f = record {
-    path = path_bytes names.strings f.path;
-    inlining = inline_named f.attr;
-    is_drop = f.is_drop;
-    body = body_named names (declared names f) f }
+  path = path_bytes names.strings f.path;
+  inlining = inline_named f.attr;
+  is_drop = f.is_drop;
+  body = body_named names (declared names f) f;
+}
 
 -- ---- crates
 

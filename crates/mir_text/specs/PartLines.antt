@@ -59,9 +59,10 @@ pub record LinedBlock : Type 0 where
 -- bb, `:` and `{` stand before the statements
 abbrev pub block_lined : BlockRule → LinesFrom → LinedBlock
 block_lined b lines = record {
-    label = b.label;
-    stmts = each_lined ended_put b.stmts (drop 3 lines);
-    term = (first_line (past (each_put ended_put) b.stmts (drop 3 lines)), b.term) }
+  label = b.label;
+  stmts = each_lined ended_put b.stmts (drop 3 lines);
+  term = (first_line (past (each_put ended_put) b.stmts (drop 3 lines)), b.term);
+}
 
 abbrev pub blocks_lined : List BlockRule → LinesFrom → List LinedBlock
 blocks_lined [] lines = []
@@ -85,11 +86,12 @@ after_result f lines = past result_put f.result (past (items_put arg_put s.Close
 
 abbrev pub fn_lined : FnRule → LinesFrom → LinedFn
 fn_lined f lines = record {
-    head = first_line lines;
-    rule = f;
-    args = items_lined arg_put f.args (after_front f lines);
-    lets = lets_lined f.locals (after_result f lines);
-    blocks = blocks_lined f.blocks (past decls_put f.locals (after_result f lines)) }
+  head = first_line lines;
+  rule = f;
+  args = items_lined arg_put f.args (after_front f lines);
+  lets = lets_lined f.locals (after_result f lines);
+  blocks = blocks_lined f.blocks (past decls_put f.locals (after_result f lines));
+}
 
 -- ---- items
 

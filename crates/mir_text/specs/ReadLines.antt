@@ -147,7 +147,8 @@ wrong_field_in names items = first_of (each (wrong_in_item names) items)
 
 abbrev pub lines_named : Names → List LinedItem → Lines
 lines_named names items = record {
-    defs = each def_line_in items;
-    outsides = each outside_line_in items;
-    functions = each fn_lines_in items;
-    wrong_field = wrong_field_in names items }
+  defs = each def_line_in items;
+  outsides = each outside_line_in items;
+  functions = each fn_lines_in items;
+  wrong_field = wrong_field_in names items;
+}

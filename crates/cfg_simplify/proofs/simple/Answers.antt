@@ -1,0 +1,18 @@
+use Rattle.std.proofs.Common.{ℕ, List, map, ap}
+use Rattle.mir_syntax.specs.Tree.{Tree, at_id, trees_of}
+use Rattle.mir_syntax.specs.Crate.{TypedBlock, TypedBody}
+use Rattle.cfg_simplify.proofs.Landings.{hopped-closed}
+use Rattle.cfg_simplify.proofs.Typed.{simple-same}
+use Rattle.cfg_simplify.proofs.simple.Goals as goal
+
+abbrev with_blocks : ℕ → List Tree → List TypedBlock → TypedBody
+with_blocks args locals blocks = record { args = args; locals = locals; blocks = blocks }
+
+pub regrouped-requires-clause-closed : goal.regrouped-requires-clause-closed
+regrouped-requires-clause-closed c = rw c.in_ok-hopped.ensures (hopped-closed c.args.body.blocks c.requires.closed)
+
+pub returns : goal.returns
+returns c =
+    let trees = trees_of c.args.program.now.types in
+    ap (with_blocks c.args.body.args (map (at_id trees) c.args.body.locals))
+    (simple-same trees c.args.body.blocks c.in_ok-hopped.hopped c.in_ok-blocks.blocks c.in_ok-hopped.ensures c.in_ok-blocks.ensures)

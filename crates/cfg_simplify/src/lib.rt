@@ -1,0 +1,42 @@
+//! The pass `simple`: the cleaning of a body's control flow.
+//!
+//! Empty gotos are skipped (`gotos`), blocks that no path leads to go (`reach`), a block is joined to the one block that goes to it
+//! (`joins`), and the rest is renumbered (`regroup`). The contract of `simple` is that the result is the one that `specs/Simple.antt`
+//! defines, over a body whose ids are replaced by the types that they stand for. `specs/Edges.antt` has the edges of a terminator.
+//! Blocks and statements are moved and never copied; only the walk along empty gotos takes more than one pass over the blocks, as many
+//! as their number has binary digits.
+#![tactic(auto)]
+
+ghost use Rattle.std.specs.Prelude.{◌≡◌, ◌<◌, ◌^◌, map, length, IfOk};
+ghost use Rattle.mir_syntax.specs.Tree.{trees_of};
+ghost use Rattle.mir_syntax.specs.Crate.{body_of};
+ghost use Rattle.cfg_simplify.specs.Edges.{Closed};
+ghost use Rattle.cfg_simplify.specs.Code.{block_term};
+ghost use Rattle.cfg_simplify.specs.Simple.{simple as simple_body};
+
+mod edges;
+mod gotos;
+mod joins;
+mod reach;
+mod regroup;
+
+use mir_syntax::{Body, OutOfMemory, Program};
+use std::alloc::Global;
+
+/// The body after the cleaning of its control flow: what rustc's `SimplifyCfg` does, reduced to a rule of this project's own. It takes a
+/// body that has bb0 and whose edges lead to its blocks, as those of every valid body do. `Err` is for want of memory alone, and the
+/// body is spent then.
+pub fn simple(alloc: Global, program: &Program, body: Body) -> Result<Body, OutOfMemory>
+    requires some_block { 0 < length body.blocks }
+    requires closed { Closed (map block_term body.blocks) }
+    requires few { length body.blocks < 2 ^ 30 }
+    ensures { IfOk result (λ simpler. body_of (trees_of program.now.types) simpler ≡ simple_body (body_of (trees_of program.now.types) body)) }
+{
+    let hopped = gotos::hopped(alloc, body.blocks)?;
+    let blocks = regroup::regrouped(alloc, hopped)?;
+    Ok(Body {
+        args: body.args,
+        locals: body.locals,
+        blocks,
+    })
+}

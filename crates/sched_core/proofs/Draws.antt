@@ -1,0 +1,73 @@
+-- A draw keeps what is true of the core.
+use Rattle.std.proofs.Common.{◌≡◌, ◌≢◌, ℕ, ◌+◌, ◌-◌, ◌<◌, Bool, true, false, List, [], ◌∷◌, ◌++◌, ◌⊎◌, inl, inr, ⊎_elim, refl, sym, subst, ap, ◌∙◌, arith, eqb}
+use Rattle.std.specs.Prelude.{Option, Some, None}
+use Rattle.sched_core.specs.declared.Status.{Status}
+use Rattle.sched_core.specs.declared.Status.TheVariants.{Unclaimed, Claimed, Done, Failed, Stolen}
+use Rattle.sched_core.specs.Plan.{Plan, IsLawful, has, next_need, Reads}
+use Rattle.sched_core.specs.State.{State, Entry, upd, queries_of, next, next_of_top, settled, done, untouched, borrowers, borrowed_more, borrowed_less, give, below_top, AllSeen, WaitFits, MayWait, MayDraw, MayLook, MayBorrow, MayRelease, MaySteal, MayPublish, MayFail, drawn_by, saw, borrowed_by, released_by, stolen_by, published_by, failed_by}
+use Rattle.sched_core.specs.Good.{Good, IsOnce, Stands, Chained, GivenSeen, Borrows}
+use Rattle.sched_core.proofs.Upd.{upd_same, upd_other, upd_tells, upd_at}
+use Rattle.sched_core.proofs.Lists.{bool_tells, next_stands, nat_cases, has_snoc, one, borrowers_set, borrowers_none, borrowers_some}
+use Rattle.sched_core.proofs.Parts.{borrows_at, waits_else, waits_same, more, more_tells, more_keeps, more_here, given_more, seated_set, root_done}
+use Rattle.std.proofs.lemmas.Bool.Decides.{nat_tests}
+
+module _ (p : Plan) (c : State) (w : ℕ) (l : IsLawful p) (g : Good p c) (m : MayDraw p c w) where
+  abbrev drawn_root : Option ℕ
+  drawn_root = Some (p.root c.drawn)
+
+  abbrev root : ℕ → Option ℕ
+  root = upd c.root w drawn_root
+
+  chained : (v : ℕ) → Chained p (root v) (c.stack v)
+  chained v = upd_at c.root w drawn_root (λ r. Chained p r (c.stack v)) v
+      (λ e. subst (λ (es : List Entry). Chained p drawn_root es) (sym (subst (λ (x : ℕ). c.stack x ≡ []) (sym e) m.empty)) tt) (λ _. g.chained v)
+
+  waiting : (v r : ℕ) → upd c.wait w None v ≡ Some r → WaitFits p (c.stack v) (root v) r
+  waiting v r h = elim (upd_tells c.wait w None v) [ inl e ↦ absurd (let k = e.1 in grind (arith)) | inr e ↦ there e ]
+    where
+      there : (v ≢ w) × (upd c.wait w None v ≡ c.wait v) → WaitFits p (c.stack v) (root v) r
+      there e = subst (λ (o : Option ℕ). WaitFits p (c.stack v) o r) (sym (upd_other c.root w drawn_root v e.0)) (g.waiting v r (sym e.1 ∙ h))
+
+  rooted : (v r : ℕ) → root v ≡ Some r → (i : ℕ) × (i < p.roots) × (p.root i ≡ r)
+  rooted v r h = elim (upd_tells c.root w drawn_root v) [
+    | inl e ↦ (c.drawn, m.left, (let same : Some (p.root c.drawn) ≡ Some r = sym e.1 ∙ h in cc))
+    | inr e ↦ g.rooted v r (sym e.1 ∙ h)
+  ]
+
+  Drawn : ℕ → Type 0
+  Drawn i = (done (c.status (p.root i)) ≡ true) ⊎ (c.status (p.root i) ≡ Failed) ⊎ ((v : ℕ) × (v < c.workers) × (root v ≡ Some (p.root i)))
+
+  had : (i v : ℕ) → v < c.workers → c.root v ≡ Some (p.root i) → Drawn i
+  unfolding Drawn
+  had i v lt h = elim (upd_tells c.root w drawn_root v) [
+    | inl e ↦ elim (m.idle (p.root i) (subst (λ (x : ℕ). c.root x ≡ Some (p.root i)) e.0 h)) [ inl s ↦ inl (root_done p c l g i w s) | inr s ↦ inr (inl (g.gone w (p.root i) s)) ]
+    | inr e ↦ inr (inr (v, lt, e.1 ∙ h))
+  ]
+
+  drawn : (i : ℕ) → i < c.drawn + 1 → Drawn i
+  unfolding Drawn
+  drawn i lt = elim (nat_cases i c.drawn) [
+    | inl e ↦ inr (inr (w, m.worker, upd_same c.root w drawn_root ∙ ap (λ (k : ℕ). Some (p.root k)) (sym e)))
+    | inr e ↦ elim (g.drawn i (omega arith)) [ inl h ↦ inl h | inr (inl h) ↦ inr (inl h) | inr (inr h) ↦ had i h.0 h.1 h.2 ]
+  ]
+
+  pub keeps : Good p (drawn_by p c w)
+  unfolding Drawn
+  keeps = record {
+    standing = g.standing;
+    placed = g.placed;
+    once = g.once;
+    chained = chained;
+    waiting = waiting;
+    seen = g.seen;
+    gone = g.gone;
+    given = g.given;
+    counted = g.counted;
+    borrowed = λ v s h. let o = g.borrowed v s h in borrows_at p c (drawn_by p c w) v s o.count o refl o.done refl o.seen;
+    readers = g.readers;
+    stolen_for = g.stolen_for;
+    taken = g.taken;
+    drawn = drawn;
+    rooted = rooted;
+    seated = g.seated;
+  }

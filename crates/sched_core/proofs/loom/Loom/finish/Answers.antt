@@ -1,0 +1,52 @@
+use Rattle.std.proofs.Common.{◌≡◌, ◌≢◌, ℕ, zero, suc, ◌+◌, ◌-◌, ◌<◌, ◌≤◌, List, [], ◌∷◌, ◌++◌, Bool, true, false, length, ◌⊎◌, inl, inr, refl, sym, subst, ap, ◌∙◌, arith, slice_index_or, slice_set}
+use Rattle.std.specs.Prelude.{Option, Some, None, IfSome, IfOk, OnOk, slice_get}
+use Rattle.sched_core.specs.declared.Event.{Event}
+use Rattle.sched_core.specs.Plan.{Plan, IsLawful}
+use Rattle.sched_core.specs.State.{State, done}
+use Rattle.sched_core.specs.Turn.{turn, moved}
+use Rattle.sched_core.specs.Work.{trail_of, work_left}
+use Rattle.sched_core.specs.Shown.{state_of, GoodFor}
+use Rattle.sched_core.specs.Held.{Holds, Weaves, RootsStay, roots_answers}
+use Rattle.sched_core.proofs.Lists.{nat_cases}
+use Rattle.sched_core.proofs.Listed.{item_at, set_length, set_else}
+use Rattle.sched_core.proofs.Rounds.{SoFar, so_far, roots_moved, round_less, moved_workers}
+use Rattle.sched_core.proofs.Weaving.{follow_step, follow_end, answers_more, answers_end, rest_of, start_weaves}
+use Rattle.sched_core.proofs.loom.Loom.finish.Goals as goal
+
+pub loop-i-init : goal.loop-i-init
+loop-i-init g c =
+    (c.requires.loom, refl, λ i lt. absurd (omega (arith, lt)))
+
+pub work_on-requires-clause-loom : goal.work_on-requires-clause-loom
+work_on-requires-clause-loom g c = λ κs h. c.loop-i.invariant.0
+
+pub work_on-requires-clause-root : goal.work_on-requires-clause-root
+work_on-requires-clause-root g c =
+    let p = g.J.Jobs.plan c.args.jobs.now in
+    let laws = (g.met.J.Jobs g.world.𝓛 g.world.𝓜 g.world.𝓡 ((λ s x. x), (λ x. x), (λ x. x), λ x. x)).lawful c.args.jobs.now in
+    let inv = c.loop-i.invariant in
+    let small : c.loop-i.i < p.roots = omega arith in
+    let some : 0 < length c.loop-i.self.core.borrow.items = (let k = inv.1 in let r = c.requires.workers in omega (arith, k, r)) in
+    λ κs h. (small, some)
+
+pub loop-i-preserved : goal.loop-i-preserved
+loop-i-preserved g c =
+    let p = g.J.Jobs.plan c.args.jobs.now in
+    let laws = (g.met.J.Jobs g.world.𝓛 g.world.𝓜 g.world.𝓡 ((λ s x. x), (λ x. x), (λ x. x), λ x. x)).lawful c.args.jobs.now in
+    let inv = c.loop-i.invariant in
+    let small : c.loop-i.i < p.roots = omega arith in (
+      c.in_ok-work_on.ensures.loom,
+      c.in_ok-work_on.ensures.workers ∙ inv.1,
+      λ k lt. elim (nat_cases k c.loop-i.i) [
+        | inl e ↦ subst (λ (x : ℕ). done ((state_of c.work_on.new.self.core).status (p.root x)) ≡ true) (sym e) c.in_ok-work_on.ensures.done
+        | inr ne ↦ c.in_ok-work_on.ensures.roots k (omega (arith, lt, small)) (inv.2 k (omega (arith, lt, ne)))
+      ],
+    )
+
+pub returns-clause-loom : goal.returns-clause-loom
+returns-clause-loom g c =
+    c.loop-i.invariant.0
+
+pub returns-clause-done : goal.returns-clause-done
+returns-clause-done g c =
+    λ k lt. c.loop-i.invariant.2 k (omega (arith, lt))

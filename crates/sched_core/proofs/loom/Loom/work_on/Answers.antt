@@ -1,0 +1,63 @@
+use Rattle.std.proofs.Common.{◌≡◌, ◌≢◌, ℕ, zero, suc, ◌+◌, ◌-◌, ◌<◌, ◌≤◌, List, [], ◌∷◌, ◌++◌, Bool, true, false, length, ◌⊎◌, inl, inr, refl, sym, subst, ap, ◌∙◌, arith, slice_index_or, slice_set}
+use Rattle.std.specs.Prelude.{Option, Some, None, IfSome, IfOk, OnOk, slice_get}
+use Rattle.sched_core.specs.declared.Event.{Event}
+use Rattle.sched_core.specs.Plan.{Plan, IsLawful}
+use Rattle.sched_core.specs.State.{State, done}
+use Rattle.sched_core.specs.Turn.{turn, moved}
+use Rattle.sched_core.specs.Work.{trail_of, work_left}
+use Rattle.sched_core.specs.Shown.{state_of, GoodFor}
+use Rattle.sched_core.specs.Held.{Holds, Weaves, RootsStay, roots_answers}
+use Rattle.sched_core.proofs.Lists.{nat_cases}
+use Rattle.sched_core.proofs.Listed.{item_at, set_length, set_else}
+use Rattle.sched_core.proofs.Rounds.{SoFar, so_far, roots_moved, round_less, moved_workers}
+use Rattle.sched_core.proofs.Weaving.{follow_step, follow_end, answers_more, answers_end, rest_of, start_weaves}
+use Rattle.sched_core.proofs.loom.Loom.work_on.Goals as goal
+
+pub loop-self-init : goal.loop-self-init
+loop-self-init g c =
+    (c.requires.loom, refl, λ i lt h. h)
+
+pub is_done-requires : goal.is_done-requires
+is_done-requires g c =
+    let p = g.J.Jobs.plan c.args.jobs.now in
+    let laws = (g.met.J.Jobs g.world.𝓛 g.world.𝓜 g.world.𝓡 ((λ s x. x), (λ x. x), (λ x. x), λ x. x)).lawful c.args.jobs.now in
+    let inv = c.loop-self.invariant in
+    let small = laws.roots_below c.args.i c.requires.root.0 in
+    let root = c.root-root.ensures in
+    let status = inv.0.good.sized.status in
+    omega (arith, small, root, status)
+
+pub round-requires-clause-loom : goal.round-requires-clause-loom
+round-requires-clause-loom g c = λ κs h. c.loop-self.invariant.0
+
+pub round-requires-clause-undone : goal.round-requires-clause-undone
+round-requires-clause-undone g c =
+    let p = g.J.Jobs.plan c.args.jobs.now in
+    let laws = (g.met.J.Jobs g.world.𝓛 g.world.𝓜 g.world.𝓡 ((λ s x. x), (λ x. x), (λ x. x), λ x. x)).lawful c.args.jobs.now in
+    let inv = c.loop-self.invariant in
+    let undone : done ((state_of c.loop-self.self.core).status c.root-root.result) ≡ false = sym c.is_done.ensures ∙ c.loop-self-test.true in
+    let some : 0 < length c.loop-self.self.core.borrow.items = (let k = inv.1 in let r = c.requires.root.1 in omega (arith, k, r)) in
+    λ κs h. (some, (c.args.i, c.requires.root.0, ap (λ (q : ℕ). done ((state_of c.loop-self.self.core).status q)) (sym c.root-root.ensures) ∙ undone))
+
+pub loop-self-smaller : goal.loop-self-smaller
+loop-self-smaller g c =
+    c.in_ok-round.ensures.less
+
+pub loop-self-preserved : goal.loop-self-preserved
+loop-self-preserved g c =
+    let p = g.J.Jobs.plan c.args.jobs.now in
+    let laws = (g.met.J.Jobs g.world.𝓛 g.world.𝓜 g.world.𝓡 ((λ s x. x), (λ x. x), (λ x. x), λ x. x)).lawful c.args.jobs.now in
+    let inv = c.loop-self.invariant in
+    (c.in_ok-round.ensures.loom, c.in_ok-round.ensures.workers ∙ inv.1, λ i lt h. c.in_ok-round.ensures.roots i lt (inv.2 i lt h))
+
+pub returns-clause-loom : goal.returns-clause-loom
+returns-clause-loom g c =
+    c.loop-self.invariant.0
+
+pub returns-clause-workers : goal.returns-clause-workers
+returns-clause-workers g c =
+    c.loop-self.invariant.1
+
+pub returns-clause-roots : goal.returns-clause-roots
+returns-clause-roots g c =
+    c.loop-self.invariant.2

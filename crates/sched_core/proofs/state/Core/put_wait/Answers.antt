@@ -1,0 +1,40 @@
+use Rattle.std.proofs.Common.{◌≡◌, ◌≢◌, ◌<◌, ◌+◌, ◌-◌, true, false, ℕ, List, [], ◌∷◌, ◌++◌, length, sym, ap, ◌∙◌, refl, subst, arith, slice_index_or, slice_set, Bool}
+use Rattle.std.specs.Prelude.{Option, Some, None, slice_get, Vec}
+use Rattle.sched_core.specs.declared.Status.TheVariants.{Unclaimed, Claimed, Done, Failed, Stolen}
+use Rattle.sched_core.specs.State.{upd, Entry, below_top, give, borrowed_more, borrowed_less, on_top, published_by, failed_by, saw}
+use Rattle.sched_core.specs.Plan.{next_need}
+use Rattle.sched_core.specs.Shown.{state_of, stack_of, row_at, Ready}
+use Rattle.sched_core.proofs.Listed.{index_shown, set_length, get_shown, item_at, stack_push}
+use Rattle.sched_core.proofs.Fields.{moved, pair_else, pair_put, rows_long, ready_empty, saw_settled, saw_waits}
+use Rattle.sched_core.proofs.state.Core.put_wait.Goals as goal
+
+pub returns : goal.returns
+returns c = λ p unsettled clean.
+    let s = c.args.self.now in
+    record {
+      state = (λ i. record {
+        workers = length s.borrow.items;
+        status = λ q. slice_index_or s.status.items q Unclaimed;
+        stack = λ v. stack_of (row_at (slice_get s.stacks.items v));
+        borrow = λ v. slice_index_or s.borrow.items v None;
+        seen = λ v q. slice_index_or (row_at (slice_get s.seen.items v)) q false;
+        gone = λ v q. slice_index_or (row_at (slice_get s.gone.items v)) q false;
+        wait = index_shown s.wait.items c.args.w (Some c.args.q) None (omega arith) i;
+        root = λ v. slice_index_or s.root.items v None;
+        drawn = s.drawn;
+      }) ∙ sym (saw_waits (state_of s) c.args.w c.args.q ((state_of s).status c.args.q) unsettled clean);
+      sized = λ h. record {
+        few = h.few;
+        status = h.status;
+        stacks = h.stacks;
+        seen = h.seen;
+        gone = h.gone;
+        wait = set_length s.wait.items c.args.w (Some c.args.q) ∙ h.wait;
+        root = h.root;
+        told = h.told;
+        seen_rows = h.seen_rows;
+        gone_rows = h.gone_rows;
+      };
+      rows = λ h. h;
+      told = λ v k h. h;
+    }

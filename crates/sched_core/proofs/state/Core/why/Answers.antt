@@ -1,0 +1,13 @@
+use Rattle.std.proofs.Common.{◌≡◌, ℕ, ◌<◌, sym, ap, ◌∙◌, refl, subst, slice_index_or}
+use Rattle.std.specs.Prelude.{Option, Some, None, IfSome}
+use Rattle.sched_core.specs.Plan.{Plan, IsLawful}
+use Rattle.sched_core.specs.State.{State}
+use Rattle.sched_core.specs.Good.{Good}
+use Rattle.sched_core.specs.Shown.{state_of}
+use Rattle.sched_core.proofs.Acts.{root_below}
+use Rattle.sched_core.proofs.state.Core.why.Goals as goal
+
+pub why_draw-requires-clause-rooted : goal.why_draw-requires-clause-rooted
+why_draw-requires-clause-rooted g c =
+    let laws = (g.met.J.Jobs g.world.𝓛 g.world.𝓜 g.world.𝓡 ((λ s x. x), (λ x. x), (λ x. x), λ x. x)).lawful c.args.jobs.now in
+    let r : IfSome (slice_index_or c.args.self.now.root.items c.in-Draw.w None) (λ r. r < (g.J.Jobs.plan c.args.jobs.now).queries) = root_below (g.J.Jobs.plan c.args.jobs.now) (state_of c.args.self.now) laws c.requires.good c.in-Draw.w (slice_index_or c.args.self.now.root.items c.in-Draw.w None) refl in λ κs h. r

@@ -1,0 +1,11 @@
+pub mod Plan
+pub mod State
+pub mod Good
+pub mod Waits
+pub mod Turn
+pub mod Work
+pub mod Table
+pub mod Shown
+pub mod Held
+pub mod TestJobs
+pub mod TestLaws
