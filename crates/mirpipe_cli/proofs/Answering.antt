@@ -13,7 +13,7 @@ appends_none None = tt
 appends_none (Some xs) = sym (append-nil xs)
 
 -- bytes that were read to the end are the input
-whole_input : (old new : Option (List ℕ)) (input bytes : List ℕ) → old ≡ Some input → Consumes old new bytes → IsAtEnd new → input ≡ bytes
+pub whole_input : (old new : Option (List ℕ)) (input bytes : List ℕ) → old ≡ Some input → Consumes old new bytes → IsAtEnd new → input ≡ bytes
 whole_input None new input bytes told taken end = absurd cc
 whole_input (Some xs) None input bytes told taken end = absurd taken
 whole_input (Some xs) (Some ys) input bytes told taken end =
