@@ -74,9 +74,9 @@ body_first trees names f locals args lets blocks found =
     let ds = (text_of f).args ++ (text_of f).lets in
     let said = declared_first names f args lets in
     let count : length (declared names f) ≡ length locals =
-        ap length said ∙ length-map ds pair_of ∙ length-append (text_of f).args (text_of f).lets ∙ sym (locals_length (text_of f).args (text_of f).lets locals found) in
+    ap length said ∙ length-map ds pair_of ∙ length-append (text_of f).args (text_of f).lets ∙ sym (locals_length (text_of f).args (text_of f).lets locals found) in
     let types : locals_from (declared names f) 0 (length (declared names f)) ≡ map tree_of locals =
-        ap₂ (λ l n. locals_from l 0 n) said count ∙ named_locals (text_of f).args (text_of f).lets locals found in
+    ap₂ (λ l n. locals_from l 0 n) said count ∙ named_locals (text_of f).args (text_of f).lets locals found in
     ap₂ (λ n l. record { args = n; locals = l; blocks = map (block_named names (declared names f)) f.blocks }) (args_length f.args) types
     ∙ ap (λ bs. record { args = length (text_of f).args; locals = map tree_of locals; blocks = bs }) (blocks_first names (declared names f) trees f.blocks blocks)
 

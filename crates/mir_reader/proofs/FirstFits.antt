@@ -69,10 +69,10 @@ bits_below true n t h =
     on (n == 0)
     (λ e. let some : 0 < count t = omega (arith, few) in rw e some)
     (λ e.
-      let away = eqb-false n 0 e in
-      let some : 0 < n = positive n away in
-      let less : count t - n < count t = omega (arith, few, some) in
-      rw e less)
+    let away = eqb-false n 0 e in
+    let some : 0 < n = positive n away in
+    let less : count t - n < count t = omega (arith, few, some) in
+    rw e less)
   where
     positive : (n : ℕ) → (n ≡ 0 → ⊥) → 0 < n
     positive zero away = absurd (away refl)

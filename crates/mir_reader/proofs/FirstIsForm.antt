@@ -217,7 +217,7 @@ reads_by bytes name f locals C trees is crate_is =
     let names = names_of (strings_of pieces) (file_of f2) in
     let lines = symbol_lines pieces in
     let one : string_at (strings_of pieces) k ≡ name =
-        named_once grammar_names 1 pieces [] k s.Fn (behind_name f2) tt symbols (signs_of f2 good) ∙ is.plain.name_is in
+    named_once grammar_names 1 pieces [] k s.Fn (behind_name f2) tt symbols (signs_of f2 good) ∙ is.plain.name_is in
     let body = body_first trees names f2 locals good.args good.locals (blocks_first 0 f.blocks good.blocks) test.found in
     let crate = crate_first trees (strings_of pieces) f2 k locals good.attr good.plain refl body in
     let few = in_bounds (text_of f2) test.bounds in

@@ -120,9 +120,9 @@ new_entry : (n : ℕ) (before : List ℕ) (e : ℕ) (rest : List ℕ) → Covers
 new_entry n before e rest h size =
     false_from_ne_true (is_among before e) (λ old.
     too_few n before rest (λ q below.
-      on (nat_eq e q)
-      (λ same. or_left (is_among before q) (is_among rest q) (subst (λ k. is_among before k ≡ true) (eqb-true e q same) old))
-      (λ other. without (is_among before q) (nat_eq e q) (is_among rest q) (h q below) other))
+    on (nat_eq e q)
+    (λ same. or_left (is_among before q) (is_among rest q) (subst (λ k. is_among before k ≡ true) (eqb-true e q same) old))
+    (λ other. without (is_among before q) (nat_eq e q) (is_among rest q) (h q below) other))
     (omega (arith, size)))
 
 next_covers : (n : ℕ) (before : List ℕ) (e : ℕ) (rest : List ℕ) → Covers n before (e ∷ rest) → Covers n (e ∷ before) rest
@@ -144,9 +144,10 @@ IsBelow n d = d.local < n
 all_below : (n : ℕ) (before : List ℕ) (ds : List Declared) → Covers n before (numbers_of ds) → length before + length ds ≡ n → AllOf (IsBelow n) ds
 all_below n before [] h size = tt
 all_below n before (d ∷ ds) h size =
-    let names = numbers_length ds in
-    (small_entry n before d.local (numbers_of ds) h (omega (arith, size, names)),
-     all_below n (d.local ∷ before) ds (next_covers n before d.local (numbers_of ds) h) (omega (arith, size)))
+    let names = numbers_length ds in (
+      small_entry n before d.local (numbers_of ds) h (omega (arith, size, names)),
+      all_below n (d.local ∷ before) ds (next_covers n before d.local (numbers_of ds) h) (omega (arith, size)),
+    )
 
 once_from : (n : ℕ) (before : List ℕ) (xs : List (Lined ArgRule)) → Covers n before (numbers xs) → length before + length xs ≡ n → declared_once before xs ≡ []
 once_from n before [] h size = refl
@@ -218,9 +219,9 @@ label_among k [] lines n good low high = absurd (omega (arith, low, high))
 label_among k (b ∷ bs) lines n good low high =
     on (nat_eq b.label n) (λ e. or_left (nat_eq b.label n) _ e)
     (λ e.
-      let away = eqb-false b.label n e in
-      let next : suc k ≤ n = go (cases_lt k n) away in
-      or_right (nat_eq b.label n) _ (label_among (suc k) bs _ n good.1 next (omega (arith, high))))
+    let away = eqb-false b.label n e in
+    let next : suc k ≤ n = go (cases_lt k n) away in
+    or_right (nat_eq b.label n) _ (label_among (suc k) bs _ n good.1 next (omega (arith, high))))
   where
     go : (k < n) ⊎ (n ≤ k) → (b.label ≡ n → ⊥) → suc k ≤ n
     go (inl lt) away = omega (arith, lt)

@@ -80,7 +80,7 @@ module _ (D : List Shape) (m : List SmallTy) where
       let (one, rest) = and_parts (agree (slice_get m (local_in q)) (operand_small m (operand_of x))) (list_all (is_well_typed m) (map stmt_of xs)) h in
       let a = agreed (slice_get m (local_in q)) (operand_small m (operand_of x)) one in
       let keeps = plain_assignment D types args (local_in q) (tree_of a.left) (operand_of x) (plain_of x) (type_at (local_in q) a.left a.left_is)
-            (small_operand (operand_of x) a.right (plain_of x) a.right_is ∙ ap Some (sym a.same)) in
+      (small_operand (operand_of x) a.right (plain_of x) a.right_is ∙ ap Some (sym a.same)) in
       let is : assign (whole (local_in q)) («use» (operand_of x)) ≡ s = cc in
       subst (λ s. statement_broken D args types s ≡ []) is keeps
   keeps_types args trees (r.assign q (r.«use» x) ∷ xs) good h (suc i) s e =

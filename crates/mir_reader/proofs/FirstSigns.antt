@@ -93,9 +93,17 @@ abbrev pub behind_name : FnRule → List Symbol
 behind_name f = s.Open ∷ items_put arg_put s.Close f.args (result_put f.result (decls_put f.locals (each_put block_put f.blocks (s.CloseBrace ∷ []))))
 
 pub behind_signs : (f : FnRule) → AllItems FirstArg f.args → FirstType f.result → FirstDecls f.locals → AllOf FirstBlock f.blocks → AreSigns (behind_name f)
-behind_signs f args result locals blocks =
-    (tt, args_signs f.args _ args (tt, type_signs f.result _ result (tt, decls_signs f.locals _ locals
-    (each_signs block_put FirstBlock block_signs f.blocks _ blocks (tt, tt)))))
+behind_signs f args result locals blocks = (
+  tt,
+  args_signs f.args _ args (
+    tt,
+    type_signs f.result _ result (
+      tt,
+      decls_signs f.locals _ locals
+          (each_signs block_put FirstBlock block_signs f.blocks _ blocks (tt, tt)),
+    ),
+  ),
+)
 
 pub fn_put_is : (f : FnRule) (n : ℕ) → f.attr ≡ m.none → f.is_drop ≡ false → f.path ≡ t.name n → fn_put f [] ≡ s.Fn ∷ s.Name n ∷ behind_name f
 fn_put_is f n attr plain path = rw (attr, plain, path) refl

@@ -221,9 +221,9 @@ by_function bytes C pieces f whole stand uncommented derives good faultless name
     let keeps = alone_keeps names (fn_lined f lines) faultless in
     let (locals, found) = found_locals text.args text.lets (all_there names f lines first keeps) in
     let is : (trees : List Tree) → C ≡ crate_with trees (string_at (strings_of pieces) k) (length text.args) locals text.blocks =
-        λ trees. sym named ∙ crate_first trees (strings_of pieces) f k locals attr first.plain path (body_first trees names f locals first.args first.locals first.blocks found) in
+    λ trees. sym named ∙ crate_first trees (strings_of pieces) f k locals attr first.plain path (body_first trees names f locals first.args first.locals first.blocks found) in
     let one : string_at (strings_of pieces) k ≡ last_name [] pieces =
-        named_once grammar_names 1 pieces [] k s.Fn (behind_name f) tt (derives ∙ fn_put_is f k attr first.plain path) (behind_signs f first.args first.result first.locals first.blocks) in
+    named_once grammar_names 1 pieces [] k s.Fn (behind_name f) tt (derives ∙ fn_put_is f k attr first.plain path) (behind_signs f first.args first.result first.locals first.blocks) in
     let blocks = subst (λ C. AllOf HasFewBlocks C.functions) (is []) few_blocks in
     let types = subst (λ C. AllOf HasFewLocals C.functions) (is []) few_locals in
     let few_types : length locals ≤ 10000 = subst (λ n. n ≤ 10000) (length-map locals tree_of) types.0 in

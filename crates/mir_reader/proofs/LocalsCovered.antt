@@ -35,7 +35,7 @@ module _ (locals : Declared) where
       let (start, closed) = and_parts (is_some (declared_ty locals 0)) (none_missing_in locals locals) h in
       true_from_ne_false (is_some (declared_ty locals x)) (λ none.
       let few : length (map number_of locals) ≤ x =
-          length-le_from_distinct_below (map number_of locals) x distinct (λ q member. under q x closed none (any_has locals q member)) in
+      length-le_from_distinct_below (map number_of locals) x distinct (λ q member. under q x closed none (any_has locals q member)) in
       let same : length (map number_of locals) ≡ length locals = length-map locals number_of in
       absurd (omega (arith, few, same, below)))
     where

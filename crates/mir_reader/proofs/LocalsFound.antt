@@ -65,19 +65,19 @@ unfolding put_slot
 put_slot_at slots d x below =
     on (nat_lt d.local (length slots) && is_none (get_or slots d.local None))
     (λ c. on (nat_eq d.local x)
-      (λ e.
-        let same : d.local ≡ x = eqb-true d.local x e in
-        let none : get_or slots x None ≡ None = subst (λ y. get_or slots y None ≡ None) same (none_is (get_or slots d.local None) (and_parts (nat_lt d.local (length slots)) (is_none (get_or slots d.local None)) c).1) in
-        let put : get_or (set slots d.local (Some d.ty)) x None ≡ Some d.ty = subst (λ y. get_or (set slots y (Some d.ty)) x None ≡ Some d.ty) (sym same) (get_or-set_same slots x (Some d.ty) None below) in
-        rw (c, e, none) put)
-      (λ e. rw (c, e) (get_or-set_other slots d.local x (Some d.ty) None (λ same. eqb-false d.local x e (sym same)) ∙ sym (or_none (get_or slots x None)))))
+    (λ e.
+    let same : d.local ≡ x = eqb-true d.local x e in
+    let none : get_or slots x None ≡ None = subst (λ y. get_or slots y None ≡ None) same (none_is (get_or slots d.local None) (and_parts (nat_lt d.local (length slots)) (is_none (get_or slots d.local None)) c).1) in
+    let put : get_or (set slots d.local (Some d.ty)) x None ≡ Some d.ty = subst (λ y. get_or (set slots y (Some d.ty)) x None ≡ Some d.ty) (sym same) (get_or-set_same slots x (Some d.ty) None below) in
+    rw (c, e, none) put)
+    (λ e. rw (c, e) (get_or-set_other slots d.local x (Some d.ty) None (λ same. eqb-false d.local x e (sym same)) ∙ sym (or_none (get_or slots x None)))))
     (λ c. on (nat_eq d.local x)
-      (λ e.
-        let same : d.local ≡ x = eqb-true d.local x e in
-        let room : nat_lt d.local (length slots) ≡ true = subst (λ y. nat_lt y (length slots) ≡ true) (sym same) (lt-ltb x (length slots) below) in
-        let there : is_none (get_or slots d.local None) ≡ false = rw room at c in
-        rw (c, e) (or_there (get_or slots x None) (Some d.ty) (subst (λ y. is_none (get_or slots y None) ≡ false) same there)))
-      (λ e. rw (c, e) (sym (or_none (get_or slots x None)))))
+    (λ e.
+    let same : d.local ≡ x = eqb-true d.local x e in
+    let room : nat_lt d.local (length slots) ≡ true = subst (λ y. nat_lt y (length slots) ≡ true) (sym same) (lt-ltb x (length slots) below) in
+    let there : is_none (get_or slots d.local None) ≡ false = rw room at c in
+    rw (c, e) (or_there (get_or slots x None) (Some d.ty) (subst (λ y. is_none (get_or slots y None) ≡ false) same there)))
+    (λ e. rw (c, e) (sym (or_none (get_or slots x None)))))
 
 or_else_one : (o : Option SmallTy) (d : Declared) (ds : List Declared) (x : ℕ) → or_else (or_else o (one_ty d x)) (first_ty ds x) ≡ or_else o (first_ty (d ∷ ds) x)
 or_else_one (Some t) d ds x = refl

@@ -156,7 +156,8 @@ pub with_number : (xs : List Symbol) (x : Symbol) (n : ℕ) (ys : List Symbol) �
 with_number [] x n ys e h hs = absurd cc
 with_number (a ∷ []) x n ys e h hs = absurd cc
 with_number (a ∷ b ∷ xs) x n ys e h hs =
-    let rest = tail_is _ _ _ _ e in
-    (number_of b,
-     ap₂ (λ y ys. y ∷ ys) (numbered_sign_is a x (head_is _ _ _ _ e) h)
-     (ap₂ (λ y ys. y ∷ ys) (name_is b n (head_is _ _ _ _ rest)) (signs_are xs ys (tail_is _ _ _ _ rest) hs)))
+    let rest = tail_is _ _ _ _ e in (
+      number_of b,
+      ap₂ (λ y ys. y ∷ ys) (numbered_sign_is a x (head_is _ _ _ _ e) h)
+          (ap₂ (λ y ys. y ∷ ys) (name_is b n (head_is _ _ _ _ rest)) (signs_are xs ys (tail_is _ _ _ _ rest) hs)),
+    )
