@@ -1,9 +1,9 @@
 -- For the tests only: the plan of the tests is lawful.
-use Rattle.std.specs.Prelude.{◌≡◌, ◌≢◌, ℕ, zero, suc, ◌+◌, ◌<◌, Bool, true, false, ◌==◌, ◌||◌, List, [], ◌∷◌, ◌++◌, Option, Some, None, option_to_list, refl}
-use Rattle.std.proofs.Common.{arith, sym, ap, subst, ◌∙◌}
+use Rattle.std.specs.Prelude.{◌≡◌, ℕ, zero, suc, ◌+◌, ◌<◌, Bool, true, false, List, [], ◌∷◌, ◌++◌, Some, refl}
+use Rattle.std.proofs.Common.{arith, sym, subst, ◌∙◌}
 use Rattle.std.proofs.lemmas.Bool.Decides.{nat_tests}
-use Rattle.sched_core.specs.Plan.{Plan, IsLawful, Reads, has}
-use Rattle.sched_core.specs.TestJobs.{plan, reads, stolen, chosen, one}
+use Rattle.sched_core.specs.Plan.{IsLawful, Reads, has}
+use Rattle.sched_core.specs.TestJobs.{plan, stolen, chosen, one}
 
 chosen_is : (far : Bool) → (1 < chosen far) × (chosen far < 4)
 chosen_is false = (omega arith, omega arith)

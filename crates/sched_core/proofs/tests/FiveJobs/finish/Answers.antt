@@ -1,4 +1,4 @@
-use Rattle.std.proofs.Common.{◌≡◌, ◌∙◌, sym, ap}
+use Rattle.std.proofs.Common.{◌∙◌, sym, ap}
 use Rattle.sched_core.proofs.TestJobs.{finished, items_of}
 use Rattle.sched_core.proofs.tests.FiveJobs.finish.Goals.{in-Some, in-None}
 use Rattle.sched_core.proofs.tests.FiveJobs.finish.Goals as goal

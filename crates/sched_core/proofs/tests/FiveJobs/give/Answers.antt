@@ -1,4 +1,4 @@
-use Rattle.std.proofs.Common.{◌≡◌, ◌++◌, List, ℕ, ap, ◌∙◌, subst, sym}
+use Rattle.std.proofs.Common.{◌++◌, List, ℕ, ap, ◌∙◌, subst, sym}
 use Rattle.sched_core.specs.TestJobs.{IsWork}
 use Rattle.sched_core.proofs.TestJobs.{gave}
 use Rattle.sched_core.proofs.tests.FiveJobs.give.Goals as goal
