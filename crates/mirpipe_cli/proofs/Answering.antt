@@ -1,11 +1,13 @@
 -- What is told, from what was read and written.
-use Rattle.std.proofs.Common.{◌≡◌, ℕ, List, [], ◌++◌, Option, Some, None, inl, inr, refl, sym, subst, ◌∙◌}
+use Rattle.std.proofs.Common.{◌≡◌, ◌≤◌, ◌<◌, ◌+◌, ◌⊎◌, ℕ, Bool, false, arith, List, [], ◌++◌, length, Option, Some, None, inl, inr, refl, sym, subst, ◌∙◌}
+use Rattle.std.proofs.lemmas.Bool.{cases_lt, true≢false}
 use Rattle.std.proofs.lemmas.List.{append-nil}
+use Rattle.std.specs.Prelude.{IsTrue, ◌↔◌}
 use Rattle.std.specs.Io.KnownBytes.{Consumes, Appends, IsAtEnd}
 use Rattle.mir_syntax.specs.declared.program.Program.{Program}
-use Rattle.mir_syntax.specs.Crate.{crate_of}
+use Rattle.mir_syntax.specs.Crate.{Crate, crate_of}
 use Rattle.mir_text.specs.Text.{text}
-use Rattle.mir_reader.specs.FirstForm.{IsNotFirst}
+use Rattle.mir_reader.specs.Form.{FirstForm}
 use Rattle.pipe_io.specs.Causes.{AppendsFront}
 use Rattle.mirpipe_cli.specs.Answer.{cleaned, IsRead, printed, not_first, word_fault, misfit, OfWords, Answers}
 
@@ -22,11 +24,24 @@ whole_input (Some xs) (Some ys) input bytes told taken end =
     sym e ∙ taken ∙ (rw end (append-nil bytes))
 
 -- an input that was read to its end and is not of the first form names no program
-pub names_none : (old new : Option (List ℕ)) (input bytes : List ℕ) → old ≡ Some input → Consumes old new bytes → IsAtEnd new → IsNotFirst bytes → (p : Program) → IsRead input p → ⊥
+pub names_none : (old new : Option (List ℕ)) (input bytes : List ℕ) → old ≡ Some input → Consumes old new bytes → IsAtEnd new → ((C : Crate) → FirstForm bytes C → ⊥) → (p : Program) → IsRead input p → ⊥
 names_none old new input bytes told taken end none p read =
     let same : input ≡ bytes = whole_input old new input bytes told taken end in
-    let never : IsNotFirst input = subst IsNotFirst (sym same) none in
-    never read.first.name read.first.function read.first.locals read.first.is
+    none (crate_of p) (subst (λ bytes. FirstForm bytes (crate_of p)) same read.first)
+
+-- bytes that are not over a limit
+pub within_limit : (n limit : ℕ) (over : Bool) → n ≤ limit + 1 → (IsTrue over ↔ (n ≡ limit + 1)) → over ≡ false → n ≤ limit
+within_limit n limit over bound says inside = go (cases_lt n (limit + 1))
+  where
+    go : (n < limit + 1) ⊎ (limit + 1 ≤ n) → n ≤ limit
+    go (inl lt) = omega (arith, lt)
+    go (inr ge) = let full : n ≡ limit + 1 = omega (arith, ge, bound) in absurd (true≢false (sym (says.1 full) ∙ inside))
+
+-- and one that is of the first form names the program
+pub names_program : (old new : Option (List ℕ)) (input bytes : List ℕ) (p : Program) → old ≡ Some input → Consumes old new bytes → IsAtEnd new → length bytes ≤ 67108864 → FirstForm bytes (crate_of p) → IsRead input p
+names_program old new input bytes p told taken end short form =
+    let same : bytes ≡ input = sym (whole_input old new input bytes told taken end) in
+    record { small = subst (λ bytes. length bytes ≤ 67108864) same short; first = subst (λ bytes. FirstForm bytes (crate_of p)) same form }
 
 pub answers_word : (words : List (List ℕ)) (input : List ℕ) (k : ℕ) → misfit words ≡ Some k → Answers words input (word_fault k)
 answers_word words input k e = subst (λ m. OfWords m input (word_fault k)) (sym e) refl

@@ -4,7 +4,7 @@ use Rattle.std.specs.Str.{bytes_eq}
 use Rattle.mir_syntax.specs.Crate.{TypedFunction, Crate, crate_of}
 use Rattle.mir_syntax.specs.declared.program.Program.{Program}
 use Rattle.mir_text.specs.Text.{text}
-use Rattle.mir_reader.specs.FirstForm.{ReadsFirst}
+use Rattle.mir_reader.specs.Form.{FirstForm}
 use Rattle.cfg_simplify.specs.Simple.{simple}
 
 -- a status, what is written out, and the notes
@@ -39,7 +39,7 @@ not_first = record { status = 1; out = []; notes = codes "S16\n" }
 -- an input of at most 67,108,864 bytes that is a text of the first form, and the program that it names
 pub record IsRead (input : List ℕ) (p : Program) : Type 0 where
   pub small : length input ≤ 67108864
-  pub first : ReadsFirst input p
+  pub first : FirstForm input (crate_of p)
 
 -- the cleaned crate of such a text; of every other input that it is none
 abbrev pub Seq : List ℕ → Told → Type 0
