@@ -1,9 +1,9 @@
 -- The crate that a function of the first form names.
-use Rattle.std.proofs.Common.{◌≡◌, ℕ, zero, suc, Bool, true, false, List, [], ◌∷◌, ◌++◌, map, length, Option, Some, None, refl, sym, ap, ap₂, ◌∙◌, subst}
+use Rattle.std.proofs.Common.{◌≡◌, ℕ, suc, false, List, [], ◌∷◌, ◌++◌, map, length, Some, refl, sym, ap, ap₂, ◌∙◌}
 use Rattle.std.proofs.lemmas.List.{length-map, length-append}
 use Rattle.mir_syntax.specs.declared.body.Inline.TheVariants as inlining
 use Rattle.mir_syntax.specs.Tree.{Tree}
-use Rattle.mir_syntax.specs.Crate.{«use», assign, TypedStmt, TypedBody, TypedFunction, Crate, stmt_of as typed_stmt_of, block_of as typed_block_of}
+use Rattle.mir_syntax.specs.Crate.{«use», assign, TypedBody, TypedFunction, stmt_of as typed_stmt_of, block_of as typed_block_of}
 use Rattle.mir_text.specs.Grammar.{Items, end, last, more, items_of, AllItems, AllOf}
 use Rattle.mir_text.specs.GrammarTypes as t
 use Rattle.mir_text.specs.GrammarPlaces as p
@@ -20,7 +20,7 @@ use Rattle.mir_text.specs.Naming.{declared, locals_from, body_named, function_na
 use Rattle.mir_reader.specs.declared.text.SmallTy.{SmallTy}
 use Rattle.mir_reader.specs.Reading.{whole}
 use Rattle.mir_reader.specs.First.{FirstPlace, FirstOperand, FirstStmt, FirstTerm, FirstBlock, FirstArg, FirstDecls}
-use Rattle.mir_reader.specs.FirstText.{operand_of, stmt_of, term_of, block_of, arg_of, lets_listed, text_of, file_of}
+use Rattle.mir_reader.specs.FirstText.{operand_of, stmt_of, term_of, block_of, arg_of, text_of, file_of}
 use Rattle.mir_reader.specs.Locals.{locals_of}
 use Rattle.mir_reader.specs.Checks.{tree_of, crate_with}
 use Rattle.mir_reader.proofs.LocalsFound.{pair_of, locals_length, named_locals}
@@ -74,9 +74,9 @@ body_first trees names f locals args lets blocks found =
     let ds = (text_of f).args ++ (text_of f).lets in
     let said = declared_first names f args lets in
     let count : length (declared names f) ≡ length locals =
-        ap length said ∙ length-map ds pair_of ∙ length-append (text_of f).args (text_of f).lets ∙ sym (locals_length (text_of f).args (text_of f).lets locals found) in
+    ap length said ∙ length-map ds pair_of ∙ length-append (text_of f).args (text_of f).lets ∙ sym (locals_length (text_of f).args (text_of f).lets locals found) in
     let types : locals_from (declared names f) 0 (length (declared names f)) ≡ map tree_of locals =
-        ap₂ (λ l n. locals_from l 0 n) said count ∙ named_locals (text_of f).args (text_of f).lets locals found in
+    ap₂ (λ l n. locals_from l 0 n) said count ∙ named_locals (text_of f).args (text_of f).lets locals found in
     ap₂ (λ n l. record { args = n; locals = l; blocks = map (block_named names (declared names f)) f.blocks }) (args_length f.args) types
     ∙ ap (λ bs. record { args = length (text_of f).args; locals = map tree_of locals; blocks = bs }) (blocks_first names (declared names f) trees f.blocks blocks)
 

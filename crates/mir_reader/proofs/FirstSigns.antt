@@ -1,5 +1,5 @@
 -- The symbols that the grammar puts for a file of the first form: behind `fn` stands a name, and no other does.
-use Rattle.std.proofs.Common.{◌≡◌, ℕ, Bool, true, false, List, [], ◌∷◌, map, refl, sym, ap, ap₂, ◌∙◌}
+use Rattle.std.proofs.Common.{◌≡◌, ℕ, Bool, true, false, List, [], ◌∷◌, refl}
 use Rattle.mir_text.specs.declared.symbol.Symbol.{Symbol}
 use Rattle.mir_text.specs.declared.symbol.Symbol.TheVariants as s
 use Rattle.mir_text.specs.Grammar.{Put, Items, end, last, more, items_put, each_put, AllItems, AllOf}
@@ -13,7 +13,7 @@ use Rattle.mir_text.specs.GrammarTerms as g
 use Rattle.mir_text.specs.GrammarTerms.{TermRule, term_put, BlockRule, block_put, ended_put}
 use Rattle.mir_text.specs.GrammarItems as m
 use Rattle.mir_text.specs.GrammarItems.{ArgRule, arg_put, DeclRule, decl_put, DeclsRule, decls_put, result_put, FnRule, fn_put}
-use Rattle.mir_reader.specs.First.{FirstType, FirstPlace, FirstValue, FirstOperand, FirstRvalue, FirstStmt, FirstTerm, FirstBlock, FirstArg, FirstDecl, FirstDecls, FirstFn}
+use Rattle.mir_reader.specs.First.{FirstType, FirstPlace, FirstValue, FirstOperand, FirstRvalue, FirstStmt, FirstTerm, FirstBlock, FirstArg, FirstDecl, FirstDecls}
 use Rattle.mir_reader.proofs.Signs.{AreSigns}
 
 type_signs : (u : TypeRule) (rest : List Symbol) → FirstType u → AreSigns rest → AreSigns (type_put u rest)
@@ -93,9 +93,17 @@ abbrev pub behind_name : FnRule → List Symbol
 behind_name f = s.Open ∷ items_put arg_put s.Close f.args (result_put f.result (decls_put f.locals (each_put block_put f.blocks (s.CloseBrace ∷ []))))
 
 pub behind_signs : (f : FnRule) → AllItems FirstArg f.args → FirstType f.result → FirstDecls f.locals → AllOf FirstBlock f.blocks → AreSigns (behind_name f)
-behind_signs f args result locals blocks =
-    (tt, args_signs f.args _ args (tt, type_signs f.result _ result (tt, decls_signs f.locals _ locals
-    (each_signs block_put FirstBlock block_signs f.blocks _ blocks (tt, tt)))))
+behind_signs f args result locals blocks = (
+  tt,
+  args_signs f.args _ args (
+    tt,
+    type_signs f.result _ result (
+      tt,
+      decls_signs f.locals _ locals
+          (each_signs block_put FirstBlock block_signs f.blocks _ blocks (tt, tt)),
+    ),
+  ),
+)
 
 pub fn_put_is : (f : FnRule) (n : ℕ) → f.attr ≡ m.none → f.is_drop ≡ false → f.path ≡ t.name n → fn_put f [] ≡ s.Fn ∷ s.Name n ∷ behind_name f
 fn_put_is f n attr plain path = rw (attr, plain, path) refl

@@ -1,8 +1,8 @@
 -- Locals that are declared once each, none of them missing, are those below their count.
-use Rattle.std.proofs.Common.{◌≡◌, ℕ, zero, suc, ◌+◌, ◌-◌, ◌<◌, ◌≤◌, ◌⊎◌, inl, inr, Bool, true, false, ◌&&◌, ◌||◌, ◌==◌, nat_eq, List, [], ◌∷◌, map, length, Option, Some, None, is_some, refl, sym, ap, ◌∙◌, subst, arith, if◌then◌else◌}
+use Rattle.std.proofs.Common.{◌≡◌, ℕ, zero, suc, ◌+◌, ◌-◌, ◌<◌, ◌≤◌, ◌⊎◌, inl, inr, true, false, ◌==◌, nat_eq, [], ◌∷◌, map, length, is_some, refl, sym, ◌∙◌, subst, arith}
 use Rattle.std.specs.List.{IsDistinct, list_any}
-use Rattle.std.proofs.lemmas.Bool.{eqb-true, eqb-false, eq-eqb, ne_eqb, true_from_ne_false, false_from_ne_true, and_parts, cases_lt, true≢false}
-use Rattle.std.proofs.lemmas.Map.Steps.{length-le_from_distinct_below, le-length_from_below}
+use Rattle.std.proofs.lemmas.Bool.{eqb-true, eqb-false, ne_eqb, true_from_ne_false, and_parts, cases_lt, true≢false}
+use Rattle.std.proofs.lemmas.Map.Steps.{length-le_from_distinct_below}
 use Rattle.std.proofs.lemmas.List.{length-map}
 use Rattle.mir_text.specs.NamedBodies.{Declared, declared_ty}
 use Rattle.mir_text.specs.NameFaults.{below_declared, none_missing_in, none_missing}
@@ -35,7 +35,7 @@ module _ (locals : Declared) where
       let (start, closed) = and_parts (is_some (declared_ty locals 0)) (none_missing_in locals locals) h in
       true_from_ne_false (is_some (declared_ty locals x)) (λ none.
       let few : length (map number_of locals) ≤ x =
-          length-le_from_distinct_below (map number_of locals) x distinct (λ q member. under q x closed none (any_has locals q member)) in
+      length-le_from_distinct_below (map number_of locals) x distinct (λ q member. under q x closed none (any_has locals q member)) in
       let same : length (map number_of locals) ≡ length locals = length-map locals number_of in
       absurd (omega (arith, few, same, below)))
     where

@@ -1,6 +1,6 @@
 -- The types of locals that the reader finds are those of the first declarations.
-use Rattle.std.proofs.Common.{◌≡◌, ◌≢◌, ℕ, zero, suc, ◌+◌, ◌<◌, ◌≤◌, Bool, true, false, ◌&&◌, ◌==◌, nat_eq, nat_lt, List, [], ◌∷◌, ◌++◌, map, length, get_or, set, slice_get, option_map, Option, Some, None, is_some, is_none, refl, sym, ap, ap₂, ◌∙◌, subst, arith, append_assoc, append-nil, if◌then◌else◌}
-use Rattle.std.proofs.lemmas.Bool.{eqb-true, eqb-false, eq-eqb, ne_eqb, ltb-true, lt-ltb, true_from_ne_false, false_from_ne_true, and_parts, true≢false}
+use Rattle.std.proofs.Common.{◌≡◌, ℕ, zero, suc, ◌+◌, ◌<◌, true, false, ◌&&◌, nat_eq, nat_lt, List, [], ◌∷◌, ◌++◌, map, length, get_or, set, slice_get, option_map, Option, Some, None, is_some, is_none, refl, sym, ap, ap₂, ◌∙◌, subst, arith, append_assoc, append-nil, if◌then◌else◌}
+use Rattle.std.proofs.lemmas.Bool.{eqb-true, eqb-false, lt-ltb, and_parts}
 use Rattle.std.proofs.lemmas.List.{get_or-set_same, get_or-set_other, length-set, length-map}
 use Rattle.mir_text.specs.NamedBodies.{Declared as NamedLocals, declared_ty, or_else}
 use Rattle.mir_text.specs.Naming.{or_unit, locals_from}
@@ -65,19 +65,19 @@ unfolding put_slot
 put_slot_at slots d x below =
     on (nat_lt d.local (length slots) && is_none (get_or slots d.local None))
     (λ c. on (nat_eq d.local x)
-      (λ e.
-        let same : d.local ≡ x = eqb-true d.local x e in
-        let none : get_or slots x None ≡ None = subst (λ y. get_or slots y None ≡ None) same (none_is (get_or slots d.local None) (and_parts (nat_lt d.local (length slots)) (is_none (get_or slots d.local None)) c).1) in
-        let put : get_or (set slots d.local (Some d.ty)) x None ≡ Some d.ty = subst (λ y. get_or (set slots y (Some d.ty)) x None ≡ Some d.ty) (sym same) (get_or-set_same slots x (Some d.ty) None below) in
-        rw (c, e, none) put)
-      (λ e. rw (c, e) (get_or-set_other slots d.local x (Some d.ty) None (λ same. eqb-false d.local x e (sym same)) ∙ sym (or_none (get_or slots x None)))))
+    (λ e.
+    let same : d.local ≡ x = eqb-true d.local x e in
+    let none : get_or slots x None ≡ None = subst (λ y. get_or slots y None ≡ None) same (none_is (get_or slots d.local None) (and_parts (nat_lt d.local (length slots)) (is_none (get_or slots d.local None)) c).1) in
+    let put : get_or (set slots d.local (Some d.ty)) x None ≡ Some d.ty = subst (λ y. get_or (set slots y (Some d.ty)) x None ≡ Some d.ty) (sym same) (get_or-set_same slots x (Some d.ty) None below) in
+    rw (c, e, none) put)
+    (λ e. rw (c, e) (get_or-set_other slots d.local x (Some d.ty) None (λ same. eqb-false d.local x e (sym same)) ∙ sym (or_none (get_or slots x None)))))
     (λ c. on (nat_eq d.local x)
-      (λ e.
-        let same : d.local ≡ x = eqb-true d.local x e in
-        let room : nat_lt d.local (length slots) ≡ true = subst (λ y. nat_lt y (length slots) ≡ true) (sym same) (lt-ltb x (length slots) below) in
-        let there : is_none (get_or slots d.local None) ≡ false = rw room at c in
-        rw (c, e) (or_there (get_or slots x None) (Some d.ty) (subst (λ y. is_none (get_or slots y None) ≡ false) same there)))
-      (λ e. rw (c, e) (sym (or_none (get_or slots x None)))))
+    (λ e.
+    let same : d.local ≡ x = eqb-true d.local x e in
+    let room : nat_lt d.local (length slots) ≡ true = subst (λ y. nat_lt y (length slots) ≡ true) (sym same) (lt-ltb x (length slots) below) in
+    let there : is_none (get_or slots d.local None) ≡ false = rw room at c in
+    rw (c, e) (or_there (get_or slots x None) (Some d.ty) (subst (λ y. is_none (get_or slots y None) ≡ false) same there)))
+    (λ e. rw (c, e) (sym (or_none (get_or slots x None)))))
 
 or_else_one : (o : Option SmallTy) (d : Declared) (ds : List Declared) (x : ℕ) → or_else (or_else o (one_ty d x)) (first_ty ds x) ≡ or_else o (first_ty (d ∷ ds) x)
 or_else_one (Some t) d ds x = refl

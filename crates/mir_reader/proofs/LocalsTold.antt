@@ -1,17 +1,15 @@
 -- What the faults of declarations say of a function of the first form.
-use Rattle.std.proofs.Common.{◌≡◌, ℕ, zero, suc, ◌+◌, Bool, true, false, not, ◌&&◌, ◌||◌, ◌==◌, nat_eq, List, [], ◌∷◌, ◌++◌, map, length, Option, Some, None, refl, sym, ap, ap₂, ◌∙◌, subst, arith}
+use Rattle.std.proofs.Common.{◌≡◌, ℕ, suc, ◌+◌, true, false, not, ◌==◌, nat_eq, List, [], ◌∷◌, ◌++◌, map, Some, refl, sym, ap, ap₂, ◌∙◌, subst, arith}
 use Rattle.std.specs.List.{IsDistinct, AllByRecursion}
-use Rattle.std.proofs.lemmas.Bool.{eqb-true, eq-eqb, not-true, not_from_false, false_from_ne_true, and_parts, or_parts, or_left, or_right, true≢false}
-use Rattle.mir_syntax.specs.Tree.{Tree}
+use Rattle.std.proofs.lemmas.Bool.{eqb-true, eq-eqb, not-true, false_from_ne_true, and_parts, or_left, or_right, true≢false}
 use Rattle.mir_text.specs.Grammar.{Items, end, last, more, items_of, AllItems, AllOf}
 use Rattle.mir_text.specs.GrammarTypes as t
 use Rattle.mir_text.specs.GrammarTypes.{TypeRule}
 use Rattle.mir_text.specs.GrammarItems as m
 use Rattle.mir_text.specs.GrammarItems.{ArgRule, arg_put, DeclRule, decl_put, DeclsRule, FnRule}
 use Rattle.mir_text.specs.Names.{Strings, Names, type_named, is_known, ty_of, same_type}
-use Rattle.mir_text.specs.NamedBodies.{Declared as NamedLocals}
-use Rattle.mir_text.specs.Naming.{lets_of, declares, declarations, declared}
-use Rattle.mir_text.specs.PartLines.{LinesFrom, first_line, past, Lined, items_lined, lets_lined}
+use Rattle.mir_text.specs.Naming.{lets_of, declares, declared}
+use Rattle.mir_text.specs.PartLines.{LinesFrom, Lined, items_lined, lets_lined}
 use Rattle.mir_text.specs.NameFaults.{on_line, unless, is_among, args_in_place, declared_once, result_faults, type_codes}
 use Rattle.mir_reader.specs.declared.text.SmallTy.{SmallTy}
 use Rattle.mir_reader.specs.declared.text.Declared.{Declared}
@@ -137,9 +135,10 @@ numbers xs = map number_of (map pair_of (told xs))
 apart : (b : ℕ) (before : List ℕ) (xs : List (Lined ArgRule)) → declared_once before xs ≡ [] → is_among before b ≡ true → AllByRecursion (λ y. (b == y) ≡ false) (numbers xs)
 apart b before [] h among = tt
 apart b before (a ∷ xs) h among =
-    let fresh = not-true (is_among before a.1.0) (unless_none (not (is_among before a.1.0)) 14 (on_line_none a.0 _ (append_empty-left _ (declared_once (a.1.0 ∷ before) xs) h))) in
-    (false_from_ne_true (b == a.1.0) (λ e. true≢false (sym among ∙ ap (is_among before) (eqb-true b a.1.0 e) ∙ fresh)),
-     apart b (a.1.0 ∷ before) xs (append_empty-right (on_line a.0 (unless (not (is_among before a.1.0)) 14)) _ h) (or_right (nat_eq a.1.0 b) (is_among before b) among))
+    let fresh = not-true (is_among before a.1.0) (unless_none (not (is_among before a.1.0)) 14 (on_line_none a.0 _ (append_empty-left _ (declared_once (a.1.0 ∷ before) xs) h))) in (
+      false_from_ne_true (b == a.1.0) (λ e. true≢false (sym among ∙ ap (is_among before) (eqb-true b a.1.0 e) ∙ fresh)),
+      apart b (a.1.0 ∷ before) xs (append_empty-right (on_line a.0 (unless (not (is_among before a.1.0)) 14)) _ h) (or_right (nat_eq a.1.0 b) (is_among before b) among),
+    )
 
 pub once_distinct : (before : List ℕ) (xs : List (Lined ArgRule)) → declared_once before xs ≡ [] → IsDistinct (λ x y. x == y) (numbers xs)
 unfolding IsDistinct
@@ -155,9 +154,9 @@ result_told names [] u ty all first h k = absurd cc
 result_told names (a ∷ xs) u ty all first h k =
     on (nat_eq a.1.0 0)
     (λ e.
-      let same = unless_none _ 14 (on_line_none a.0 (unless (same_type (ty_of names a.1.1) (ty_of names u)) 14) (rw e at h)) in
-      let found = some_same (small_of a.1.1) ty (rw e at k) in
-      ap (λ v. same_small v (small_of u)) (sym found) ∙ sym (ap₂ same_type (first_named names.strings names.paths a.1.1 all.0) (first_named names.strings names.paths u first)) ∙ same)
+    let same = unless_none _ 14 (on_line_none a.0 (unless (same_type (ty_of names a.1.1) (ty_of names u)) 14) (rw e at h)) in
+    let found = some_same (small_of a.1.1) ty (rw e at k) in
+    ap (λ v. same_small v (small_of u)) (sym found) ∙ sym (ap₂ same_type (first_named names.strings names.paths a.1.1 all.0) (first_named names.strings names.paths u first)) ∙ same)
     (λ e. result_told names xs u ty all.1 first (rw e at h) (rw e at k))
 
 pub told_result : (names : Names) (xs : List (Lined ArgRule)) (u : TypeRule) (ty : SmallTy) → AllOf FirstLined xs → FirstType u → first_ty (told xs) 0 ≡ Some ty → same_small ty (small_of u) ≡ true → result_faults names (ty_of names u) xs ≡ []
@@ -165,8 +164,8 @@ told_result names [] u ty all first k same = refl
 told_result names (a ∷ xs) u ty all first k same =
     on (nat_eq a.1.0 0)
     (λ e.
-      let found = some_same (small_of a.1.1) ty (rw e at k) in
-      let alike : same_type (ty_of names a.1.1) (ty_of names u) ≡ true =
-          ap₂ same_type (first_named names.strings names.paths a.1.1 all.0) (first_named names.strings names.paths u first) ∙ ap (λ v. same_small v (small_of u)) found ∙ same in
-      rw e (none_on_line a.0 _ (none_unless (same_type (ty_of names a.1.1) (ty_of names u)) 14 alike)))
+    let found = some_same (small_of a.1.1) ty (rw e at k) in
+    let alike : same_type (ty_of names a.1.1) (ty_of names u) ≡ true =
+    ap₂ same_type (first_named names.strings names.paths a.1.1 all.0) (first_named names.strings names.paths u first) ∙ ap (λ v. same_small v (small_of u)) found ∙ same in
+    rw e (none_on_line a.0 _ (none_unless (same_type (ty_of names a.1.1) (ty_of names u)) 14 alike)))
     (λ e. rw e (told_result names xs u ty all.1 first (rw e at k) same))

@@ -1,5 +1,5 @@
 -- The one name of a text of the first form stands at its number among the byte strings of the text.
-use Rattle.std.proofs.Common.{◌≡◌, ℕ, zero, suc, ◌+◌, Bool, true, false, List, [], ◌∷◌, ◌++◌, map, length, get_or, Option, Some, None, refl, sym, ap, ap₂, ◌∙◌, subst, arith}
+use Rattle.std.proofs.Common.{◌≡◌, ℕ, suc, ◌+◌, List, [], ◌∷◌, map, length, get_or, Option, Some, None, refl, sym, ap, ◌∙◌, subst, arith}
 use Rattle.std.proofs.Math.Seq.{get_or-append_seam}
 use Rattle.std.proofs.lemmas.Slice.Eq.{bytes_eq-Decides}
 use Rattle.std.specs.Str.{bytes_eq}
@@ -20,8 +20,8 @@ found_at (w ∷ ws) bytes n k e =
     on (bytes_eq w bytes)
     (λ same. let found : ◌≡◌ {A = Option ℕ} (Some n) (Some k) = rw same at e in let is : n ≡ k = cc in (0, omega (arith, is), (bytes_eq-Decides w bytes).0 same))
     (λ other.
-      let (i, is, at) = found_at ws bytes (suc n) k (rw other at e) in
-      (suc i, omega (arith, is), at))
+    let (i, is, at) = found_at ws bytes (suc n) k (rw other at e) in
+    (suc i, omega (arith, is), at))
 
 number_at : (seen : List (List ℕ)) (bytes : List ℕ) → get_or (noted seen bytes) (number_in seen bytes) [] ≡ bytes
 number_at seen bytes = go (place_in seen bytes) refl
@@ -51,7 +51,7 @@ still : (seen : List (List ℕ)) (n : ℕ) (ps : List Piece) (before : List ℕ)
 still seen n [] before h = record { strings = refl; last = refl }
 still seen n (q ∷ ps) before h =
     let both = still_by seen n (token_of q) before (symbols_from (seen_after seen (token_of q)) (line_after n q) ps) ps h
-        (λ k. still (seen_after seen (token_of q)) (line_after n q) ps (named_by before (token_of q)) k) in
+    (λ k. still (seen_after seen (token_of q)) (line_after n q) ps (named_by before (token_of q)) k) in
     record { strings = both.0; last = both.1 }
 
 -- ---- a name, and then no other
