@@ -1,8 +1,7 @@
 -- What the program answers where no object fails and memory suffices.
 use Rattle.std.specs.Prelude.{ℕ, ◌≡◌, ◌≤◌, ◌⊎◌, List, [], ◌∷◌, ◌++◌, length, map, codes, decimal, Option, Some, None, if◌then◌else◌}
 use Rattle.std.specs.Str.{bytes_eq}
-use Rattle.mir_syntax.specs.Crate.{TypedFunction, Crate, crate_of}
-use Rattle.mir_syntax.specs.declared.program.Program.{Program}
+use Rattle.mir_syntax.specs.Crate.{TypedFunction, Crate}
 use Rattle.mir_text.specs.Text.{text}
 use Rattle.mir_reader.specs.Form.{FirstForm}
 use Rattle.cfg_simplify.specs.Simple.{simple}
@@ -36,14 +35,14 @@ printed c = record { status = 0; out = text (cleaned c); notes = [] }
 abbrev pub not_first : Told
 not_first = record { status = 1; out = []; notes = codes "S16\n" }
 
--- an input of at most 67,108,864 bytes that is a text of the first form, and the program that it names
-pub record IsRead (input : List ℕ) (p : Program) : Type 0 where
+-- an input of at most 67,108,864 bytes that is a text of the first form, and the crate that it names
+pub record IsRead (input : List ℕ) (C : Crate) : Type 0 where
   pub small : length input ≤ 67108864
-  pub first : FirstForm input (crate_of p)
+  pub first : FirstForm input C
 
 -- the cleaned crate of such a text; of every other input that it is none
 abbrev pub Seq : List ℕ → Told → Type 0
-Seq input told = ((p : Program) × IsRead input p × (told ≡ printed (crate_of p))) ⊎ (((p : Program) → IsRead input p → ⊥) × (told ≡ not_first))
+Seq input told = ((C : Crate) × IsRead input C × (told ≡ printed C)) ⊎ (((C : Crate) → IsRead input C → ⊥) × (told ≡ not_first))
 
 -- ---- all commands
 

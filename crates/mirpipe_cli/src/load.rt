@@ -1,7 +1,7 @@
 ghost use Rattle.std.specs.Prelude.{◌≡◌, ◌≤◌, List, ℕ, Some, IfOk, OnOk, IsErrOf};
 ghost use Rattle.std.specs.Io.KnownBytes.{IsAtEnd};
 ghost use Rattle.pipe_io.specs.Causes.{Rose};
-ghost use Rattle.mir_syntax.specs.Crate.{crate_of};
+ghost use Rattle.mir_syntax.specs.Crate.{Crate, crate_of};
 ghost use Rattle.mir_syntax.specs.declared.program.Program.{Program};
 ghost use Rattle.mir_reader.specs.FirstForm.{ReadsFirst};
 ghost use Rattle.mir_print.specs.Plain.{IsPlain};
@@ -26,9 +26,9 @@ pub enum Refusal {
 
 // The program that a source tells.
 fn read_input<S: Source>(alloc: Global, source: &mut S) -> Result<Program, Refusal>
-    ensures read { (input : List ℕ) → S.left source.old ≡ Some input → IfOk result (λ p. IsRead input p) }
+    ensures read { (input : List ℕ) → S.left source.old ≡ Some input → IfOk result (λ p. IsRead input (crate_of p)) }
     ensures form { IfOk result (λ p. (bytes : List ℕ) × ReadsFirst bytes p) }
-    ensures not_first { (input : List ℕ) → S.left source.old ≡ Some input → IsErrOf result Refusal.NotFirst → (p : Program) → IsRead input p → ⊥ }
+    ensures not_first { (input : List ℕ) → S.left source.old ≡ Some input → IsErrOf result Refusal.NotFirst → (C : Crate) → IsRead input C → ⊥ }
     ensures at_end { OnOk result (IsAtEnd (S.left source.new)) }
     ensures later { S.faults source.old ≤ S.faults source.new }
     ensures fault { IsErrOf result Refusal.ReadFault → Rose (S.faults source.old) (S.faults source.new) }
@@ -73,9 +73,9 @@ fn clean(alloc: Global, mut program: Program) -> Result<Program, OutOfMemory>
 
 /// The program to print: what a source tells, with its control flow cleaned. All memory is taken here.
 pub fn load<S: Source>(alloc: Global, source: &mut S) -> Result<Program, Refusal>
-    ensures read { (input : List ℕ) → S.left source.old ≡ Some input → IfOk result (λ p. (read : Program) × IsRead input read × (crate_of p ≡ cleaned (crate_of read))) }
+    ensures read { (input : List ℕ) → S.left source.old ≡ Some input → IfOk result (λ p. (C : Crate) × IsRead input C × (crate_of p ≡ cleaned C)) }
     ensures plain { IfOk result (λ p. IsPlain (crate_of p)) }
-    ensures not_first { (input : List ℕ) → S.left source.old ≡ Some input → IsErrOf result Refusal.NotFirst → (p : Program) → IsRead input p → ⊥ }
+    ensures not_first { (input : List ℕ) → S.left source.old ≡ Some input → IsErrOf result Refusal.NotFirst → (C : Crate) → IsRead input C → ⊥ }
     ensures at_end { OnOk result (IsAtEnd (S.left source.new)) }
     ensures later { S.faults source.old ≤ S.faults source.new }
     ensures fault { IsErrOf result Refusal.ReadFault → Rose (S.faults source.old) (S.faults source.new) }

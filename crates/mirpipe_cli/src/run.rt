@@ -2,8 +2,7 @@ ghost use Rattle.std.specs.Prelude.{◌≡◌, ◌≢◌, ◌<◌, ◌≤◌, �
 ghost use Rattle.std.specs.Io.KnownBytes.{Appends, IsAtEnd};
 ghost use Rattle.std.specs.Str.{bytes_eq};
 ghost use Rattle.pipe_io.specs.Causes.{Rose, AppendsFront};
-ghost use Rattle.mir_syntax.specs.Crate.{crate_of};
-ghost use Rattle.mir_syntax.specs.declared.program.Program.{Program};
+ghost use Rattle.mir_syntax.specs.Crate.{Crate};
 ghost use Rattle.mir_text.specs.Text.{text};
 ghost use Rattle.mirpipe_cli.specs.Answer.{misfit, cleaned, IsRead, Told, Answers};
 
@@ -86,9 +85,9 @@ pub fn run_quiet<S: Source, K: Sink, N: Sink>(
 
     // What is written.
     ensures printed { (input : List ℕ) → S.left source.old ≡ Some input → result ≡ 0
-        → (p : Program) × IsRead input p × Appends (K.written out.old) (K.written out.new) (text (cleaned (crate_of p))) }
+        → (C : Crate) × IsRead input C × Appends (K.written out.old) (K.written out.new) (text (cleaned C)) }
     ensures front { (input : List ℕ) → S.left source.old ≡ Some input → result ≡ 4
-        → (p : Program) × IsRead input p × AppendsFront (K.written out.old) (K.written out.new) (text (cleaned (crate_of p))) }
+        → (C : Crate) × IsRead input C × AppendsFront (K.written out.old) (K.written out.new) (text (cleaned C)) }
     ensures nothing { result ≢ 0 → result ≢ 4 → Appends (K.written out.old) (K.written out.new) [] }
 
     // The notes on a failure.

@@ -12,7 +12,7 @@ pub clean-requires : goal.clean-requires
 clean-requires g c = let form = c.in_ok-program.ensures.form in read_sound form.0 c.in_ok-program.program form.1
 
 pub returns-in-Ok-clause-read : goal.returns-in-Ok-clause-read
-returns-in-Ok-clause-read g c = λ input left. (c.in_ok-program.program, c.in_ok-program.ensures.read input left, c.in-Ok.ensures)
+returns-in-Ok-clause-read g c = λ input left. (crate_of c.in_ok-program.program, c.in_ok-program.ensures.read input left, c.in-Ok.ensures)
 
 pub returns-in-Ok-clause-plain : goal.returns-in-Ok-clause-plain
 returns-in-Ok-clause-plain g c =

@@ -1,7 +1,7 @@
-use Rattle.std.proofs.Common.{rules, subst}
+use Rattle.std.proofs.Common.{rules, ◌≡◌, ◌≤◌, ℕ, List, length, sym, subst}
 use Rattle.mir_syntax.specs.Crate.{Crate, crate_of}
 use Rattle.mir_reader.specs.Form.{FirstForm}
-use Rattle.mirpipe_cli.proofs.Answering.{within_limit, names_none, names_program}
+use Rattle.mirpipe_cli.proofs.Answering.{names_none, whole_input}
 use Rattle.mirpipe_cli.proofs.load.read_input.Goals as goal
 
 pub returns-in-Err-NotFirst-clause-not_first : goal.returns-in-Err-NotFirst-clause-not_first
@@ -11,5 +11,11 @@ returns-in-Err-NotFirst-clause-not_first g c = λ input left refused.
 
 pub returns-in-Ok-read_first-clause-read : goal.returns-in-Ok-read_first-clause-read
 returns-in-Ok-read_first-clause-read g c = λ input left.
-    let form : FirstForm c.in-Ok.input.bytes (crate_of c.in-Ok-read_first.program) = subst (λ bytes. FirstForm bytes (crate_of c.in-Ok-read_first.program)) c.as_slice.ensures c.in-Ok-read_first.ensures.form in
-    names_program _ _ input c.in-Ok.input.bytes c.in-Ok-read_first.program left c.in-Ok.ensures.bytes (c.in-Ok.ensures.end c.if-input.false) (within_limit _ 67108864 c.in-Ok.input.over c.in-Ok.ensures.bound c.in-Ok.ensures.over c.if-input.false) form
+    let named = crate_of c.in-Ok-read_first.program in
+    let same : input ≡ c.in-Ok.input.bytes = whole_input _ _ input c.in-Ok.input.bytes left c.in-Ok.ensures.bytes (c.in-Ok.ensures.end c.if-input.false) in
+    let form : FirstForm c.in-Ok.input.bytes named = subst (λ (bytes : List ℕ). FirstForm bytes named) c.as_slice.ensures c.in-Ok-read_first.ensures.form in
+    let few : length c.in-Ok.input.bytes ≤ 67108864 = search rules in
+    record {
+      small = subst (λ (bytes : List ℕ). length bytes ≤ 67108864) (sym same) few;
+      first = subst (λ (bytes : List ℕ). FirstForm bytes named) (sym same) form;
+    }

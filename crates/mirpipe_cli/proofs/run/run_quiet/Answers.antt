@@ -15,7 +15,7 @@ pub returns-in-Ok-print_program-clause-told : goal.returns-in-Ok-print_program-c
 returns-in-Ok-print_program-clause-told g c = λ input left calm quiet other.
     let read = c.in-Ok.ensures.read input left in
     let whole : Appends (g.K.Sink.written c.args.out.now) (g.K.Sink.written c.print_program.new.sink) (text (crate_of c.in-Ok.program)) = search rules in (
-      printed (crate_of read.0),
+      printed read.0,
       answers_printed (map (string_bytes {Z = Global}) c.args.words.now) input read.0 (search rules) read.1,
       refl,
       subst (λ k. Appends (g.K.Sink.written c.args.out.now) (g.K.Sink.written c.print_program.new.sink) (text k)) read.2 whole,
