@@ -1,12 +1,11 @@
 -- Statements and terminators of the first form keep the rules on crates exactly where they pass the reader's tests.
-use Rattle.std.proofs.Common.{◌≡◌, ◌≢◌, ℕ, zero, suc, Bool, true, false, not, ◌&&◌, ◌||◌, ◌==◌, nat_lt, List, [], ◌∷◌, map, length, slice_get, option_map, Option, Some, None, refl, sym, ap, ap₂, ◌∙◌, subst}
+use Rattle.std.proofs.Common.{◌≡◌, ℕ, suc, true, false, not, ◌==◌, nat_lt, List, [], ◌∷◌, map, length, slice_get, option_map, Option, Some, None, refl, sym, ◌∙◌}
 use Rattle.std.specs.List.{list_all}
 use Rattle.std.proofs.lemmas.Option.{slice_get-map}
 use Rattle.std.proofs.lemmas.Bool.{not_from_false, and_from}
 use Rattle.mir_syntax.specs.declared.body.Const.{Const}
 use Rattle.mir_syntax.specs.declared.body.Const.TheVariants as const
 use Rattle.mir_syntax.specs.declared.body.Operand.{Operand}
-use Rattle.mir_syntax.specs.declared.body.Operand.TheVariants as operand
 use Rattle.mir_syntax.specs.declared.body.Rvalue.TheVariants as rvalue
 use Rattle.mir_syntax.specs.declared.body.Stmt.TheVariants as stmt
 use Rattle.mir_syntax.specs.declared.body.Term.TheVariants as term
@@ -21,11 +20,9 @@ use Rattle.mir_text.specs.GrammarStatements.{StmtRule}
 use Rattle.mir_text.specs.GrammarTerms as g
 use Rattle.mir_text.specs.GrammarTerms.{TermRule, BlockRule}
 use Rattle.mir_text.specs.NamedBodies.{local_in, value_named}
-use Rattle.mir_rules.specs.Parts.{targets}
 use Rattle.mir_rules.specs.Typing.{const_ty, operand_ty, rvalue_ty}
-use Rattle.mir_rules.specs.Formed.{block_there, block_formed, term_formed, stmt_formed, call_formed, operand_formed, place_formed}
+use Rattle.mir_rules.specs.Formed.{block_there, block_formed, term_formed, stmt_formed}
 use Rattle.mir_rules.specs.Broken.{statement_broken, terminator_broken}
-use Rattle.mir_rules.specs.BodyRules.{breaks_v05}
 use Rattle.mir_rules.proofs.Lists.{bind_some, or_false-left, and_true-left, and_true-right}
 use Rattle.mir_rules.proofs.Statements.{stmt_typed}
 use Rattle.mir_rules.proofs.Terminators.{term_typed}
@@ -35,8 +32,7 @@ use Rattle.mir_reader.specs.Reading.{whole}
 use Rattle.mir_reader.specs.First.{FirstStmt, FirstTerm, FirstBlock}
 use Rattle.mir_reader.specs.FirstText.{operand_of, stmt_of, term_of, block_of}
 use Rattle.mir_reader.specs.Checks.{tree_of, const_small, operand_small, agree, is_well_typed, is_well_aimed, is_good_block}
-use Rattle.mir_reader.proofs.Laws.{some_same}
-use Rattle.mir_reader.proofs.SameTypes.{same_small_is, is_same_small}
+use Rattle.mir_reader.proofs.SameTypes.{is_same_small}
 
 pub plain_of : (x : OperandRule) → Plain (operand_of x)
 plain_of (p.copy q) = copied (local_in q)

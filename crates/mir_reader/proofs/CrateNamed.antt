@@ -1,9 +1,9 @@
 -- The crate that a function of the first form names.
-use Rattle.std.proofs.Common.{◌≡◌, ℕ, zero, suc, Bool, true, false, List, [], ◌∷◌, ◌++◌, map, length, Option, Some, None, refl, sym, ap, ap₂, ◌∙◌, subst}
+use Rattle.std.proofs.Common.{◌≡◌, ℕ, suc, false, List, [], ◌∷◌, ◌++◌, map, length, Some, refl, sym, ap, ap₂, ◌∙◌}
 use Rattle.std.proofs.lemmas.List.{length-map, length-append}
 use Rattle.mir_syntax.specs.declared.body.Inline.TheVariants as inlining
 use Rattle.mir_syntax.specs.Tree.{Tree}
-use Rattle.mir_syntax.specs.Crate.{«use», assign, TypedStmt, TypedBody, TypedFunction, Crate, stmt_of as typed_stmt_of, block_of as typed_block_of}
+use Rattle.mir_syntax.specs.Crate.{«use», assign, TypedBody, TypedFunction, stmt_of as typed_stmt_of, block_of as typed_block_of}
 use Rattle.mir_text.specs.Grammar.{Items, end, last, more, items_of, AllItems, AllOf}
 use Rattle.mir_text.specs.GrammarTypes as t
 use Rattle.mir_text.specs.GrammarPlaces as p
@@ -20,7 +20,7 @@ use Rattle.mir_text.specs.Naming.{declared, locals_from, body_named, function_na
 use Rattle.mir_reader.specs.declared.text.SmallTy.{SmallTy}
 use Rattle.mir_reader.specs.Reading.{whole}
 use Rattle.mir_reader.specs.First.{FirstPlace, FirstOperand, FirstStmt, FirstTerm, FirstBlock, FirstArg, FirstDecls}
-use Rattle.mir_reader.specs.FirstText.{operand_of, stmt_of, term_of, block_of, arg_of, lets_listed, text_of, file_of}
+use Rattle.mir_reader.specs.FirstText.{operand_of, stmt_of, term_of, block_of, arg_of, text_of, file_of}
 use Rattle.mir_reader.specs.Locals.{locals_of}
 use Rattle.mir_reader.specs.Checks.{tree_of, crate_with}
 use Rattle.mir_reader.proofs.LocalsFound.{pair_of, locals_length, named_locals}

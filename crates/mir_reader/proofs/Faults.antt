@@ -1,6 +1,6 @@
 -- Lists of faults that are empty.
-use Rattle.std.proofs.Common.{◌≡◌, ℕ, Bool, true, false, List, [], ◌∷◌, ◌++◌, map, refl, sym, ap, ap₂, ◌∙◌}
-use Rattle.mir_text.specs.NameFaults.{Fault, on_line, unless, concat, each}
+use Rattle.std.proofs.Common.{◌≡◌, ℕ, Bool, true, false, List, [], ◌∷◌, refl}
+use Rattle.mir_text.specs.NameFaults.{on_line, unless, each}
 use Rattle.mir_rules.proofs.Lists.{append_empty, append_empty-left, append_empty-right, map_empty, map_empty-source}
 
 pub on_line_none : (n : ℕ) (codes : List ℕ) → on_line n codes ≡ [] → codes ≡ []

@@ -1,7 +1,7 @@
 -- A constant that fits its type has bits below the type's count; and rules of the first form are shallow.
-use Rattle.std.proofs.Common.{◌≡◌, ℕ, zero, suc, ◌-◌, ◌<◌, ◌≤◌, ◌^◌, max, Bool, true, false, not, ◌==◌, nat_lt, List, [], ◌∷◌, refl, sym, ap, ◌∙◌, subst, arith, if◌then◌else◌}
+use Rattle.std.proofs.Common.{◌≡◌, ℕ, zero, suc, ◌-◌, ◌<◌, ◌≤◌, ◌^◌, Bool, true, false, not, ◌==◌, nat_lt, List, [], ◌∷◌, refl, subst, arith}
 use Rattle.std.proofs.Math.Nat.{max-le}
-use Rattle.std.proofs.lemmas.Bool.{eqb-true, eqb-false, ltb-true, ltb-false, lt-ltb}
+use Rattle.std.proofs.lemmas.Bool.{eqb-false, ltb-true, ltb-false, lt-ltb}
 use Rattle.mir_syntax.specs.declared.types.IntTy.{IntTy}
 use Rattle.mir_syntax.specs.declared.types.IntTy.TheVariants as i
 use Rattle.mir_syntax.specs.declared.types.ScalarTy.TheVariants as scalar_ty
@@ -21,8 +21,8 @@ use Rattle.mir_text.specs.GrammarItems.{ArgRule, DeclRule, DeclsRule, FnRule}
 use Rattle.mir_text.specs.NamedBodies.{value_named}
 use Rattle.mir_text.specs.Nesting.{TypeGood, PlaceGood, OperandGood, StmtGood, TermGood, BlockGood, ArgGood, decls_depth, DeclsSmall, FileGood}
 use Rattle.mir_rules.specs.Formed.{const_formed}
-use Rattle.mir_reader.specs.First.{FirstType, FirstPlace, FirstOperand, FirstStmt, FirstTerm, FirstBlock, FirstArg, FirstDecls}
-use Rattle.mir_reader.specs.FirstText.{GoodValue, OperandFits, GoodOperand, GoodStmt, GoodBlocks, GoodFn, file_of}
+use Rattle.mir_reader.specs.First.{FirstType, FirstPlace, FirstStmt, FirstTerm, FirstBlock, FirstArg, FirstDecls}
+use Rattle.mir_reader.specs.FirstText.{GoodValue, GoodOperand, GoodStmt, GoodBlocks, GoodFn, file_of}
 use Rattle.mir_reader.proofs.Laws.{on}
 
 -- ---- constants

@@ -1,5 +1,5 @@
 -- A text that is read as the first form is one by the crate that it names.
-use Rattle.std.proofs.Common.{◌≡◌, ℕ, zero, suc, ◌+◌, ◌<◌, ◌≤◌, Bool, true, false, not, ◌&&◌, ◌==◌, nat_lt, List, [], ◌∷◌, ◌++◌, map, length, slice_get, get_or, Option, Some, None, is_some, refl, sym, ap, ap₂, ◌∙◌, subst, arith}
+use Rattle.std.proofs.Common.{◌≡◌, ℕ, suc, ◌<◌, ◌≤◌, true, false, not, ◌==◌, nat_lt, List, [], ◌∷◌, ◌++◌, map, length, slice_get, Some, is_some, refl, sym, ap, ap₂, ◌∙◌, subst, arith}
 use Rattle.std.specs.List.{list_all}
 use Rattle.std.proofs.lemmas.Bool.{and_parts, ltb-true}
 use Rattle.std.proofs.lemmas.Option.{slice_get_within}
@@ -7,9 +7,7 @@ use Rattle.std.proofs.lemmas.List.{length-map, length-append}
 use Rattle.mir_syntax.specs.Tree.{Tree, trees_of}
 use Rattle.mir_syntax.specs.Crate.{Crate, crate_of, block_of as typed_block_of}
 use Rattle.mir_syntax.specs.declared.program.Program.{Program}
-use Rattle.mir_text.specs.declared.symbol.Symbol.{Symbol}
 use Rattle.mir_text.specs.declared.symbol.Symbol.TheVariants as s
-use Rattle.mir_text.specs.Pieces.{Piece}
 use Rattle.mir_text.specs.Symbols.{grammar_names, symbols_of, strings_of}
 use Rattle.mir_text.specs.Grammar.{AllOf}
 use Rattle.mir_text.specs.GrammarTypes as t
@@ -23,10 +21,10 @@ use Rattle.mir_text.specs.GrammarItems as m
 use Rattle.mir_text.specs.GrammarItems.{AttrRule, FnRule, file_put}
 use Rattle.mir_text.specs.Names.{Names, names_of, string_at}
 use Rattle.mir_text.specs.NamedBodies.{Declared as NamedLocals, declared_ty, local_in}
-use Rattle.mir_text.specs.Naming.{declared, crate_named}
+use Rattle.mir_text.specs.Naming.{declared}
 use Rattle.mir_text.specs.PartLines.{LinesFrom, LinedFn, each_lined, blocks_lined, fn_lined}
-use Rattle.mir_text.specs.NameFaults.{on_line, unless, each, is_among, place_codes, operand_codes, stmt_codes, term_codes, stmt_faults, block_faults, declared_once, none_missing, blocks_in_order, labels_of}
-use Rattle.mir_text.specs.Reads.{symbol_lines, Derivation, Reads}
+use Rattle.mir_text.specs.NameFaults.{on_line, each, is_among, place_codes, operand_codes, stmt_codes, term_codes, stmt_faults, block_faults, none_missing, blocks_in_order, labels_of}
+use Rattle.mir_text.specs.Reads.{symbol_lines}
 use Rattle.mir_rules.specs.Valid.{Valid}
 use Rattle.mir_rules.proofs.Lists.{append_empty}
 use Rattle.mir_rules.proofs.Terminators.{slice_get_there}
@@ -36,13 +34,12 @@ use Rattle.mir_reader.specs.declared.text.FunctionText.{FunctionText}
 use Rattle.mir_reader.specs.Locals.{in_order}
 use Rattle.mir_reader.specs.First.{FirstPlace, FirstOperand, FirstTerm, FirstAttr, FirstFn}
 use Rattle.mir_reader.specs.FirstText.{GoodStmt, GoodBlocks, GoodFn, operand_of, stmt_of, term_of, block_of, text_of, file_of}
-use Rattle.mir_reader.specs.FirstPieces.{last_name}
 use Rattle.mir_reader.specs.FirstForm.{IsFirst, ReadsFirst}
 use Rattle.mir_reader.specs.Checks.{tree_of, same_small, operand_small, agree, is_well_typed, is_well_aimed, is_good_block, are_good_blocks, first_is, crate_with}
 use Rattle.mir_reader.specs.Form.{HasFewBlocks, HasFewLocals, FirstForm}
 use Rattle.mir_reader.proofs.Signs.{AreSigns, unnumbered_from, with_number}
 use Rattle.mir_reader.proofs.FirstSigns.{behind_name, behind_signs, fn_put_is}
-use Rattle.mir_reader.proofs.Faults.{none_on_line, none_unless, each_more}
+use Rattle.mir_reader.proofs.Faults.{none_on_line, none_unless}
 use Rattle.mir_reader.proofs.LocalsFound.{first_ty, pair_of, first_append, locals_length, locals_at}
 use Rattle.mir_reader.proofs.LocalsTold.{told, told_append, told_args, told_lets, all_append, lined_args, lined_lets, FirstLined, declared_first, first_codes, in_order_placed, told_result}
 use Rattle.mir_reader.proofs.FnFaults.{FnKeeps, alone_kept}
@@ -50,7 +47,7 @@ use Rattle.mir_reader.proofs.CrateNamed.{body_first, crate_first}
 use Rattle.mir_reader.proofs.NamedOnce.{named_once}
 use Rattle.mir_reader.proofs.FirstKept.{Kept, kept, InBounds, in_bounds, none_is_missing, declared_at, told_once, all_known, none_before, labels_from, label_among}
 use Rattle.mir_reader.proofs.FirstFits.{file_good, blocks_first}
-use Rattle.mir_reader.proofs.FirstRules.{Agreed, agreed, block_typed, valid_first}
+use Rattle.mir_reader.proofs.FirstRules.{agreed, block_typed, valid_first}
 
 -- ---- statements and terminators whose names have no fault
 

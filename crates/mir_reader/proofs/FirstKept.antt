@@ -1,26 +1,26 @@
 -- What the reader asks of a function, part by part, and that the names of such a function have no fault.
-use Rattle.std.proofs.Common.{◌≡◌, ℕ, zero, suc, ◌+◌, ◌-◌, ◌<◌, ◌≤◌, ◌⊎◌, inl, inr, Bool, true, false, not, ◌&&◌, ◌||◌, ◌==◌, nat_eq, nat_lt, nat_le, List, [], ◌∷◌, ◌++◌, map, length, slice_get, option_map, Option, Some, None, is_some, refl, sym, ap, ap₂, ◌∙◌, subst, arith, if◌then◌else◌}
-use Rattle.std.specs.List.{list_all, list_any}
-use Rattle.std.proofs.lemmas.Bool.{eqb-true, eqb-false, eq-eqb, ne_eqb, and_parts, and_from, or_left, or_right, lt-ltb, ltb-true, leb-true, not_from_false, false_from_ne_true, cases_lt, true≢false}
+use Rattle.std.proofs.Common.{◌≡◌, ℕ, zero, suc, ◌+◌, ◌-◌, ◌<◌, ◌≤◌, ◌⊎◌, inl, inr, Bool, true, false, not, ◌&&◌, ◌||◌, ◌==◌, nat_eq, nat_le, List, [], ◌∷◌, ◌++◌, map, length, option_map, Option, Some, None, is_some, refl, sym, ap, ◌∙◌, subst, arith, if◌then◌else◌}
+use Rattle.std.specs.List.{list_any}
+use Rattle.std.proofs.lemmas.Bool.{eqb-true, eqb-false, eq-eqb, ne_eqb, and_parts, and_from, or_left, or_right, leb-true, not_from_false, false_from_ne_true, cases_lt}
 use Rattle.std.proofs.lemmas.List.{length-map, length-append}
 use Rattle.std.proofs.lemmas.Map.Steps.{le-length_from_below}
 use Rattle.mir_text.specs.Grammar.{AllOf}
 use Rattle.mir_text.specs.GrammarTerms.{BlockRule}
 use Rattle.mir_text.specs.GrammarItems.{ArgRule}
 use Rattle.mir_text.specs.Names.{Names}
-use Rattle.mir_text.specs.NamedBodies.{Declared as NamedLocals, declared_ty}
+use Rattle.mir_text.specs.NamedBodies.{declared_ty}
 use Rattle.mir_text.specs.PartLines.{Lined, LinesFrom, blocks_lined}
-use Rattle.mir_text.specs.NameFaults.{on_line, unless, is_among, each, declared_once, declaration_faults, type_codes, below_declared, none_missing_in, none_missing, in_order as labels_in_order}
+use Rattle.mir_text.specs.NameFaults.{on_line, unless, is_among, each, declared_once, declaration_faults, below_declared, none_missing_in, none_missing, in_order as labels_in_order}
 use Rattle.mir_rules.proofs.Lists.{append_empty}
 use Rattle.mir_reader.specs.declared.text.SmallTy.{SmallTy}
 use Rattle.mir_reader.specs.declared.text.Declared.{Declared}
 use Rattle.mir_reader.specs.declared.text.FunctionText.{FunctionText}
 use Rattle.mir_reader.specs.Locals.{in_order, locals_of}
 use Rattle.mir_reader.specs.FirstText.{GoodBlocks, arg_of}
-use Rattle.mir_reader.specs.Checks.{tree_of, same_small, is_in_bounds, first_is, are_good_blocks, if_good, checked}
+use Rattle.mir_reader.specs.Checks.{tree_of, is_in_bounds, first_is, are_good_blocks, if_good, checked}
 use Rattle.mir_reader.proofs.Laws.{on}
 use Rattle.mir_reader.proofs.Faults.{none_on_line, none_unless, each_more}
-use Rattle.mir_reader.proofs.LocalsFound.{first_ty, pair_of, declared_is, locals_length, locals_at}
+use Rattle.mir_reader.proofs.LocalsFound.{first_ty, pair_of, declared_is}
 use Rattle.mir_reader.proofs.LocalsCovered.{number_of}
 use Rattle.mir_reader.proofs.LocalsTold.{told, numbers, FirstLined, first_codes}
 

@@ -1,17 +1,13 @@
 -- A function of the first form that passes the reader's tests makes a valid crate.
-use Rattle.std.proofs.Common.{◌≡◌, ◌≢◌, ℕ, zero, suc, ◌<◌, ◌≤◌, Bool, true, false, not, ◌&&◌, ◌==◌, nat_lt, List, [], ◌∷◌, map, length, slice_get, option_map, Option, Some, None, refl, sym, ap, ap₂, ◌∙◌, subst, arith}
+use Rattle.std.proofs.Common.{◌≡◌, ◌≢◌, ℕ, zero, suc, ◌<◌, true, false, not, ◌&&◌, ◌==◌, nat_lt, List, [], ◌∷◌, map, length, slice_get, option_map, Option, Some, None, refl, sym, ap, ◌∙◌, subst, arith}
 use Rattle.std.specs.List.{list_all}
 use Rattle.std.proofs.lemmas.Option.{slice_get-map, slice_get_within}
 use Rattle.std.proofs.lemmas.List.{length-map}
-use Rattle.std.proofs.lemmas.Bool.{and_parts, and_from, lt-ltb, ltb-true, eqb-false, ne_eqb}
+use Rattle.std.proofs.lemmas.Bool.{and_parts, and_from, lt-ltb}
 use Rattle.mir_syntax.specs.declared.body.Operand.{Operand}
-use Rattle.mir_syntax.specs.declared.body.Operand.TheVariants as operand
-use Rattle.mir_syntax.specs.declared.body.Rvalue.TheVariants as rvalue
-use Rattle.mir_syntax.specs.declared.body.Stmt.TheVariants as stmt
-use Rattle.mir_syntax.specs.declared.body.Term.TheVariants as term
-use Rattle.mir_syntax.specs.Tree.{Tree, scalar, empty}
-use Rattle.mir_syntax.specs.Crate.{«use», assign, TypedStmt, TypedBlock, TypedBody, TypedFunction, Crate, stmt_of as typed_stmt_of, block_of as typed_block_of}
-use Rattle.mir_syntax.specs.Shapes.{Shape, shapes_of, place_ty}
+use Rattle.mir_syntax.specs.Tree.{Tree}
+use Rattle.mir_syntax.specs.Crate.{«use», assign, TypedStmt, TypedBlock, TypedBody, Crate, stmt_of as typed_stmt_of, block_of as typed_block_of}
+use Rattle.mir_syntax.specs.Shapes.{Shape, shapes_of}
 use Rattle.mir_text.specs.Grammar.{AllOf}
 use Rattle.mir_text.specs.GrammarPlaces as p
 use Rattle.mir_text.specs.GrammarPlaces.{OperandRule}
@@ -20,20 +16,19 @@ use Rattle.mir_text.specs.GrammarStatements.{StmtRule}
 use Rattle.mir_text.specs.GrammarTerms as g
 use Rattle.mir_text.specs.GrammarTerms.{TermRule, BlockRule}
 use Rattle.mir_text.specs.GrammarItems.{FnRule}
-use Rattle.mir_text.specs.NamedBodies.{local_in, value_named}
+use Rattle.mir_text.specs.NamedBodies.{local_in}
 use Rattle.mir_rules.specs.Parts.{rvalue_places}
 use Rattle.mir_rules.specs.Typing.{operand_ty}
-use Rattle.mir_rules.specs.Formed.{type_formed, operand_formed, place_formed, stmt_formed, term_formed, block_formed, has_start, body_formed, block_there}
+use Rattle.mir_rules.specs.Formed.{type_formed, operand_formed, place_formed, stmt_formed, term_formed, block_formed, has_start, body_formed}
 use Rattle.mir_rules.specs.Broken.{statement_broken, terminator_broken}
 use Rattle.mir_rules.specs.Valid.{Valid}
-use Rattle.mir_rules.proofs.Keeps.{BodyKeeps}
 use Rattle.mir_rules.proofs.Plain.{Plain, copied, moved, constant, whole_ty, plain_assignment, plain_goto, plain_return, plain_unreachable, alone, valid_alone}
 use Rattle.mir_reader.specs.declared.text.SmallTy.{SmallTy}
 use Rattle.mir_reader.specs.declared.text.SmallTy.TheVariants as small
 use Rattle.mir_reader.specs.Reading.{whole}
 use Rattle.mir_reader.specs.First.{FirstTerm}
-use Rattle.mir_reader.specs.FirstText.{OperandFits, GoodOperand, GoodStmt, GoodBlocks, operand_of, stmt_of, term_of, block_of, text_of}
-use Rattle.mir_reader.specs.Checks.{tree_of, same_small, const_small, operand_small, agree, is_well_typed, is_well_aimed, is_good_block, are_good_blocks, crate_with}
+use Rattle.mir_reader.specs.FirstText.{GoodOperand, GoodStmt, GoodBlocks, operand_of, stmt_of, term_of, block_of, text_of}
+use Rattle.mir_reader.specs.Checks.{tree_of, const_small, operand_small, agree, is_well_typed, is_well_aimed, is_good_block, are_good_blocks, crate_with}
 use Rattle.mir_reader.proofs.SameTypes.{same_small_is}
 use Rattle.mir_reader.proofs.BlocksTyped.{plain_of, const_small_ty}
 use Rattle.mir_reader.proofs.CrateNamed.{body_with, function_with}

@@ -1,5 +1,5 @@
 -- The symbols that the grammar puts for a file of the first form: behind `fn` stands a name, and no other does.
-use Rattle.std.proofs.Common.{◌≡◌, ℕ, Bool, true, false, List, [], ◌∷◌, map, refl, sym, ap, ap₂, ◌∙◌}
+use Rattle.std.proofs.Common.{◌≡◌, ℕ, Bool, true, false, List, [], ◌∷◌, refl}
 use Rattle.mir_text.specs.declared.symbol.Symbol.{Symbol}
 use Rattle.mir_text.specs.declared.symbol.Symbol.TheVariants as s
 use Rattle.mir_text.specs.Grammar.{Put, Items, end, last, more, items_put, each_put, AllItems, AllOf}
@@ -13,7 +13,7 @@ use Rattle.mir_text.specs.GrammarTerms as g
 use Rattle.mir_text.specs.GrammarTerms.{TermRule, term_put, BlockRule, block_put, ended_put}
 use Rattle.mir_text.specs.GrammarItems as m
 use Rattle.mir_text.specs.GrammarItems.{ArgRule, arg_put, DeclRule, decl_put, DeclsRule, decls_put, result_put, FnRule, fn_put}
-use Rattle.mir_reader.specs.First.{FirstType, FirstPlace, FirstValue, FirstOperand, FirstRvalue, FirstStmt, FirstTerm, FirstBlock, FirstArg, FirstDecl, FirstDecls, FirstFn}
+use Rattle.mir_reader.specs.First.{FirstType, FirstPlace, FirstValue, FirstOperand, FirstRvalue, FirstStmt, FirstTerm, FirstBlock, FirstArg, FirstDecl, FirstDecls}
 use Rattle.mir_reader.proofs.Signs.{AreSigns}
 
 type_signs : (u : TypeRule) (rest : List Symbol) → FirstType u → AreSigns rest → AreSigns (type_put u rest)

@@ -1,5 +1,5 @@
 -- The names of a function have no fault exactly where each rule on them is kept.
-use Rattle.std.proofs.Common.{◌≡◌, ℕ, Bool, true, List, [], ◌∷◌, ◌++◌, refl}
+use Rattle.std.proofs.Common.{◌≡◌, ℕ, true, List, [], ◌∷◌, ◌++◌, refl}
 use Rattle.mir_text.specs.GrammarItems.{ArgRule}
 use Rattle.mir_text.specs.Names.{Names, ty_of}
 use Rattle.mir_text.specs.Naming.{declared}

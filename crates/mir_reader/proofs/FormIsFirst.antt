@@ -1,12 +1,11 @@
 -- What is a text of the first form by its crate is one by the reader's definition.
-use Rattle.std.proofs.Common.{◌≡◌, ℕ, zero, suc, ◌+◌, ◌-◌, ◌<◌, ◌≤◌, Bool, true, false, not, ◌&&◌, ◌==◌, nat_eq, nat_le, List, [], ◌∷◌, ◌++◌, map, length, slice_get, option_map, Option, Some, None, is_some, refl, sym, ap, ap₂, ◌∙◌, subst, arith}
+use Rattle.std.proofs.Common.{◌≡◌, ℕ, suc, ◌+◌, ◌-◌, ◌<◌, ◌≤◌, true, false, ◌&&◌, ◌==◌, nat_eq, List, [], ◌∷◌, ◌++◌, map, length, slice_get, option_map, Option, Some, None, is_some, refl, sym, ap, ap₂, ◌∙◌, subst, arith}
 use Rattle.std.specs.List.{list_all, IsDistinct}
-use Rattle.std.proofs.lemmas.Bool.{eqb-true, and_parts, and_from, le-leb, ne_eqb, not_from_false}
+use Rattle.std.proofs.lemmas.Bool.{eqb-true, and_parts, le-leb, ne_eqb}
 use Rattle.std.proofs.lemmas.List.{length-map, length-append}
 use Rattle.mir_syntax.specs.Tree.{Tree}
-use Rattle.mir_syntax.specs.Crate.{TypedBody, TypedBlock, TypedStmt, Crate, block_of as typed_block_of}
+use Rattle.mir_syntax.specs.Crate.{Crate, block_of as typed_block_of}
 use Rattle.mir_syntax.specs.Shapes.{shapes_of}
-use Rattle.mir_text.specs.declared.symbol.Symbol.{Symbol}
 use Rattle.mir_text.specs.declared.symbol.Symbol.TheVariants as s
 use Rattle.mir_text.specs.Pieces.{Piece, text_of as bytes_of, Stand}
 use Rattle.mir_text.specs.Symbols.{grammar_names, symbols_of, strings_of}
@@ -20,17 +19,17 @@ use Rattle.mir_text.specs.GrammarStatements.{StmtRule}
 use Rattle.mir_text.specs.GrammarTerms.{BlockRule}
 use Rattle.mir_text.specs.GrammarItems as m
 use Rattle.mir_text.specs.GrammarItems.{AttrRule, FnRule, ItemRule, FileRule, file_put, fn_put}
-use Rattle.mir_text.specs.Names.{Names, names_of, string_at, ty_of}
+use Rattle.mir_text.specs.Names.{Names, names_of, string_at}
 use Rattle.mir_text.specs.NamedBodies.{declared_ty}
-use Rattle.mir_text.specs.Naming.{declared, function_named, body_named, crate_named}
+use Rattle.mir_text.specs.Naming.{declared, crate_named}
 use Rattle.mir_text.specs.Nesting.{OperandGood, StmtGood, BlockGood, FileGood}
-use Rattle.mir_text.specs.PartLines.{LinesFrom, LinedFn, LinedBlock, blocks_lined, fn_lined}
-use Rattle.mir_text.specs.NameFaults.{in_order as labels_in_order, blocks_in_order, labels_of, none_missing, none_missing_in}
+use Rattle.mir_text.specs.PartLines.{LinesFrom, LinedFn, blocks_lined, fn_lined}
+use Rattle.mir_text.specs.NameFaults.{in_order as labels_in_order, blocks_in_order, none_missing, none_missing_in}
 use Rattle.mir_text.specs.Reads.{symbol_lines, faults_in}
-use Rattle.mir_rules.specs.Formed.{is_formed, function_formed, body_formed, block_formed, has_start, type_formed}
+use Rattle.mir_rules.specs.Formed.{is_formed, body_formed, block_formed, has_start, type_formed}
 use Rattle.mir_rules.specs.Valid.{Valid}
 use Rattle.mir_rules.proofs.Lists.{and_true-left, and_true-right}
-use Rattle.mir_rules.proofs.Keeps.{BodyKeeps, crate_keeps}
+use Rattle.mir_rules.proofs.Keeps.{crate_keeps}
 use Rattle.mir_reader.specs.declared.text.SmallTy.{SmallTy}
 use Rattle.mir_reader.specs.declared.text.Declared.{Declared}
 use Rattle.mir_reader.specs.declared.text.FunctionText.{FunctionText}
@@ -39,7 +38,7 @@ use Rattle.mir_reader.specs.First.{FirstStmt, FirstBlock, FirstAttr, FirstPath, 
 use Rattle.mir_reader.specs.FirstText.{GoodStmt, OperandFits, GoodBlocks, GoodFn, block_of, text_of, file_of}
 use Rattle.mir_reader.specs.FirstPieces.{plain_symbols, last_name}
 use Rattle.mir_reader.specs.FirstForm.{IsFirst, IsNotFirst}
-use Rattle.mir_reader.specs.Checks.{tree_of, same_small, is_in_bounds, first_is, is_good_block, are_good_blocks, if_good, checked, crate_with}
+use Rattle.mir_reader.specs.Checks.{tree_of, same_small, is_in_bounds, first_is, is_good_block, are_good_blocks, checked, crate_with}
 use Rattle.mir_reader.specs.Form.{HasFewBlocks, HasFewLocals, FirstForm}
 use Rattle.mir_reader.proofs.Signs.{unnumbered, signs_unnumbered, unnumbered_from}
 use Rattle.mir_reader.proofs.FirstSigns.{behind_name, behind_signs, fn_put_is}

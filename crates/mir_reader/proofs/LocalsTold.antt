@@ -1,17 +1,15 @@
 -- What the faults of declarations say of a function of the first form.
-use Rattle.std.proofs.Common.{◌≡◌, ℕ, zero, suc, ◌+◌, Bool, true, false, not, ◌&&◌, ◌||◌, ◌==◌, nat_eq, List, [], ◌∷◌, ◌++◌, map, length, Option, Some, None, refl, sym, ap, ap₂, ◌∙◌, subst, arith}
+use Rattle.std.proofs.Common.{◌≡◌, ℕ, suc, ◌+◌, true, false, not, ◌==◌, nat_eq, List, [], ◌∷◌, ◌++◌, map, Some, refl, sym, ap, ap₂, ◌∙◌, subst, arith}
 use Rattle.std.specs.List.{IsDistinct, AllByRecursion}
-use Rattle.std.proofs.lemmas.Bool.{eqb-true, eq-eqb, not-true, not_from_false, false_from_ne_true, and_parts, or_parts, or_left, or_right, true≢false}
-use Rattle.mir_syntax.specs.Tree.{Tree}
+use Rattle.std.proofs.lemmas.Bool.{eqb-true, eq-eqb, not-true, false_from_ne_true, and_parts, or_left, or_right, true≢false}
 use Rattle.mir_text.specs.Grammar.{Items, end, last, more, items_of, AllItems, AllOf}
 use Rattle.mir_text.specs.GrammarTypes as t
 use Rattle.mir_text.specs.GrammarTypes.{TypeRule}
 use Rattle.mir_text.specs.GrammarItems as m
 use Rattle.mir_text.specs.GrammarItems.{ArgRule, arg_put, DeclRule, decl_put, DeclsRule, FnRule}
 use Rattle.mir_text.specs.Names.{Strings, Names, type_named, is_known, ty_of, same_type}
-use Rattle.mir_text.specs.NamedBodies.{Declared as NamedLocals}
-use Rattle.mir_text.specs.Naming.{lets_of, declares, declarations, declared}
-use Rattle.mir_text.specs.PartLines.{LinesFrom, first_line, past, Lined, items_lined, lets_lined}
+use Rattle.mir_text.specs.Naming.{lets_of, declares, declared}
+use Rattle.mir_text.specs.PartLines.{LinesFrom, Lined, items_lined, lets_lined}
 use Rattle.mir_text.specs.NameFaults.{on_line, unless, is_among, args_in_place, declared_once, result_faults, type_codes}
 use Rattle.mir_reader.specs.declared.text.SmallTy.{SmallTy}
 use Rattle.mir_reader.specs.declared.text.Declared.{Declared}

@@ -1,11 +1,10 @@
 -- The two tests of types are one.
-use Rattle.std.proofs.Common.{◌≡◌, ℕ, Bool, true, false, ◌==◌, nat_eq, refl, sym, ap, ap₂, ◌∙◌}
+use Rattle.std.proofs.Common.{◌≡◌, true, nat_eq, refl, sym, ap, ap₂, ◌∙◌}
 use Rattle.mir_syntax.specs.declared.types.IntTy.{IntTy}
 use Rattle.mir_syntax.specs.declared.types.IntTy.TheVariants as i
 use Rattle.mir_syntax.specs.declared.types.ScalarTy.{ScalarTy}
 use Rattle.mir_syntax.specs.declared.types.ScalarTy.TheVariants as scalar_ty
-use Rattle.mir_syntax.specs.Tree.{Tree, scalar, empty}
-use Rattle.mir_text.specs.Names.{int_number, same_scalar, same_type}
+use Rattle.mir_text.specs.Names.{int_number, same_scalar}
 use Rattle.mir_rules.specs.Same as rules
 use Rattle.mir_rules.specs.Same.{place_of_int, same_tree}
 use Rattle.mir_rules.proofs.Same.{same_tree_is, same_tree_refl}

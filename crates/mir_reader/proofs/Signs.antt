@@ -1,10 +1,10 @@
 -- The symbols of a file of the first form: one name, and no string.
-use Rattle.std.proofs.Common.{◌≡◌, ℕ, ◌^◌, Bool, true, false, nat_lt, List, [], ◌∷◌, map, get_or, Option, Some, None, refl, sym, subst, ap, ap₂, ◌∙◌, zero, suc, if◌then◌else◌}
+use Rattle.std.proofs.Common.{◌≡◌, ℕ, ◌^◌, Bool, true, false, nat_lt, List, [], ◌∷◌, map, get_or, Option, Some, None, refl, sym, subst, ap, ap₂, zero, suc, if◌then◌else◌}
 use Rattle.std.specs.Str.Parse.{digits_value}
 use Rattle.mir_text.specs.declared.symbol.Symbol.{Symbol}
 use Rattle.mir_text.specs.declared.symbol.Symbol.TheVariants as s
 use Rattle.mir_text.specs.Pieces.{Mark, open_paren, close_paren, open_brace, close_brace, open_bracket, close_bracket, comma, semicolon, colon, colons, dot, ampersand, star, exclamation, equals, hash, minus, arrow, fat_arrow, less, greater, bar, question, Piece, blank, line, comment, local, number, typed, text, word, under, mark, line_after}
-use Rattle.mir_text.specs.Symbols.{Token, nothing, symbol, name, string, token_of, numbered, mark_symbol, word_symbol, used_symbols, block_digits, block_or_word, reserved_or_name, word_token, Lined, symbol_in, put_token, seen_after, symbols_from, number_in}
+use Rattle.mir_text.specs.Symbols.{Token, nothing, symbol, name, string, token_of, numbered, mark_symbol, used_symbols, block_digits, block_or_word, reserved_or_name, word_token, Lined, symbol_in, put_token, seen_after, symbols_from}
 use Rattle.mir_text.specs.Words.{word_place}
 use Rattle.mir_reader.specs.FirstPieces.{put_plain, plain_symbols}
 
