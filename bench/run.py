@@ -2,7 +2,8 @@
 """Times `mirpipe seq` on one function of many blocks. Run by hand: bench/run.py [PROGRAM].
 
 The inputs are made here: blocks that are all empty gotos (each skipped), and blocks that are all joined to one. It prints a line for each:
-the input's name and number of blocks, its bytes, the seconds of the run, bytes per second, and the greatest memory in kilobytes.
+the input's name and number of blocks, its bytes, the seconds of the run, bytes per second, and the greatest memory in kilobytes (never
+less than what this script itself had when it began the run).
 """
 import os
 import subprocess

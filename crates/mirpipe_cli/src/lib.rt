@@ -9,3 +9,6 @@ mod load;
 mod run;
 
 pub use run::run_quiet;
+
+#[cfg(test)]
+mod tests;
