@@ -1,5 +1,5 @@
 -- For the tests only: five queries, of which 3 and 4 are the roots. 2 reads the answer of 1, 3 steals it, and 4 reads the query that 0 answers.
-use Rattle.std.specs.Prelude.{◌≡◌, ℕ, zero, suc, ◌+◌, Bool, true, false, List, [], ◌∷◌, ◌++◌, Option, Some, None, option_to_list}
+use Rattle.std.specs.Prelude.{◌≡◌, ℕ, zero, suc, ◌+◌, Bool, true, false, List, [], ◌∷◌, ◌++◌, Option, Some, None, option_to_list, if◌then◌else◌}
 use Rattle.sched_core.specs.Plan.{Plan}
 
 -- what 0 answers
@@ -52,6 +52,11 @@ gathered out (n ∷ ns) = out n ++ gathered out ns
 abbrev pub IsWork : Bool → ℕ → List ℕ → List ℕ → Type 0
 IsWork far q given items = ((rest : List ℕ) × (reads far q ≡ given ++ rest)) × (items ≡ gathered (out far) given)
 
--- one query without needs, which is the root
-abbrev pub one : Plan
-one = record { queries = 1; roots = 1; root = λ i. 0; needs = λ q. []; steals = λ q. None; rank = λ q. 0 }
+abbrev pub few_reads : ℕ → List ℕ
+few_reads zero = []
+few_reads (suc zero) = 0 ∷ []
+few_reads (suc (suc q)) = []
+
+-- one query, which is the root, or two, of which the root reads the other
+abbrev pub few : Bool → Plan
+few two = record { queries = if two then 2 else 1; roots = 1; root = λ i. if two then 1 else 0; needs = few_reads; steals = λ q. None; rank = λ q. q }

@@ -3,7 +3,7 @@ use Rattle.std.specs.Prelude.{◌≡◌, ℕ, zero, suc, ◌+◌, ◌<◌, Bool,
 use Rattle.std.proofs.Common.{arith, sym, subst, ◌∙◌}
 use Rattle.std.proofs.lemmas.Bool.Decides.{nat_tests}
 use Rattle.sched_core.specs.Plan.{IsLawful, Reads, has}
-use Rattle.sched_core.specs.TestJobs.{plan, stolen, chosen, one}
+use Rattle.sched_core.specs.TestJobs.{plan, stolen, chosen, few, few_reads}
 
 chosen_is : (far : Bool) → (1 < chosen far) × (chosen far < 4)
 chosen_is false = (omega arith, omega arith)
@@ -62,11 +62,26 @@ lawful far = record {
   stolen_last = last_need far;
 }
 
-pub one_lawful : IsLawful one
-one_lawful = record {
+few_falls : (q n : ℕ) → has n (few_reads q) ≡ true → n < q
+few_falls zero n h = absurd (cc)
+few_falls (suc zero) n h = grind (arith, nat_tests)
+few_falls (suc (suc q)) n h = absurd (cc)
+
+pub few_lawful : (two : Bool) → IsLawful (few two)
+few_lawful false = record {
   roots_below = λ i h. omega arith;
-  needs_below = λ q n h k. absurd (cc);
-  no_cycle = λ q n h. absurd (cc);
+  needs_below = λ q n h k. let l = few_falls q n k in omega (arith, l, h);
+  no_cycle = few_falls;
+  one_thief = λ s q r h k. absurd (cc);
+  distinct_roots = λ i j h k e. omega arith;
+  roots_stay = λ i q h. (cc);
+  thief_waits = λ s q r h k. absurd (cc);
+  stolen_last = λ s q h. absurd (cc);
+}
+few_lawful true = record {
+  roots_below = λ i h. omega arith;
+  needs_below = λ q n h k. let l = few_falls q n k in omega (arith, l, h);
+  no_cycle = few_falls;
   one_thief = λ s q r h k. absurd (cc);
   distinct_roots = λ i j h k e. omega arith;
   roots_stay = λ i q h. (cc);

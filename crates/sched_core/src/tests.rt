@@ -1,7 +1,7 @@
-ghost use Rattle.std.specs.Prelude.{◌≡◌, ◌≢◌, ◌<◌, ◌≤◌, ℕ, true, All, List, [], Some, None, IfOk, MatchOption};
+ghost use Rattle.std.specs.Prelude.{◌≡◌, ◌≢◌, ◌<◌, ◌≤◌, ℕ, true, All, List, [], ◌∷◌, Some, None, IfOk, MatchOption, if◌then◌else◌};
 ghost use Rattle.sched_core.specs.Plan.{has};
-ghost use Rattle.sched_core.specs.TestJobs.{plan, out, own, stolen, IsWork, one};
-ghost use Rattle.sched_core.specs.TestLaws.{lawful, one_lawful};
+ghost use Rattle.sched_core.specs.TestJobs.{plan, out, own, stolen, IsWork, few};
+ghost use Rattle.sched_core.specs.TestLaws.{lawful, few_lawful};
 
 use crate::{Core, Event, Illegal, Jobs, Why, weave};
 use mir_syntax::{List, OutOfMemory};
@@ -121,25 +121,33 @@ impl Jobs for Five {
     ghost lawful = { λ jobs. lawful jobs.far };
 }
 
-// One query without needs, which is the root.
+// One query, which is the root, or two, of which the root reads the other. Each answers 7.
 #[derive(Drop)]
-struct One {}
+struct Few {
+    two: bool,
+}
 
-impl Jobs for One {
+// Whether a query was given what it reads.
+#[derive(Drop)]
+struct Reading {
+    given: bool,
+}
+
+impl Jobs for Few {
     type Answer = u32;
 
-    type Work = bool;
+    type Work = Reading;
 
-    ghost plan = { λ _. one };
+    ghost plan = { λ jobs. few jobs.two };
 
     ghost out = { λ _ q. 7 };
 
     ghost is_work = { λ _ q work. Unit {0} };
 
-    ghost given = { λ work. [] };
+    ghost given = { λ work. if work.given then 0 ∷ [] else [] };
 
     fn queries(&self) -> u32 {
-        1
+        if self.two { 2 } else { 1 }
     }
 
     fn roots(&self) -> u32 {
@@ -147,38 +155,42 @@ impl Jobs for One {
     }
 
     fn root(&self, _i: u32) -> u32 {
-        0
+        if self.two { 1 } else { 0 }
     }
 
     fn steals(&self, _q: u32) -> Option<u32> {
         None
     }
 
-    fn begin(&self, _q: u32) -> Result<bool, OutOfMemory> {
-        Ok(true)
+    fn begin(&self, _q: u32) -> Result<Reading, OutOfMemory> {
+        Ok(Reading { given: false })
     }
 
-    fn next(&self, _q: u32, _work: &bool) -> Option<u32> {
-        None
+    fn next(&self, q: u32, work: &Reading) -> Option<u32> {
+        match (q, work.given) {
+            (1, false) => Some(0),
+            _ => None,
+        }
     }
 
     fn give(
         &self,
         _q: u32,
-        _work: &mut bool,
+        work: &mut Reading,
         _need: u32,
         _answer: &u32,
     ) -> Result<(), OutOfMemory> {
+        work.given = true;
         Ok(())
     }
 
-    fn finish(&self, _q: u32, _work: bool, _taken: Option<u32>) -> Result<u32, OutOfMemory>
+    fn finish(&self, _q: u32, _work: Reading, _taken: Option<u32>) -> Result<u32, OutOfMemory>
         ensures { IfOk result (λ answer. answer ≡ 7) }
     {
         Ok(7)
     }
 
-    ghost lawful = { λ _. one_lawful };
+    ghost lawful = { λ jobs. few_lawful jobs.two };
 }
 
 // 60 workers' numbers, drawn by a linear generator.
@@ -215,7 +227,7 @@ fn publish_in_a_new_core_is_illegal(rt: HostRuntime) -> Result<(), Fail> {
 
 #[test]
 fn one_query_has_a_trail_of_three(rt: HostRuntime) -> Result<(), Fail> {
-    let woven = weave(rt.alloc(), &One {}, 1, [0, 0, 0, 0].as_slice())?;
+    let woven = weave(rt.alloc(), &Few { two: false }, 1, [0, 0, 0, 0].as_slice())?;
     assert_eq!(rt; woven.answers.as_slice(), [7].as_slice());
     assert_eq!(rt;
         woven.trail.as_slice(),
