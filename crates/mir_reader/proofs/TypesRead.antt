@@ -1,5 +1,5 @@
 -- Types, operands, statements, terminators and blocks are read by the grammar.
-use Rattle.std.proofs.Common.{◌≡◌, ℕ, ◌-◌, Bool, true, false, List, [], ◌∷◌, Option, Some, None, refl, ap, ◌∙◌}
+use Rattle.std.proofs.Common.{◌≡◌, ℕ, Bool, true, false, List, [], ◌∷◌, Option, Some, None, refl, ap, ◌∙◌}
 use Rattle.mir_syntax.specs.declared.types.IntTy.{IntTy}
 use Rattle.mir_syntax.specs.declared.body.Const.{Const}
 use Rattle.mir_syntax.specs.declared.body.Const.TheVariants as const
@@ -9,7 +9,6 @@ use Rattle.mir_syntax.specs.declared.body.Rvalue.TheVariants as rvalue
 use Rattle.mir_syntax.specs.declared.body.Stmt.{Stmt}
 use Rattle.mir_syntax.specs.declared.body.Stmt.TheVariants as stmt_is
 use Rattle.mir_syntax.specs.declared.body.Term.{Term}
-use Rattle.mir_syntax.specs.declared.body.Block.{Block}
 use Rattle.mir_text.specs.declared.symbol.Symbol.{Symbol}
 use Rattle.mir_text.specs.declared.symbol.Symbol.TheVariants as s
 use Rattle.mir_text.specs.Numbers.{fits, bits_of}

@@ -1,6 +1,6 @@
 -- The first form of a text: which derivations are of it, and which crate such a text names.
 use Rattle.std.specs.Prelude.{◌≡◌, false, List, [], ◌∷◌}
-use Rattle.mir_text.specs.Pieces.{Piece, comment, local, number}
+use Rattle.mir_text.specs.Pieces.{Piece, comment}
 use Rattle.mir_text.specs.Grammar.{AllItems, AllOf}
 use Rattle.mir_text.specs.GrammarTypes as t
 use Rattle.mir_text.specs.GrammarTypes.{PathRule, TypeRule}

@@ -8,3 +8,4 @@ pub mod First
 pub mod FirstText
 pub mod FirstPieces
 pub mod FirstForm
+pub mod Form

@@ -1,7 +1,9 @@
 ghost use Rattle.std.specs.Prelude.{◌≡◌, None, IfOk, IsErrOf};
 ghost use Rattle.mir_reader.specs.declared.refused.FirstRefused.TheVariants as first_refused;
 ghost use Rattle.mir_reader.specs.FirstRead as spec;
-ghost use Rattle.mir_reader.specs.FirstForm.{ReadsFirst, IsNotFirst};
+ghost use Rattle.mir_syntax.specs.Crate.{Crate, crate_of};
+ghost use Rattle.mir_reader.specs.FirstForm.{ReadsFirst};
+ghost use Rattle.mir_reader.specs.Form.{FirstForm};
 
 use crate::FirstRefused;
 use crate::build::build;
@@ -38,8 +40,9 @@ fn read_whole(alloc: Global, bytes: &[u8]) -> Result<Program, FirstRefused>
 ///
 /// `NotFirst`, exactly where the text isn't of that form; `OutOfMemory`.
 pub fn read_first(alloc: Global, bytes: &[u8]) -> Result<Program, FirstRefused>
+    ensures form { IfOk result (λ p. FirstForm bytes.now (crate_of p)) }
     ensures read { IfOk result (λ p. ReadsFirst bytes.now p) }
-    ensures refused { IsErrOf result first_refused.NotFirst → IsNotFirst bytes.now }
+    ensures refused { IsErrOf result first_refused.NotFirst → (C : Crate) → FirstForm bytes.now C → ⊥ }
 {
     read_whole(alloc, bytes)
 }

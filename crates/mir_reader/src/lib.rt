@@ -1,9 +1,10 @@
 //! Reads the text of a crate.
 //!
 //! So far the first form alone is read: one function whose statements assign an operand to a local, and whose terminators are `goto`,
-//! `return` and `unreachable`. `read_first` answers the program of such a text, and refuses exactly the others (`IsFirst`,
-//! `specs/FirstForm.antt`). The form is said over `mir_text`: the pieces of the text, none a comment, have the symbols that the grammar puts
-//! for the function (`specs/First.antt`, `specs/FirstText.antt`), and its locals, blocks and types keep the rules (`specs/Checks.antt`).
+//! `return` and `unreachable`. `read_first` answers the program of such a text, and refuses exactly the others (`FirstForm`,
+//! `specs/Form.antt`): the text has no comment and names a valid crate (`Reads` of `mir_text`, `Valid` of `mir_rules`) by a derivation of
+//! that form (`specs/First.antt`), with at most 10,000 locals and blocks. `ReadsFirst` (`specs/FirstForm.antt`) says the same by the one
+//! function that is derived (`specs/FirstText.antt`) and the tests of its locals, blocks and types (`specs/Checks.antt`).
 #![tactic(auto)]
 
 mod block;

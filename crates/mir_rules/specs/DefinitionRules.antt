@@ -12,7 +12,7 @@ abbrev pub holds_one : (ℕ → Bool) → Option Shape → Bool
 holds_one test None = false
 holds_one test (Some s) = any_needs test s.variants
 
--- the definition d holds e by value, through at most so many others
+-- the definition d holds e by value, through fewer than so many others
 abbrev pub holds : List Shape → ℕ → ℕ → ℕ → Bool
 holds D zero e d = false
 holds D (suc n) e d = holds_one (λ k. k == e || holds D n e k) (slice_get D d)

@@ -18,7 +18,7 @@ most_nodes = 1024
 abbrev pub most_units : ℕ
 most_units = 16
 
--- of a body: of `blocks + calls + 4 W`, and of `locals + 4 W`
+-- of a body: of `blocks + calls + 4 W`, and of `locals + 4 W`; and of the blocks and of the locals of a body that a pass makes
 abbrev pub most_in_body : ℕ
 most_in_body = 10000
 

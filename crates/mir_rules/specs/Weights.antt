@@ -29,7 +29,7 @@ nodes_def D (suc n) d = nodes_of (nodes_def D n) (slice_get D d)
 unfoldable pub nodes : List Shape → Tree → ℕ
 nodes D t = nodes_by (nodes_def D (length D)) t
 
--- ---- units of drop: what has a destructor, and each enum that needs drop, outside these
+-- ---- units of drop: each part that has a destructor or is an enum that needs drop, none inside another
 
 abbrev pub under : ℕ → List Proj → List Proj
 under i path = Field i ∷ path

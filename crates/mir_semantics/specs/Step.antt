@@ -1,5 +1,5 @@
--- One step of a run: a statement, a terminator, or one item of a drop. What is undefined has no result. The Rust Reference on destructors,
--- casts and operators; the rest is this project's own. Nothing here looks at a whole body.
+-- One step of a run: a statement, a terminator, or one item of a drop. What is undefined has no result, but for an
+-- outside call whose answer can't be written: that call stands on the trace first. The Rust Reference on destructors, casts and operators; the rest is this project's own. Nothing here looks at a whole body.
 use Rattle.std.specs.Prelude.{ℕ, suc, Bool, true, false, ◌&&◌, nat_eq, if◌then◌else◌, List, [], ◌∷◌, ◌++◌, map, length, Option, Some, None, slice_get, drop, ℤ}
 use Rattle.mir_syntax.specs.declared.types.ScalarTy.{ScalarTy}
 use Rattle.mir_syntax.specs.declared.types.ScalarTy.TheVariants as scalar_ty
@@ -35,7 +35,7 @@ body_in f = f.body
 abbrev pub code_of : Crate → Code
 code_of c = record { shapes = shapes_of c; outsides = c.outsides; bodies = map body_in c.functions }
 
--- where a call's result goes, and the type whose units of drop must be full in the old value
+-- where a value is written, and the type, if any, of which the old value may have no hole at a unit of drop
 pub record Dest : Type 0 where
   pub addr : Addr
   pub guard : Option Tree
@@ -412,11 +412,20 @@ begun h s p b None = do
   t ← type_of h p
   Some (record { place = record { addr = a; ty = t }; target = b; items = record { addr = a; ty = t } ∷ [] })
 
+abbrev pub left_in : Memory → Addr → Option Shape → Option Value
+left_in m a None = Some hole
+left_in m a (Some s) = if s.is_enum then value_at m a else Some hole
+
+-- what a destructor left at its place; only an enum is looked at again, since a struct has the same fields whatever stands there
+abbrev pub left_at : List Shape → Memory → Addr → Tree → Option Value
+left_at D m a (named d) = left_in m a (slice_get D d)
+left_at D m a t = Some hole
+
 -- a destructor has returned: the fields of its place come next, as they are now
 unfoldable pub destroyed_at : List Shape → State → Control → Dropping → List Visit → Option Next
 destroyed_at D s c d [] = None
 destroyed_at D s c d (i ∷ rest) = do
-  v ← value_at s.memory i.addr
+  v ← left_at D s.memory i.addr i.ty
   work_on D s c d (visits_of D i.addr i.ty v ++ rest)
 
 unfoldable pub destroyed : List Shape → State → Control → Option Next

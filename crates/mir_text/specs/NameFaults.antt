@@ -202,7 +202,7 @@ result_faults names result [] = []
 result_faults names result (a ∷ others) =
     if nat_eq a.1.0 0 then on_line a.0 (unless (same_type (ty_of names a.1.1) result) 14) else result_faults names result others
 
--- the labels are the numbers from one on
+-- the labels are the numbers in order, from a given one on
 abbrev pub in_order : ℕ → List ℕ → Bool
 in_order n [] = true
 in_order n (b ∷ bs) = nat_eq b n && in_order (suc n) bs

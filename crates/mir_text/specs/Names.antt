@@ -1,5 +1,5 @@
 -- What the names of a derivation mean: byte strings, paths, definitions, types. A name that is defined twice means its first definition.
-use Rattle.std.specs.Prelude.{ℕ, Bool, true, false, ◌&&◌, nat_eq, List, [], ◌∷◌, ◌++◌, map, get_or, Option, Some, None, is_some, codes}
+use Rattle.std.specs.Prelude.{ℕ, Bool, true, false, ◌&&◌, nat_eq, List, [], ◌∷◌, ◌++◌, map, length, get_or, Option, Some, None, is_some, codes}
 use Rattle.mir_syntax.specs.declared.types.IntTy.{IntTy}
 use Rattle.mir_syntax.specs.declared.types.IntTy.TheVariants as i
 use Rattle.mir_syntax.specs.declared.types.ScalarTy.{ScalarTy}
@@ -70,10 +70,10 @@ def_paths strings items = map (λ d. path_bytes strings (def_path d)) (defs_in i
 
 -- ---- types
 
--- what a path is as a type, by the paths of structs and enums
-abbrev pub named_or : Option ℕ → Tree
-named_or None = named 0
-named_or (Some d) = named d
+-- the struct or enum at the place of a path; a path that names none is a type that is none of so many
+abbrev pub named_or : ℕ → Option ℕ → Tree
+named_or many None = named many
+named_or many (Some d) = named d
 
 abbrev pub ref_to : Bool → Tree → Tree
 ref_to true u = ref_mut u
@@ -85,7 +85,7 @@ abbrev mutual
   type_named strings paths (t.int i) = scalar (scalar_ty.Int i)
   type_named strings paths t.bool = scalar scalar_ty.Bool
   type_named strings paths (t.ref m u) = ref_to m (type_named strings paths u)
-  type_named strings paths (t.path p) = named_or (place_in paths (path_bytes strings p))
+  type_named strings paths (t.path p) = named_or (length paths) (place_in paths (path_bytes strings p))
   type_named strings paths t.unit = empty
   type_named strings paths (t.tuple u us) = more (type_named strings paths u) (types_named strings paths us)
 

@@ -74,23 +74,27 @@ InDebug before = Viable (before ++ s.LeftOut ∷ [])
 abbrev pub NoReading : List Symbol → Symbol → Type 0
 NoReading before x = (x ≡ s.LeftOut → ⊥) × (GoesOn before x → ⊥)
 
+-- a place may begin: `(*` may stand there
+abbrev pub PlaceHere : List Symbol → Type 0
+PlaceHere before = Viable (before ++ s.Open ∷ s.Star ∷ [])
+
 -- what a symbol may open: a type, of which `bool` is the least; a place, of which `_0` is; or a scope
-abbrev pub Opens : Symbol → Symbol → Type 0
-Opens (s.Int t) y = y ≡ s.Bool
-Opens s.Bool y = y ≡ s.Bool
-Opens s.Ampersand y = y ≡ s.Bool
-Opens (s.Name n) y = y ≡ s.Bool
-Opens s.Open y = (y ≡ s.Bool) ⊎ (y ≡ s.Local 0)
-Opens (s.Local x) y = y ≡ s.Local 0
-Opens s.LargeLocal y = y ≡ s.Local 0
-Opens s.Scope y = y ≡ s.Scope
-Opens x y = ⊥
+abbrev pub Opens : List Symbol → Symbol → Symbol → Type 0
+Opens before (s.Int t) y = y ≡ s.Bool
+Opens before s.Bool y = y ≡ s.Bool
+Opens before s.Ampersand y = y ≡ s.Bool
+Opens before (s.Name n) y = y ≡ s.Bool
+Opens before s.Open y = (y ≡ s.Bool) ⊎ (y ≡ s.Local 0)
+Opens before (s.Local x) y = (y ≡ s.Local 0) × PlaceHere before
+Opens before s.LargeLocal y = (y ≡ s.Local 0) × PlaceHere before
+Opens before s.Scope y = y ≡ s.Scope
+Opens before x y = ⊥
 
 -- A symbol opens a type, a place or a scope in more than 64: even the least one there is in no good file.
 pub record TooDeep (before : List Symbol) (x : Symbol) : Type 0 where
   pub goes_on : GoesOn before x
   pub least : Symbol
-  pub opens : Opens x least
+  pub opens : Opens before x least
   pub viable : Viable (before ++ least ∷ [])
   pub none_good : (file : FileRule) (more : List Symbol) → FileGood file → file_put file [] ≡ before ++ least ∷ more → ⊥
 

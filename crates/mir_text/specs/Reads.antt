@@ -59,8 +59,3 @@ pub record ReadsWith (bytes : List ℕ) (c : Crate) (lines : Lines) : Type 0 whe
   pub derivation : Derivation bytes
   pub named : crate_read derivation ≡ c
   pub lined : lines_read derivation ≡ lines
-
--- each field in a text is written with its type
-pub record FieldsRight (bytes : List ℕ) : Type 0 where
-  pub derivation : Derivation bytes
-  pub none_wrong : wrong_field derivation ≡ None

@@ -63,7 +63,7 @@ items_spans [] places = []
 items_spans (item ∷ items) places =
     (span_at (first_line places) (size item_put item) ∷ inner_spans item places) ++ items_spans items (past item_put item places)
 
--- numbers, counted on from one
+-- so many numbers in order, from a given one on
 abbrev pub numbers_from : ℕ → ℕ → List ℕ
 numbers_from n zero = []
 numbers_from n (suc k) = n ∷ numbers_from (suc n) k

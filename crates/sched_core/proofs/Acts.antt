@@ -1,15 +1,14 @@
 -- A legal event can be done on the fields of a core.
-use Rattle.std.proofs.Common.{◌≡◌, ◌≢◌, ℕ, zero, suc, ◌+◌, ◌<◌, ◌≤◌, Bool, true, false, List, [], ◌∷◌, ◌++◌, length, ◌⊎◌, inl, inr, refl, sym, subst, ap, ◌∙◌, arith, slice_index_or}
+use Rattle.std.proofs.Common.{◌≡◌, ℕ, zero, suc, ◌<◌, ◌≤◌, Bool, true, false, List, [], ◌∷◌, length, inl, inr, sym, subst, ap, ◌∙◌, arith, slice_index_or}
 use Rattle.std.specs.Prelude.{Option, Some, None, slice_get, Vec, IfSome, if◌then◌else◌}
 use Rattle.sched_core.specs.declared.Status.{Status}
-use Rattle.sched_core.specs.declared.Status.TheVariants.{Unclaimed, Claimed, Done, Failed, Stolen}
+use Rattle.sched_core.specs.declared.Status.TheVariants.{Unclaimed, Done}
 use Rattle.sched_core.specs.declared.Event.{Event}
-use Rattle.sched_core.specs.declared.Event.TheVariants.{Claim, Look, Borrow, Release, Steal, Publish, Fail, Draw}
 use Rattle.sched_core.specs.declared.state.Standing.{Standing}
 use Rattle.sched_core.specs.declared.state.Core.{Core}
 use Rattle.sched_core.specs.Plan.{Plan, IsLawful, next_need}
-use Rattle.sched_core.specs.State.{State, Entry, Legal, after, is, borrowers, MayRelease, MayBorrow}
-use Rattle.sched_core.specs.Good.{Good, Borrows}
+use Rattle.sched_core.specs.State.{State, Entry, Legal, after, is, borrowers}
+use Rattle.sched_core.specs.Good.{Good}
 use Rattle.sched_core.specs.Shown.{state_of, stack_of, row_at, Ready, has_room, has_given_room, GoodFor, Happens}
 use Rattle.sched_core.proofs.Lists.{nat_cases, borrowers_some}
 use Rattle.sched_core.proofs.Listed.{item_at, item_or, stack_full}

@@ -1,13 +1,13 @@
 -- A claim keeps what is true of the core.
-use Rattle.std.proofs.Common.{◌≡◌, ◌≢◌, ℕ, ◌+◌, ◌<◌, Bool, true, false, List, [], ◌∷◌, ◌⊎◌, inl, inr, ⊎_elim, refl, sym, subst, ap, ◌∙◌, arith, eqb}
-use Rattle.std.specs.Prelude.{Some, None}
+use Rattle.std.proofs.Common.{◌≡◌, ℕ, ◌<◌, true, false, List, [], ◌∷◌, ◌⊎◌, inl, inr, refl, sym, subst, ◌∙◌, arith}
+use Rattle.std.specs.Prelude.{Some}
 use Rattle.sched_core.specs.declared.Status.{Status}
-use Rattle.sched_core.specs.declared.Status.TheVariants.{Unclaimed, Claimed, Done, Failed, Stolen}
-use Rattle.sched_core.specs.Plan.{Plan, IsLawful, has, next_need, Reads}
-use Rattle.sched_core.specs.State.{State, Entry, upd, queries_of, next, next_of_top, settled, done, untouched, borrowers, MayWait, MayClaim, claimed_by}
-use Rattle.sched_core.specs.Good.{Good, IsOnce, Stands, Chained, GivenSeen, Borrows}
-use Rattle.sched_core.proofs.Upd.{upd_same, upd_other, upd_tells, upd_at}
-use Rattle.sched_core.proofs.Lists.{bool_tells, next_stands, nat_cases}
+use Rattle.sched_core.specs.declared.Status.TheVariants.{Claimed, Done, Failed, Stolen}
+use Rattle.sched_core.specs.Plan.{Plan, has, Reads}
+use Rattle.sched_core.specs.State.{State, Entry, upd, queries_of, next_of_top, settled, done, untouched, borrowers, MayClaim, claimed_by}
+use Rattle.sched_core.specs.Good.{Good, IsOnce, Chained, GivenSeen, Borrows}
+use Rattle.sched_core.proofs.Upd.{upd_other, upd_tells, upd_at}
+use Rattle.sched_core.proofs.Lists.{bool_tells, next_stands}
 use Rattle.sched_core.proofs.Parts.{borrows_at, waits_else, seated_set}
 use Rattle.std.proofs.lemmas.Bool.Decides.{nat_tests}
 

@@ -1,14 +1,14 @@
 -- A borrow and a release keep what is true of the core.
-use Rattle.std.proofs.Common.{◌≡◌, ◌≢◌, ℕ, ◌+◌, ◌-◌, ◌<◌, Bool, true, false, List, [], ◌∷◌, ◌++◌, ◌⊎◌, inl, inr, ⊎_elim, refl, sym, subst, ap, ◌∙◌, arith, eqb}
+use Rattle.std.proofs.Common.{◌≡◌, ◌≢◌, ℕ, ◌+◌, ◌-◌, ◌<◌, Bool, true, false, List, [], ◌∷◌, ◌⊎◌, inl, inr, refl, sym, subst, ap, ◌∙◌, arith}
 use Rattle.std.specs.Prelude.{Option, Some, None}
 use Rattle.sched_core.specs.declared.Status.{Status}
-use Rattle.sched_core.specs.declared.Status.TheVariants.{Unclaimed, Claimed, Done, Failed, Stolen}
-use Rattle.sched_core.specs.Plan.{Plan, IsLawful, has, next_need, Reads}
-use Rattle.sched_core.specs.State.{State, Entry, upd, queries_of, next, next_of_top, settled, done, untouched, borrowers, borrowed_more, borrowed_less, give, below_top, AllSeen, WaitFits, MayWait, MayDraw, MayLook, MayBorrow, MayRelease, MaySteal, MayPublish, MayFail, drawn_by, saw, borrowed_by, released_by, stolen_by, published_by, failed_by}
-use Rattle.sched_core.specs.Good.{Good, IsOnce, Stands, Chained, GivenSeen, Borrows}
+use Rattle.sched_core.specs.declared.Status.TheVariants.{Claimed, Done, Failed, Stolen}
+use Rattle.sched_core.specs.Plan.{Plan, has, Reads}
+use Rattle.sched_core.specs.State.{State, Entry, upd, queries_of, settled, done, untouched, borrowers, borrowed_more, borrowed_less, give, MayBorrow, MayRelease, borrowed_by, released_by}
+use Rattle.sched_core.specs.Good.{Good, IsOnce, Chained, GivenSeen, Borrows}
 use Rattle.sched_core.proofs.Upd.{upd_same, upd_other, upd_tells, upd_at}
-use Rattle.sched_core.proofs.Lists.{bool_tells, next_stands, nat_cases, has_snoc, one, borrowers_set, borrowers_none, borrowers_some}
-use Rattle.sched_core.proofs.Parts.{borrows_at, waits_else, waits_same, more, more_tells, more_keeps, more_here, given_more, seated_set, root_done}
+use Rattle.sched_core.proofs.Lists.{next_stands, has_snoc, one, borrowers_set}
+use Rattle.sched_core.proofs.Parts.{borrows_at, waits_else, waits_same, seated_set}
 use Rattle.std.proofs.lemmas.Bool.Decides.{nat_tests}
 
 -- the number of borrowers of s changes from b to a

@@ -1,17 +1,17 @@
 -- Each event that goes on leaves less to do.
-use Rattle.std.proofs.Common.{◌≡◌, ◌≢◌, ℕ, zero, suc, ◌+◌, ◌-◌, ◌*◌, ◌<◌, ◌≤◌, Bool, true, false, List, [], ◌∷◌, ◌++◌, ◌⊎◌, inl, inr, refl, sym, subst, ap, ◌∙◌, arith, eqb}
+use Rattle.std.proofs.Common.{◌≡◌, ◌≢◌, ℕ, zero, suc, ◌+◌, ◌*◌, ◌<◌, ◌≤◌, Bool, true, false, List, [], ◌∷◌, ◌++◌, inl, inr, refl, sym, subst, ap, arith}
 use Rattle.std.specs.Prelude.{Option, Some, None, if◌then◌else◌}
 use Rattle.sched_core.specs.declared.Status.{Status}
 use Rattle.sched_core.specs.declared.Status.TheVariants.{Unclaimed, Claimed, Done, Failed, Stolen}
 use Rattle.sched_core.specs.declared.Event.{Event}
 use Rattle.sched_core.specs.declared.Event.TheVariants.{Claim, Look, Borrow, Release, Steal, Publish, Fail, Draw}
-use Rattle.sched_core.specs.Plan.{Plan, IsLawful, has, next_need}
+use Rattle.sched_core.specs.Plan.{Plan, IsLawful, has}
 use Rattle.sched_core.specs.State.{State, Entry, upd, give, below_top, settled, borrowed_more, borrowed_less, Legal, after, on_top, saw, published_by}
-use Rattle.sched_core.specs.Good.{Good, Borrows}
+use Rattle.sched_core.specs.Good.{Good}
 use Rattle.sched_core.specs.Turn.{Useful}
 use Rattle.sched_core.specs.Work.{sum_below, missing, open_work, weight, is_free_hand, unseen, work_left}
-use Rattle.sched_core.proofs.Upd.{upd_same, upd_other, upd_tells, upd_at}
-use Rattle.sched_core.proofs.Lists.{bool_tells, nat_cases, next_in, next_out, has_snoc}
+use Rattle.sched_core.proofs.Upd.{upd_same, upd_other}
+use Rattle.sched_core.proofs.Lists.{bool_tells, nat_cases, next_out}
 use Rattle.sched_core.proofs.Steals.{top_claimed}
 use Rattle.sched_core.proofs.Turns.{top_below}
 use Rattle.std.proofs.lemmas.Bool.Decides.{nat_tests}

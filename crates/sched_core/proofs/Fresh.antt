@@ -1,11 +1,11 @@
 -- A core that was just made.
-use Rattle.std.proofs.Common.{◌≡◌, ◌≢◌, ℕ, zero, suc, ◌+◌, ◌<◌, ◌≤◌, Bool, true, false, List, [], ◌∷◌, length, refl, sym, subst, ap, ◌∙◌, arith, slice_index_or}
+use Rattle.std.proofs.Common.{◌≡◌, ℕ, zero, suc, ◌<◌, ◌≤◌, Bool, false, List, [], ◌∷◌, length, refl, sym, subst, ap, ◌∙◌, arith, slice_index_or}
 use Rattle.std.specs.Prelude.{Option, Some, None, slice_get, replicate, Vec}
 use Rattle.sched_core.specs.declared.Status.TheVariants.{Unclaimed}
 use Rattle.sched_core.specs.declared.state.Standing.{Standing}
 use Rattle.sched_core.specs.declared.state.Core.{Core}
 use Rattle.sched_core.specs.Plan.{Plan}
-use Rattle.sched_core.specs.State.{State, start}
+use Rattle.sched_core.specs.State.{start}
 use Rattle.sched_core.specs.Good.{Good}
 use Rattle.sched_core.specs.Shown.{state_of, stack_of, row_at, Ready, IsBlank, IsEmptyRow, GoodFor}
 use Rattle.sched_core.proofs.Listed.{all_alike, alike_long}

@@ -1,15 +1,15 @@
 -- The works and answers that a weave holds, over each event.
-use Rattle.std.proofs.Common.{◌≡◌, ◌≢◌, ℕ, zero, suc, ◌+◌, ◌-◌, ◌<◌, Bool, true, false, List, [], ◌∷◌, ◌++◌, length, ◌⊎◌, inl, inr, refl, sym, subst, ap, ◌∙◌, arith, slice_set}
-use Rattle.std.specs.Prelude.{Option, Some, None, slice_get, ◌==◌, ◌||◌}
+use Rattle.std.proofs.Common.{◌≡◌, ◌≢◌, ℕ, ◌+◌, ◌-◌, ◌<◌, true, false, List, [], ◌∷◌, ◌++◌, length, inl, inr, refl, sym, subst, ap, ◌∙◌, arith, slice_set}
+use Rattle.std.specs.Prelude.{Option, Some, None, slice_get}
 use Rattle.std.proofs.lemmas.Bool.Decides.{nat_tests}
 use Rattle.sched_core.specs.declared.Status.{Status}
 use Rattle.sched_core.specs.declared.Status.TheVariants.{Unclaimed, Claimed, Done, Failed, Stolen}
-use Rattle.sched_core.specs.Plan.{Plan, IsLawful, has, next_need}
-use Rattle.sched_core.specs.State.{State, Entry, upd, queries_of, done, settled, untouched, saw, give, below_top, borrowed_more, borrowed_less, claimed_by, borrowed_by, released_by, stolen_by, published_by, drawn_by, MayClaim, MaySteal, MayPublish}
+use Rattle.sched_core.specs.Plan.{Plan, IsLawful, has}
+use Rattle.sched_core.specs.State.{State, Entry, upd, queries_of, done, untouched, saw, give, below_top, borrowed_more, borrowed_less, claimed_by, borrowed_by, released_by, stolen_by, published_by, drawn_by, MayClaim, MayPublish}
 use Rattle.sched_core.specs.Good.{Good, IsOnce}
 use Rattle.sched_core.specs.Held.{HasWorks, Holds, without}
-use Rattle.sched_core.proofs.Upd.{upd_same, upd_other, upd_tells, upd_at}
-use Rattle.sched_core.proofs.Lists.{bool_tells, nat_cases}
+use Rattle.sched_core.proofs.Upd.{upd_tells, upd_at}
+use Rattle.sched_core.proofs.Lists.{bool_tells}
 use Rattle.sched_core.proofs.Listed.{set_same, set_else, set_length}
 use Rattle.sched_core.proofs.Steals.{top_claimed}
 

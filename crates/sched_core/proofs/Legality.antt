@@ -1,5 +1,5 @@
 -- An event has no reason against it exactly where it is legal.
-use Rattle.std.proofs.Common.{◌≡◌, ◌≢◌, ℕ, zero, suc, ◌+◌, ◌<◌, ◌≤◌, Bool, true, false, List, [], ◌∷◌, ◌⊎◌, inl, inr, refl, sym, subst, ap, ◌∙◌, arith, ◌&&◌, ◌||◌}
+use Rattle.std.proofs.Common.{◌≡◌, ◌≢◌, ℕ, zero, suc, ◌<◌, Bool, true, false, List, [], ◌∷◌, ◌⊎◌, inl, inr, refl, sym, subst, ap, ◌∙◌, arith, ◌&&◌, ◌||◌}
 use Rattle.std.specs.Prelude.{Option, Some, None, nat_lt, if◌then◌else◌}
 use Rattle.sched_core.specs.declared.Status.{Status}
 use Rattle.sched_core.specs.declared.Status.TheVariants.{Unclaimed, Claimed, Done, Failed, Stolen}
@@ -7,10 +7,10 @@ use Rattle.sched_core.specs.declared.Event.{Event}
 use Rattle.sched_core.specs.declared.Event.TheVariants.{Claim, Look, Borrow, Release, Steal, Publish, Fail, Draw}
 use Rattle.sched_core.specs.declared.Why.{Why}
 use Rattle.sched_core.specs.declared.Why.TheVariants as w
-use Rattle.sched_core.specs.Plan.{Plan, has, next_need}
-use Rattle.sched_core.specs.State.{State, Entry, is, next, untouched, WaitFits, AllSeen, Legal}
+use Rattle.sched_core.specs.Plan.{Plan, next_need}
+use Rattle.sched_core.specs.State.{State, Entry, is, next, untouched, WaitFits, Legal}
 use Rattle.sched_core.specs.State.{all_seen, is_stolen}
-use Rattle.sched_core.specs.Table.{or_else, unless, is_root, is_empty, claimed_here, is_done, is_free, within, holds_none, taken, why, why_claim, why_look, why_borrow, why_steal, why_publish, why_fail, why_draw}
+use Rattle.sched_core.specs.Table.{or_else, unless, is_root, is_empty, claimed_here, is_done, is_free, within, holds_none, taken, why, why_borrow, why_steal, why_publish, why_fail, why_draw}
 use Rattle.sched_core.proofs.Lists.{bool_tells, nat_cases}
 use Rattle.sched_core.proofs.Turns.{is_tells, is_here, untouched_tells, stolen_tells, all_seen_tells, all_seen_from}
 use Rattle.std.proofs.lemmas.Bool.Decides.{nat_tests}

@@ -24,3 +24,4 @@ pub mod Fresh
 pub mod Rounds
 pub mod Taking
 pub mod Weaving
+pub mod TestJobs

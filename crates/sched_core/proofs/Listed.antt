@@ -1,11 +1,11 @@
 -- Lists that are shown as functions.
-use Rattle.std.proofs.Common.{◌≡◌, ◌≢◌, ℕ, zero, suc, ◌+◌, ◌<◌, ◌≤◌, Bool, true, false, List, [], ◌∷◌, ◌++◌, length, ◌⊎◌, inl, inr, refl, sym, subst, ap, ◌∙◌, arith, slice_index_or, slice_set}
-use Rattle.std.specs.Prelude.{Option, Some, None, slice_get, replicate, Vec, option_to_list, MatchOption}
+use Rattle.std.proofs.Common.{◌≡◌, ◌≢◌, ℕ, zero, suc, ◌+◌, ◌<◌, List, [], ◌∷◌, ◌++◌, length, refl, sym, subst, ap, ◌∙◌, arith, slice_index_or, slice_set}
+use Rattle.std.specs.Prelude.{Option, Some, None, slice_get, replicate, option_to_list, MatchOption}
 use Rattle.sched_core.specs.declared.state.Standing.{Standing}
 use Rattle.sched_core.specs.Plan.{Plan, next_need}
 use Rattle.sched_core.specs.State.{upd, Entry, next_of_top, below_top, give}
-use Rattle.sched_core.specs.Shown.{stack_of, row_at, has_room, has_given_room}
-use Rattle.sched_core.proofs.Upd.{upd_same, upd_other, upd_tells, upd_at}
+use Rattle.sched_core.specs.Shown.{stack_of, has_given_room}
+use Rattle.sched_core.proofs.Upd.{upd_at}
 
 module _ {A : Type 0} where
   pub set_same : (xs : List A) (w : ℕ) (x : A) → w < length xs → slice_get (slice_set xs w x) w ≡ Some x

@@ -1,11 +1,11 @@
 -- Lists of needs, and the count of borrowers.
-use Rattle.std.proofs.Common.{◌≡◌, ◌≢◌, ℕ, zero, suc, ◌+◌, ◌-◌, ◌<◌, ◌≤◌, Bool, true, false, List, [], ◌∷◌, ◌++◌, ◌⊎◌, inl, inr, refl, sym, subst, ap, ◌∙◌, arith, eqb, ◌||◌}
-use Rattle.std.specs.Prelude.{Option, Some, None, if◌then◌else◌, ◌==◌}
+use Rattle.std.proofs.Common.{◌≡◌, ◌≢◌, ℕ, zero, suc, ◌+◌, ◌<◌, ◌≤◌, Bool, true, false, List, [], ◌∷◌, ◌++◌, ◌⊎◌, inl, inr, refl, sym, subst, ap, arith}
+use Rattle.std.specs.Prelude.{Option, Some, None, if◌then◌else◌}
 use Rattle.std.proofs.lemmas.Bool.Decides.{nat_tests}
-use Rattle.sched_core.specs.Plan.{Plan, IsLawful, has, next_need, Reads}
-use Rattle.sched_core.specs.State.{State, Entry, upd, queries_of, next_of_top, is, borrowers}
-use Rattle.sched_core.specs.Good.{Good, IsOnce, Stands, Chained, GivenSeen, Borrows}
-use Rattle.sched_core.proofs.Upd.{upd_same, upd_other, upd_tells, upd_at}
+use Rattle.sched_core.specs.Plan.{Plan, has, next_need}
+use Rattle.sched_core.specs.State.{Entry, upd, next_of_top, is, borrowers}
+use Rattle.sched_core.specs.Good.{Stands}
+use Rattle.sched_core.proofs.Upd.{upd_same, upd_other, upd_tells}
 
 -- a test, with what it came to
 pub bool_tells : (b : Bool) → (b ≡ true) ⊎ (b ≡ false)

@@ -1,19 +1,19 @@
 -- While a root is left and no query failed, the turn of some worker goes on.
-use Rattle.std.proofs.Common.{◌≡◌, ◌≢◌, ℕ, zero, suc, ◌+◌, ◌-◌, ◌<◌, ◌≤◌, Bool, true, false, List, [], ◌∷◌, ◌++◌, ◌⊎◌, inl, inr, ⊎_elim, refl, sym, subst, ap, ◌∙◌, arith, eqb, ◌&&◌}
+use Rattle.std.proofs.Common.{◌≡◌, ◌≢◌, ℕ, zero, suc, ◌<◌, ◌≤◌, Bool, true, false, List, [], ◌∷◌, ◌++◌, ◌⊎◌, inl, inr, refl, sym, subst, arith}
 use Rattle.std.specs.Prelude.{Option, Some, None, nat_lt, if◌then◌else◌}
 use Rattle.sched_core.specs.declared.Status.{Status}
 use Rattle.sched_core.specs.declared.Status.TheVariants.{Unclaimed, Claimed, Done, Failed, Stolen}
 use Rattle.sched_core.specs.declared.Event.{Event}
-use Rattle.sched_core.specs.declared.Event.TheVariants.{Claim, Look, Borrow, Release, Steal, Publish, Fail, Draw}
-use Rattle.sched_core.specs.Plan.{Plan, IsLawful, has, next_need, Reads}
-use Rattle.sched_core.specs.State.{State, Entry, queries_of, next_of_top, settled, done, untouched, is, AllSeen, WaitFits, Legal}
-use Rattle.sched_core.specs.Good.{Good, Stands, Chained, GivenSeen, Borrows}
-use Rattle.sched_core.specs.State.{all_given, seen_if, all_seen, is_stolen}
+use Rattle.sched_core.specs.declared.Event.TheVariants.{Claim, Look, Borrow, Release, Steal, Publish, Draw}
+use Rattle.sched_core.specs.Plan.{Plan, IsLawful, has, next_need}
+use Rattle.sched_core.specs.State.{State, Entry, next_of_top, settled, done, untouched, AllSeen}
+use Rattle.sched_core.specs.Good.{Good, GivenSeen}
+use Rattle.sched_core.specs.State.{all_seen, is_stolen}
 use Rattle.sched_core.specs.Turn.{drawing, turn_empty, ending, turn_top, turn_free, turn_of, turn, Useful}
-use Rattle.sched_core.proofs.Lists.{bool_tells, next_stands, next_in, next_out, next_none, next_last, nat_cases, has_snoc}
+use Rattle.sched_core.proofs.Lists.{next_in, next_none, nat_cases}
 use Rattle.sched_core.proofs.Parts.{root_done}
 use Rattle.sched_core.proofs.Waiting.{Top, owner_top}
-use Rattle.sched_core.proofs.Turns.{all_seen_from, all_seen_tells}
+use Rattle.sched_core.proofs.Turns.{all_seen_from}
 use Rattle.std.proofs.lemmas.Bool.Decides.{nat_tests}
 
 -- what a status is that isn't failed

@@ -1,5 +1,5 @@
 -- What a turn does to the work that is left, to the roots that are done, and to what failed.
-use Rattle.std.proofs.Common.{◌≡◌, ◌≢◌, ℕ, zero, suc, ◌+◌, ◌<◌, ◌≤◌, Bool, true, false, List, [], ◌∷◌, length, ◌⊎◌, inl, inr, refl, sym, subst, ap, ◌∙◌, arith}
+use Rattle.std.proofs.Common.{◌≡◌, ◌≢◌, ℕ, ◌+◌, ◌<◌, Bool, true, false, List, [], ◌∷◌, ◌⊎◌, inl, inr, refl, sym, subst, ap, ◌∙◌, arith}
 use Rattle.std.specs.Prelude.{Option, Some, None, nat_lt, if◌then◌else◌}
 use Rattle.sched_core.specs.declared.Status.{Status}
 use Rattle.sched_core.specs.declared.Status.TheVariants.{Unclaimed, Claimed, Done, Failed, Stolen}
@@ -12,9 +12,8 @@ use Rattle.sched_core.specs.Turn.{turn, turn_of, turn_free, turn_empty, turn_top
 use Rattle.sched_core.specs.Work.{work_left}
 use Rattle.sched_core.specs.Shown.{worker_of}
 use Rattle.sched_core.specs.Held.{RootsStay}
-use Rattle.sched_core.proofs.Upd.{upd_same, upd_other, upd_tells, upd_at}
-use Rattle.sched_core.proofs.Lists.{bool_tells, nat_cases}
-use Rattle.sched_core.proofs.Keeps.{legal_keeps}
+use Rattle.sched_core.proofs.Upd.{upd_at}
+use Rattle.sched_core.proofs.Lists.{nat_cases}
 use Rattle.sched_core.proofs.Turns.{turn_legal}
 use Rattle.sched_core.proofs.Falls.{falls}
 use Rattle.sched_core.proofs.Progress.{goes_on}

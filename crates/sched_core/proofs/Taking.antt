@@ -1,9 +1,9 @@
 -- The turn of a worker, read off what it has on top.
-use Rattle.std.proofs.Common.{◌≡◌, ℕ, ◌<◌, Bool, true, false, List, [], ◌∷◌, length, refl, sym, ap, ◌∙◌, arith, slice_index_or}
-use Rattle.std.specs.Prelude.{Option, Some, None, IfSome, ◌&&◌, if◌then◌else◌}
+use Rattle.std.proofs.Common.{◌≡◌, ℕ, ◌<◌, Bool, true, false, List, [], ◌∷◌, length, refl, sym, ap, ◌∙◌, slice_index_or}
+use Rattle.std.specs.Prelude.{Option, Some, None, ◌&&◌, if◌then◌else◌}
 use Rattle.sched_core.specs.declared.Event.{Event}
-use Rattle.sched_core.specs.declared.Event.TheVariants.{Claim, Look, Borrow, Release, Steal, Publish, Fail, Draw}
-use Rattle.sched_core.specs.Plan.{Plan, IsLawful, next_need}
+use Rattle.sched_core.specs.declared.Event.TheVariants.{Claim, Look, Borrow, Steal, Publish}
+use Rattle.sched_core.specs.Plan.{Plan, IsLawful}
 use Rattle.sched_core.specs.State.{State, Entry, next, next_of_top, is, untouched, is_stolen, all_seen}
 use Rattle.sched_core.specs.Good.{Good}
 use Rattle.sched_core.specs.Turn.{turn, turn_of, turn_free, turn_empty, turn_top, ending, ripe, turn_need, ended}

@@ -1,18 +1,16 @@
 -- Each turn is a legal event or passes, and some turn goes on.
-use Rattle.std.proofs.Common.{◌≡◌, ◌≢◌, ℕ, zero, suc, ◌+◌, ◌-◌, ◌<◌, ◌≤◌, Bool, true, false, List, [], ◌∷◌, ◌++◌, ◌⊎◌, inl, inr, ⊎_elim, refl, sym, subst, ap, ◌∙◌, arith, eqb, ◌&&◌}
+use Rattle.std.proofs.Common.{◌≡◌, ◌≢◌, ℕ, ◌<◌, Bool, true, false, List, [], ◌∷◌, ◌++◌, ◌⊎◌, inl, inr, refl, sym, subst, ap, ◌∙◌, arith, ◌&&◌}
 use Rattle.std.specs.Prelude.{Option, Some, None, nat_lt, if◌then◌else◌}
 use Rattle.sched_core.specs.declared.Status.{Status}
 use Rattle.sched_core.specs.declared.Status.TheVariants.{Unclaimed, Claimed, Done, Failed, Stolen}
 use Rattle.sched_core.specs.declared.Event.{Event}
-use Rattle.sched_core.specs.declared.Event.TheVariants.{Claim, Look, Borrow, Release, Steal, Publish, Fail, Draw}
-use Rattle.sched_core.specs.Plan.{Plan, IsLawful, has, next_need, Reads}
-use Rattle.sched_core.specs.State.{State, Entry, queries_of, next_of_top, settled, done, untouched, is, AllSeen, WaitFits, Legal}
-use Rattle.sched_core.specs.Good.{Good, Stands, Chained, GivenSeen, Borrows}
+use Rattle.sched_core.specs.declared.Event.TheVariants.{Claim, Look, Borrow, Release, Steal, Publish, Draw}
+use Rattle.sched_core.specs.Plan.{Plan, IsLawful, has, next_need}
+use Rattle.sched_core.specs.State.{State, Entry, queries_of, next_of_top, untouched, is, AllSeen, Legal}
+use Rattle.sched_core.specs.Good.{Good, Chained}
 use Rattle.sched_core.specs.State.{all_given, seen_if, all_seen, is_stolen}
-use Rattle.sched_core.specs.Turn.{drawing, turn_empty, ending, turn_top, turn_free, turn_of, turn, Useful}
-use Rattle.sched_core.proofs.Lists.{bool_tells, next_stands, next_in, next_out, next_none, next_last, nat_cases, has_snoc}
-use Rattle.sched_core.proofs.Parts.{root_done}
-use Rattle.sched_core.proofs.Steals.{not_own, top_claimed}
+use Rattle.sched_core.specs.Turn.{drawing, turn_empty, ending, turn_top, turn_free, turn_of, turn}
+use Rattle.sched_core.proofs.Lists.{bool_tells, next_stands, next_in, next_last, has_snoc}
 use Rattle.sched_core.proofs.Waiting.{top_least, read_is_done, stolen_is_free}
 use Rattle.std.proofs.lemmas.Bool.Decides.{nat_tests}
 

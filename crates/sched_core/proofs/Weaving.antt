@@ -1,14 +1,13 @@
 -- What each call of a weave needs and leaves.
-use Rattle.std.proofs.Common.{◌≡◌, ◌≢◌, ℕ, zero, suc, ◌+◌, ◌-◌, ◌<◌, ◌≤◌, Bool, true, false, List, [], ◌∷◌, ◌++◌, length, ◌⊎◌, inl, inr, refl, sym, subst, ap, ◌∙◌, arith, slice_index_or, slice_set}
+use Rattle.std.proofs.Common.{◌≡◌, ◌≢◌, ℕ, zero, suc, ◌+◌, ◌-◌, ◌<◌, ◌≤◌, true, List, [], ◌∷◌, ◌++◌, length, refl, sym, subst, ap, ◌∙◌, arith, slice_index_or, slice_set}
 use Rattle.std.specs.Prelude.{Option, Some, None, IfSome, Vec, slice_get, replicate, is_some, option_to_list, Result, Ok, Err, OnOk}
-use Rattle.sched_core.specs.declared.Status.TheVariants.{Unclaimed, Claimed, Done, Failed, Stolen}
 use Rattle.sched_core.specs.declared.Event.{Event}
-use Rattle.sched_core.specs.declared.Event.TheVariants.{Claim, Look, Borrow, Release, Steal, Publish, Fail, Draw}
+use Rattle.sched_core.specs.declared.Event.TheVariants.{Release, Publish}
 use Rattle.sched_core.specs.declared.state.Standing.{Standing}
 use Rattle.sched_core.specs.declared.state.Core.{Core}
 use Rattle.sched_core.specs.Plan.{Plan, IsLawful, has, next_need}
-use Rattle.sched_core.specs.State.{State, Entry, Legal, next, next_of_top, after, on_top, published_by, done, start, MayPublish}
-use Rattle.sched_core.specs.Good.{Good, Borrows}
+use Rattle.sched_core.specs.State.{State, Entry, next, next_of_top, after, on_top, published_by, done, start, MayPublish}
+use Rattle.sched_core.specs.Good.{Good}
 use Rattle.sched_core.specs.Turn.{turn, moved}
 use Rattle.sched_core.specs.Work.{trail_of, trail_from}
 use Rattle.sched_core.specs.Shown.{state_of, stack_of, row_at, Ready, Says, IsTold, GoodFor}

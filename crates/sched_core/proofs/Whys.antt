@@ -1,12 +1,11 @@
 -- The reasons as the code finds them.
-use Rattle.std.proofs.Common.{◌≡◌, ◌≢◌, ℕ, zero, suc, ◌+◌, ◌<◌, ◌≤◌, Bool, true, false, List, [], ◌∷◌, ◌++◌, length, refl, sym, subst, ap, ◌∙◌, arith, ◌&&◌}
+use Rattle.std.proofs.Common.{◌≡◌, ℕ, ◌<◌, Bool, true, false, List, [], ◌∷◌, ◌++◌, sym, subst, ap, ◌∙◌, arith, ◌&&◌}
 use Rattle.std.specs.Prelude.{Option, Some, None, IfSome, if◌then◌else◌}
 use Rattle.sched_core.specs.declared.Why.{Why}
 use Rattle.sched_core.specs.declared.Why.TheVariants as w
 use Rattle.sched_core.specs.Plan.{Plan, IsLawful, has, next_need}
 use Rattle.sched_core.specs.State.{State, Entry, is, next, next_of_top}
 use Rattle.sched_core.specs.Good.{Good}
-use Rattle.sched_core.specs.State.{all_seen}
 use Rattle.sched_core.specs.Turn.{ripe}
 use Rattle.sched_core.specs.Table.{or_else, unless, holds_none, taken, need_or, is_done, is_free, why_publish, why_borrow, why_steal}
 use Rattle.sched_core.proofs.Lists.{next_in}

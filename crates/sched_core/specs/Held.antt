@@ -1,5 +1,5 @@
 -- What a weave holds beside its core: the works and the answers, by query.
-use Rattle.std.specs.Prelude.{◌≡◌, ◌≢◌, ℕ, zero, suc, ◌<◌, Bool, true, false, List, [], ◌∷◌, Option, Some, None, length, slice_get, slice_set}
+use Rattle.std.specs.Prelude.{◌≡◌, ◌≢◌, ℕ, zero, suc, ◌<◌, true, List, [], ◌∷◌, Option, Some, None, length, slice_get, slice_set}
 use Rattle.sched_core.specs.declared.Status.TheVariants.{Claimed, Stolen, Failed}
 use Rattle.sched_core.specs.declared.state.Core.{Core}
 use Rattle.sched_core.specs.Plan.{Plan}

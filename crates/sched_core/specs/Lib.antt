@@ -7,3 +7,5 @@ pub mod Work
 pub mod Table
 pub mod Shown
 pub mod Held
+pub mod TestJobs
+pub mod TestLaws

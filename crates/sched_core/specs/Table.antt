@@ -1,12 +1,12 @@
 -- The first reason why an event is not legal.
-use Rattle.std.specs.Prelude.{◌≡◌, ◌≢◌, ℕ, zero, suc, ◌+◌, ◌<◌, ◌≤◌, Bool, true, false, ◌==◌, ◌||◌, ◌&&◌, nat_lt, List, [], ◌∷◌, Option, Some, None, if◌then◌else◌}
+use Rattle.std.specs.Prelude.{ℕ, zero, suc, Bool, true, false, ◌==◌, ◌||◌, ◌&&◌, nat_lt, List, [], ◌∷◌, Option, Some, None, if◌then◌else◌}
 use Rattle.sched_core.specs.declared.Status.{Status}
 use Rattle.sched_core.specs.declared.Status.TheVariants.{Unclaimed, Claimed, Done, Failed, Stolen}
 use Rattle.sched_core.specs.declared.Event.{Event}
 use Rattle.sched_core.specs.declared.Event.TheVariants.{Claim, Look, Borrow, Release, Steal, Publish, Fail, Draw}
 use Rattle.sched_core.specs.declared.Why.{Why}
 use Rattle.sched_core.specs.declared.Why.TheVariants as w
-use Rattle.sched_core.specs.Plan.{Plan, has, next_need}
+use Rattle.sched_core.specs.Plan.{Plan, next_need}
 use Rattle.sched_core.specs.State.{State, Entry, is, next, untouched}
 use Rattle.sched_core.specs.State.{all_seen, is_stolen}
 

@@ -1,10 +1,8 @@
 -- The turn of a worker: which event it does when it is its turn.
-use Rattle.std.specs.Prelude.{◌≡◌, ◌≢◌, ℕ, ◌+◌, ◌<◌, ◌≤◌, Bool, true, false, ◌==◌, ◌||◌, ◌&&◌, nat_lt, List, [], ◌∷◌, Option, Some, None, if◌then◌else◌, ◌⊎◌}
-use Rattle.sched_core.specs.declared.Status.{Status}
-use Rattle.sched_core.specs.declared.Status.TheVariants.{Unclaimed, Claimed, Done, Failed, Stolen}
+use Rattle.std.specs.Prelude.{◌≡◌, ℕ, Bool, true, false, ◌&&◌, nat_lt, List, [], ◌∷◌, Option, Some, None, if◌then◌else◌}
 use Rattle.sched_core.specs.declared.Event.{Event}
 use Rattle.sched_core.specs.declared.Event.TheVariants.{Claim, Look, Borrow, Release, Steal, Publish, Fail, Draw}
-use Rattle.sched_core.specs.Plan.{Plan, has, next_need, Reads}
+use Rattle.sched_core.specs.Plan.{Plan, next_need}
 use Rattle.sched_core.specs.State.{State, Entry, is, settled, untouched, is_stolen, all_seen, after}
 
 abbrev pub drawing : Plan → State → ℕ → Option Event

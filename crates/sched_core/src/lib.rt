@@ -19,6 +19,8 @@ mod loom;
 mod reasons;
 mod rows;
 mod state;
+#[cfg(test)]
+mod tests;
 mod turn;
 
 pub use laws::{
@@ -107,12 +109,15 @@ pub trait Jobs: Sync {
 /// What has become of a query.
 #[derive(Clone, Copy, Debug, PartialEq, Eq)]
 pub enum Status {
+    /// No worker works at it, and it has no answer.
     Unclaimed,
-    /// By this worker.
+    /// This worker answers it.
     Claimed(u32),
-    /// With so many borrowers.
+    /// It has an answer, with so many borrowers.
     Done(u32),
+    /// It was given up, and has no answer.
     Failed,
+    /// Its answer was taken away.
     Stolen,
 }
 
@@ -157,6 +162,8 @@ pub enum Why {
 /// An event that didn't happen, and the first reason.
 #[derive(Clone, Copy, Debug, PartialEq, Eq)]
 pub struct Illegal {
+    /// The event.
     pub event: Event,
+    /// The first reason against it.
     pub why: Why,
 }

@@ -15,6 +15,7 @@ use mir_syntax::{List, OutOfMemory};
 use std::alloc::Global;
 
 /// What a weave gives.
+#[derive(Drop)]
 pub struct Woven<A> {
     /// The roots' answers, in their order.
     pub answers: List<A>,

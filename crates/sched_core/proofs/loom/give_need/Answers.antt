@@ -1,5 +1,5 @@
-use Rattle.std.proofs.Common.{◌≡◌, ◌<◌, ℕ, zero, suc, ◌∷◌, ◌++◌, [], List, length, sym, ap, ◌∙◌, arith, slice_set}
-use Rattle.std.specs.Prelude.{Option, Some, None, slice_get}
+use Rattle.std.proofs.Common.{◌≡◌, ◌<◌, ℕ, zero, suc, ◌∷◌, ◌++◌, [], List, length, sym, ap, ◌∙◌, arith}
+use Rattle.std.specs.Prelude.{Option, Some, slice_get}
 use Rattle.sched_core.proofs.Listed.{item_at, set_twice}
 use Rattle.sched_core.proofs.loom.give_need.Goals as goal
 

@@ -1,5 +1,4 @@
-use Rattle.std.proofs.Common.{◌≡◌, ℕ, length, arith}
-use Rattle.std.specs.Prelude.{None, replicate}
+use Rattle.std.proofs.Common.{arith}
 use Rattle.sched_core.proofs.Weaving.{all_none}
 use Rattle.sched_core.proofs.loom.places.Goals as goal
 

@@ -1,5 +1,4 @@
-use Rattle.std.proofs.Common.{◌≡◌, ℕ, ◌∷◌, ◌++◌, [], List, length, sym, ap, ◌∙◌, subst, refl, arith}
-use Rattle.sched_core.specs.declared.state.Standing.{Standing}
+use Rattle.std.proofs.Common.{ap, ◌∙◌, subst, refl}
 use Rattle.sched_core.specs.Shown.{stack_of, has_given_room}
 use Rattle.sched_core.proofs.Listed.{room_last, given_last}
 use Rattle.sched_core.proofs.rows.give_top.Goals as goal

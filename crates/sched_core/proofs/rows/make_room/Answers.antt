@@ -1,4 +1,4 @@
-use Rattle.std.proofs.Common.{◌≡◌, ap, ◌∙◌, sym, subst, arith}
+use Rattle.std.proofs.Common.{ap, ◌∙◌, sym, subst}
 use Rattle.sched_core.specs.Shown.{stack_of, has_given_room}
 use Rattle.sched_core.proofs.Fields.{ready_more}
 use Rattle.sched_core.proofs.rows.make_room.Goals as goal

@@ -1,8 +1,5 @@
-use Rattle.std.proofs.Common.{◌≡◌, ℕ, ◌+◌, ◌<◌, ◌≤◌, ◌∷◌, ◌++◌, [], List, length, sym, ap, ◌∙◌, subst, refl, arith}
-use Rattle.std.specs.Prelude.{Option, Some, None, Vec, vec_len, vec_capacity}
+use Rattle.std.proofs.Common.{◌≡◌, ◌∷◌, ◌++◌, [], refl, arith}
 use Rattle.sched_core.specs.declared.state.Standing.{Standing}
-use Rattle.sched_core.specs.Plan.{Plan}
-use Rattle.sched_core.specs.Shown.{stack_of, has_given_room, Ready, Says}
 use Rattle.sched_core.proofs.Listed.{regrown, more_room, old_room}
 use Rattle.sched_core.proofs.Fields.{ready_more}
 use Rattle.sched_core.proofs.rows.make_top_room.Goals as goal

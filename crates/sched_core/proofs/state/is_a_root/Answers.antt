@@ -1,4 +1,4 @@
-use Rattle.std.proofs.Common.{◌≡◌, ℕ, ◌<◌, sym, ◌∙◌, arith}
+use Rattle.std.proofs.Common.{◌<◌, sym, ◌∙◌, arith}
 use Rattle.sched_core.proofs.Legality.{root_here}
 use Rattle.sched_core.proofs.state.is_a_root.Goals as goal
 

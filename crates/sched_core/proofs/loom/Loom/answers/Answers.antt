@@ -1,16 +1,8 @@
-use Rattle.std.proofs.Common.{◌≡◌, ◌≢◌, ℕ, zero, suc, ◌+◌, ◌-◌, ◌<◌, ◌≤◌, List, [], ◌∷◌, ◌++◌, Bool, true, false, length, ◌⊎◌, inl, inr, refl, sym, subst, ap, ◌∙◌, arith, slice_index_or, slice_set}
-use Rattle.std.specs.Prelude.{Option, Some, None, IfSome, IfOk, OnOk, slice_get}
-use Rattle.sched_core.specs.declared.Event.{Event}
-use Rattle.sched_core.specs.Plan.{Plan, IsLawful}
-use Rattle.sched_core.specs.State.{State, done}
-use Rattle.sched_core.specs.Turn.{turn, moved}
-use Rattle.sched_core.specs.Work.{trail_of, work_left}
-use Rattle.sched_core.specs.Shown.{state_of, GoodFor}
-use Rattle.sched_core.specs.Held.{Holds, Weaves, RootsStay, roots_answers}
-use Rattle.sched_core.proofs.Lists.{nat_cases}
+use Rattle.std.proofs.Common.{◌≡◌, ℕ, ◌+◌, ◌-◌, ◌<◌, List, ◌++◌, length, sym, ap, ◌∙◌, arith}
+use Rattle.std.specs.Prelude.{Option, Some, None, slice_get}
+use Rattle.sched_core.specs.Held.{roots_answers}
 use Rattle.sched_core.proofs.Listed.{item_at, set_length, set_else}
-use Rattle.sched_core.proofs.Rounds.{SoFar, so_far, roots_moved, round_less, moved_workers}
-use Rattle.sched_core.proofs.Weaving.{follow_step, follow_end, answers_more, answers_end, rest_of, start_weaves}
+use Rattle.sched_core.proofs.Weaving.{answers_more, answers_end}
 use Rattle.sched_core.proofs.loom.Loom.answers.Goals as goal
 
 is_answer : {A : Type 0} (xs : List (Option A)) (q r : ℕ) (o : Option A) (x y : A) → slice_get xs q ≡ slice_get xs r → slice_get xs q ≡ Some o → o ≡ Some x → slice_get xs r ≡ Some (Some y) → x ≡ y

@@ -1,12 +1,7 @@
-use Rattle.std.proofs.Common.{◌≡◌, ◌≢◌, ℕ, ◌+◌, ◌<◌, ◌≤◌, List, [], ◌∷◌, ◌++◌, Bool, true, false, length, refl, sym, subst, ap, ◌∙◌, arith, slice_index_or, slice_set}
-use Rattle.std.specs.Prelude.{Option, Some, None, IfSome, IfOk, OnOk, slice_get, is_some, drop}
-use Rattle.sched_core.specs.declared.Event.{Event}
-use Rattle.sched_core.specs.declared.Event.TheVariants.{Claim, Look, Borrow, Release, Steal, Publish, Fail, Draw}
-use Rattle.sched_core.specs.Plan.{Plan, IsLawful, next_need}
-use Rattle.sched_core.specs.State.{State, Entry, Legal, next, after, claimed_by}
-use Rattle.sched_core.specs.Turn.{turn, moved}
-use Rattle.sched_core.specs.Shown.{state_of, stack_of, row_at, IsTold, GoodFor}
-use Rattle.sched_core.specs.Held.{Holds, Weaves, without}
+use Rattle.std.proofs.Common.{◌≡◌, ℕ, List, [], ◌∷◌, refl, subst, ap, arith}
+use Rattle.sched_core.specs.declared.Event.TheVariants.{Claim, Borrow, Release, Steal, Publish}
+use Rattle.sched_core.specs.State.{Legal, after, claimed_by}
+use Rattle.sched_core.specs.Shown.{state_of}
 use Rattle.sched_core.proofs.Whys.{query_below}
 use Rattle.sched_core.proofs.Acts.{stack_at, no_top}
 use Rattle.sched_core.proofs.Holding.{hold_claim, hold_borrow, hold_steal}

@@ -1,16 +1,10 @@
-use Rattle.std.proofs.Common.{◌≡◌, ◌≢◌, ℕ, zero, suc, ◌+◌, ◌-◌, ◌<◌, ◌≤◌, List, [], ◌∷◌, ◌++◌, Bool, true, false, length, ◌⊎◌, inl, inr, refl, sym, subst, ap, ◌∙◌, arith, slice_index_or, slice_set}
-use Rattle.std.specs.Prelude.{Option, Some, None, IfSome, IfOk, OnOk, slice_get}
+use Rattle.std.proofs.Common.{◌≡◌, ℕ, ◌<◌, List, ◌++◌, length, refl, sym, subst, ap, ◌∙◌, arith}
 use Rattle.sched_core.specs.declared.Event.{Event}
-use Rattle.sched_core.specs.Plan.{Plan, IsLawful}
-use Rattle.sched_core.specs.State.{State, done}
-use Rattle.sched_core.specs.Turn.{turn, moved}
-use Rattle.sched_core.specs.Work.{trail_of, work_left}
-use Rattle.sched_core.specs.Shown.{state_of, GoodFor}
-use Rattle.sched_core.specs.Held.{Holds, Weaves, RootsStay, roots_answers}
-use Rattle.sched_core.proofs.Lists.{nat_cases}
-use Rattle.sched_core.proofs.Listed.{item_at, set_length, set_else}
-use Rattle.sched_core.proofs.Rounds.{SoFar, so_far, roots_moved, round_less, moved_workers}
-use Rattle.sched_core.proofs.Weaving.{follow_step, follow_end, answers_more, answers_end, rest_of, start_weaves}
+use Rattle.sched_core.specs.State.{State}
+use Rattle.sched_core.specs.Work.{trail_of}
+use Rattle.sched_core.specs.Shown.{state_of}
+use Rattle.sched_core.proofs.Rounds.{moved_workers}
+use Rattle.sched_core.proofs.Weaving.{follow_step, follow_end}
 use Rattle.sched_core.proofs.loom.Loom.follow.Goals as goal
 
 below_as : (x n m : ℕ) → m ≡ n → x < n → x < m

@@ -1,8 +1,6 @@
-use Rattle.std.proofs.Common.{◌≡◌, ◌≢◌, ℕ, ◌<◌, length, refl, sym, subst, ap, ◌∙◌, arith}
-use Rattle.std.specs.Prelude.{Option, Some, None}
-use Rattle.sched_core.specs.declared.Event.{Event}
+use Rattle.std.proofs.Common.{◌≡◌, ◌<◌, length, sym, subst, ap, ◌∙◌}
+use Rattle.std.specs.Prelude.{Some}
 use Rattle.sched_core.specs.declared.state.Core.{Core}
-use Rattle.sched_core.specs.Plan.{Plan}
 use Rattle.sched_core.specs.State.{State, Legal, after}
 use Rattle.sched_core.specs.Turn.{turn}
 use Rattle.sched_core.specs.Shown.{state_of, IsTold, worker_of}

@@ -1,13 +1,10 @@
-use Rattle.std.proofs.Common.{◌≡◌, ℕ, ◌+◌, ◌-◌, ◌<◌, ◌≤◌, List, [], ◌∷◌, length, refl, sym, subst, ap, ◌∙◌, arith, slice_index_or, Fits, w32}
-use Rattle.std.specs.Prelude.{Option, Some, None, slice_get, Vec}
+use Rattle.std.proofs.Common.{◌≡◌, ℕ, ◌+◌, ◌-◌, [], ◌∷◌, sym, subst, ap, arith}
 use Rattle.sched_core.specs.declared.Event.{Event}
-use Rattle.sched_core.specs.declared.Event.TheVariants.{Claim, Look, Borrow, Release, Steal, Publish, Fail, Draw}
-use Rattle.sched_core.specs.declared.state.Standing.{Standing}
+use Rattle.sched_core.specs.declared.Event.TheVariants.{Claim, Borrow, Release, Publish, Fail}
 use Rattle.sched_core.specs.declared.state.Core.{Core}
-use Rattle.sched_core.specs.Plan.{Plan, IsLawful}
-use Rattle.sched_core.specs.State.{State, Entry, Legal}
-use Rattle.sched_core.specs.Shown.{state_of, stack_of, row_at, IsTold, GoodFor, Happens, worker_of}
-use Rattle.sched_core.proofs.Listed.{item_at}
+use Rattle.sched_core.specs.Plan.{Plan}
+use Rattle.sched_core.specs.State.{Legal}
+use Rattle.sched_core.specs.Shown.{state_of, IsTold, Happens, worker_of}
 use Rattle.sched_core.proofs.Whys.{query_below}
 use Rattle.sched_core.proofs.Acts.{stack_at, no_top, claim_room, release_room, count_most, lent}
 use Rattle.sched_core.proofs.state.Core.act.Goals as goal

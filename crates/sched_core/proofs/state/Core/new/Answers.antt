@@ -1,4 +1,4 @@
-use Rattle.std.proofs.Common.{◌≡◌, ◌≤◌, refl}
+use Rattle.std.proofs.Common.{refl}
 use Rattle.sched_core.specs.declared.state.Core.{Core}
 use Rattle.sched_core.proofs.Fresh.{fresh_state, fresh_good}
 use Rattle.sched_core.proofs.state.Core.new.Goals as goal

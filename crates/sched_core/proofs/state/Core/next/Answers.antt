@@ -1,9 +1,9 @@
-use Rattle.std.proofs.Common.{◌≡◌, ℕ, ◌+◌, ◌<◌, List, [], ◌∷◌, length, sym, ap, subst, ◌∙◌, refl, arith, slice_index_or, Bool, true, false}
+use Rattle.std.proofs.Common.{◌≡◌, ℕ, ◌<◌, List, ◌∷◌, length, sym, ap, subst, ◌∙◌, arith, slice_index_or}
 use Rattle.std.specs.Prelude.{Option, Some, None, slice_get, Vec}
 use borrow.Author.Tests.{eqb-true, eqb-false}
 use Rattle.sched_core.specs.declared.state.Standing.{Standing}
 use Rattle.sched_core.specs.Plan.{Plan, next_need}
-use Rattle.sched_core.specs.State.{State, Entry, next, next_of_top}
+use Rattle.sched_core.specs.State.{Entry, next, next_of_top}
 use Rattle.sched_core.specs.Shown.{state_of, stack_of, row_at}
 use Rattle.sched_core.proofs.Listed.{item_at, item_or, next_empty, next_full, stack_full}
 use Rattle.sched_core.proofs.state.Core.next.Goals as goal

@@ -1,6 +1,6 @@
-use Rattle.std.proofs.Common.{◌≡◌, ◌≢◌, ℕ, ◌<◌, true, false, length, refl, ap, ◌∙◌, arith, slice_index_or}
+use Rattle.std.proofs.Common.{◌≡◌, ◌≢◌, ℕ, false, ap, arith}
 use Rattle.sched_core.specs.declared.Status.{Status}
-use Rattle.sched_core.specs.declared.Status.TheVariants.{Unclaimed, Claimed, Done, Failed, Stolen}
+use Rattle.sched_core.specs.declared.Status.TheVariants.{Unclaimed, Claimed, Failed}
 use Rattle.sched_core.specs.State.{settled}
 use Rattle.sched_core.proofs.Acts.{status_at}
 use Rattle.sched_core.proofs.state.Core.put_look.Goals as goal

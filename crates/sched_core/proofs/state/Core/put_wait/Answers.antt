@@ -1,11 +1,9 @@
-use Rattle.std.proofs.Common.{◌≡◌, ◌≢◌, ◌<◌, ◌+◌, ◌-◌, true, false, ℕ, List, [], ◌∷◌, ◌++◌, length, sym, ap, ◌∙◌, refl, subst, arith, slice_index_or, slice_set, Bool}
-use Rattle.std.specs.Prelude.{Option, Some, None, slice_get, Vec}
-use Rattle.sched_core.specs.declared.Status.TheVariants.{Unclaimed, Claimed, Done, Failed, Stolen}
-use Rattle.sched_core.specs.State.{upd, Entry, below_top, give, borrowed_more, borrowed_less, on_top, published_by, failed_by, saw}
-use Rattle.sched_core.specs.Plan.{next_need}
-use Rattle.sched_core.specs.Shown.{state_of, stack_of, row_at, Ready}
-use Rattle.sched_core.proofs.Listed.{index_shown, set_length, get_shown, item_at, stack_push}
-use Rattle.sched_core.proofs.Fields.{moved, pair_else, pair_put, rows_long, ready_empty, saw_settled, saw_waits}
+use Rattle.std.proofs.Common.{false, length, sym, ◌∙◌, arith, slice_index_or}
+use Rattle.std.specs.Prelude.{Some, None, slice_get}
+use Rattle.sched_core.specs.declared.Status.TheVariants.{Unclaimed}
+use Rattle.sched_core.specs.Shown.{state_of, stack_of, row_at}
+use Rattle.sched_core.proofs.Listed.{index_shown, set_length}
+use Rattle.sched_core.proofs.Fields.{saw_waits}
 use Rattle.sched_core.proofs.state.Core.put_wait.Goals as goal
 
 pub returns : goal.returns

@@ -1,5 +1,4 @@
-use Rattle.std.proofs.Common.{◌≡◌, sym, ◌∙◌}
-use Rattle.std.specs.Prelude.{None}
+use Rattle.std.proofs.Common.{sym, ◌∙◌}
 use Rattle.sched_core.specs.Shown.{state_of}
 use Rattle.sched_core.proofs.Legality.{no_reason_legal}
 use Rattle.sched_core.proofs.Acts.{happens_good}

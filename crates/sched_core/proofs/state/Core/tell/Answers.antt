@@ -1,13 +1,13 @@
-use Rattle.std.proofs.Common.{◌≡◌, ◌≢◌, ℕ, ◌+◌, ◌<◌, List, [], ◌∷◌, length, refl, sym, subst, ap, ◌∙◌, arith, slice_index_or, slice_set}
+use Rattle.std.proofs.Common.{◌≡◌, ℕ, ◌<◌, List, ◌∷◌, length, sym, subst, ap, ◌∙◌, arith, slice_index_or, slice_set}
 use Rattle.std.specs.Prelude.{Option, Some, None, slice_get}
 use Rattle.std.proofs.Common.{Vec, Global}
 use Rattle.sched_core.specs.declared.Status.TheVariants.{Unclaimed}
 use Rattle.sched_core.specs.declared.state.Standing.{Standing}
 use Rattle.sched_core.specs.declared.state.Core.{Core}
-use Rattle.sched_core.specs.Plan.{Plan, next_need}
-use Rattle.sched_core.specs.State.{State, Entry, next, next_of_top}
+use Rattle.sched_core.specs.Plan.{Plan}
+use Rattle.sched_core.specs.State.{Entry, next, next_of_top}
 use Rattle.sched_core.specs.Good.{Good}
-use Rattle.sched_core.specs.Shown.{state_of, stack_of, row_at, Ready, Says, IsTold, GoodFor}
+use Rattle.sched_core.specs.Shown.{state_of, stack_of, row_at, Ready}
 use Rattle.sched_core.proofs.Listed.{item_at, set_length, get_kept, index_same, index_else}
 use Rattle.sched_core.proofs.Fields.{pair_put, row_put, says_of}
 use Rattle.sched_core.proofs.state.Core.tell.Goals as goal

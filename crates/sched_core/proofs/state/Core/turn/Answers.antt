@@ -1,7 +1,6 @@
-use Rattle.std.proofs.Common.{◌≡◌, ℕ, ◌<◌, List, [], ◌∷◌, length, refl, sym, subst, ap, ◌∙◌, arith, slice_index_or}
-use Rattle.std.specs.Prelude.{Option, Some, None, IfSome, slice_get}
-use Rattle.sched_core.specs.Shown.{state_of, row_at}
-use Rattle.sched_core.specs.Turn.{ended}
+use Rattle.std.proofs.Common.{◌<◌, [], ◌∷◌, length, refl, sym, subst, ap, ◌∙◌, arith, slice_index_or}
+use Rattle.std.specs.Prelude.{Some, None, IfSome}
+use Rattle.sched_core.specs.Shown.{state_of}
 use Rattle.sched_core.proofs.Acts.{stack_at, root_below}
 use Rattle.sched_core.proofs.Whys.{query_below, need_below, steals_below}
 use Rattle.sched_core.proofs.Taking.{index_is, empty_is, need_is, end_is}

@@ -1,8 +1,5 @@
-use Rattle.std.proofs.Common.{◌≡◌, ℕ, ◌<◌, sym, ap, ◌∙◌, refl, subst, slice_index_or}
-use Rattle.std.specs.Prelude.{Option, Some, None, IfSome}
-use Rattle.sched_core.specs.Plan.{Plan, IsLawful}
-use Rattle.sched_core.specs.State.{State}
-use Rattle.sched_core.specs.Good.{Good}
+use Rattle.std.proofs.Common.{◌<◌, refl, slice_index_or}
+use Rattle.std.specs.Prelude.{None, IfSome}
 use Rattle.sched_core.specs.Shown.{state_of}
 use Rattle.sched_core.proofs.Acts.{root_below}
 use Rattle.sched_core.proofs.state.Core.why.Goals as goal

@@ -1,7 +1,6 @@
-use Rattle.std.proofs.Common.{◌≡◌, ℕ, ◌+◌, ◌-◌, ◌<◌, true, false, List, [], ◌∷◌, length, sym, ap, ◌∙◌, refl, arith, slice_index_or, zero, suc, inl, inr}
+use Rattle.std.proofs.Common.{◌≡◌, ℕ, ◌<◌, true, false, List, ◌∷◌, length, sym, ap, ◌∙◌, refl, arith, slice_index_or, inl, inr}
 use Rattle.std.specs.Prelude.{if◌then◌else◌, ◌&&◌, ◌⊎◌, Bool, Option, Some, None, slice_get, Vec, unwrap_or}
 use Rattle.sched_core.specs.declared.state.Standing.{Standing}
-use Rattle.sched_core.specs.declared.Why.TheVariants as whys
 use Rattle.sched_core.specs.State.{Entry}
 use Rattle.sched_core.specs.Table.{need_or}
 use Rattle.sched_core.specs.Shown.{state_of, stack_of, row_at}

@@ -1,0 +1,94 @@
+use crate::run_quiet;
+use mir_syntax::List;
+use pipe_io::{FaultySink, FaultySource, PlainSink, PlainSource};
+use std::test::Fail;
+
+const RETURNS: &[u8] =
+    b"fn f() -> () {\n    let mut _0: ();\n\n    bb0: {\n        return;\n    }\n}\n";
+
+const LOOPS: &[u8] =
+    b"fn l() -> () {\n    let mut _0: ();\n\n    bb0: {\n        goto -> bb1;\n    }\n\n    bb1: {\n        goto -> bb1;\n    }\n}\n";
+
+const SKIPS: &[u8] =
+    b"fn g() -> i32 { let mut _0: i32; bb0: { goto -> bb2; } bb1: { unreachable; } bb2: { _0 = const 4_i32; return; } }";
+
+const SKIPPED: &[u8] =
+    b"fn g() -> i32 {\n    let mut _0: i32;\n\n    bb0: {\n        _0 = const 4_i32;\n        return;\n    }\n}\n";
+
+fn words(rt: &HostRuntime, word: &str) -> Result<Vec<String>, Fail> {
+    let mut words = Vec::new(rt.alloc());
+    words.push(format!(in rt.alloc(); "{word}")?)?;
+    Ok(words)
+}
+
+fn list(rt: &HostRuntime, bytes: &[u8]) -> Result<List<u8>, Fail> {
+    let mut list = List::new(rt.alloc());
+    list.extend(bytes)?;
+    Ok(list)
+}
+
+#[test]
+fn answers_by_words_and_input(rt: HostRuntime) -> Result<(), Fail> {
+    let refused = b"fn f() -> () {".as_slice();
+    let none = b"".as_slice();
+    for (word, input, status, out, line) in [
+        ("seq", RETURNS, 0, RETURNS, none),
+        ("seq", LOOPS, 0, LOOPS, none),
+        ("seq", SKIPS, 0, SKIPPED, none),
+        ("seq", refused, 1, none, b"S16\n".as_slice()),
+        ("sq", RETURNS, 2, none, b"word 1\n".as_slice()),
+    ] {
+        let words = words(&rt, word)?;
+        let mut source = PlainSource::new(list(&rt, input)?);
+        let mut sink = PlainSink::new(rt.alloc());
+        let mut notes = PlainSink::new(rt.alloc());
+        let told = run_quiet(
+            rt.alloc(),
+            words.as_slice(),
+            &mut source,
+            &mut sink,
+            &mut notes,
+        );
+        assert_eq!(rt; told, status);
+        assert!(rt; sink.bytes() == out);
+        assert!(rt; notes.bytes() == line);
+    }
+    Ok(())
+}
+
+#[test]
+fn tells_faults(rt: HostRuntime) -> Result<(), Fail> {
+    let words = words(&rt, "seq")?;
+    let mut fails = List::new(rt.alloc());
+    fails.push(2)?;
+    let mut source = PlainSource::new(list(&rt, RETURNS)?);
+    let mut sink = FaultySink::new(rt.alloc(), fails, 1);
+    let mut notes = PlainSink::new(rt.alloc());
+    let told = run_quiet(
+        rt.alloc(),
+        words.as_slice(),
+        &mut source,
+        &mut sink,
+        &mut notes,
+    );
+    assert_eq!(rt; told, 4);
+    assert!(rt; sink.bytes() == b"fn".as_slice());
+    assert!(rt; notes.bytes() == b"write fault\n".as_slice());
+
+    let mut fails = List::new(rt.alloc());
+    fails.push(0)?;
+    let mut source = FaultySource::new(list(&rt, RETURNS)?, fails);
+    let mut sink = PlainSink::new(rt.alloc());
+    let mut notes = PlainSink::new(rt.alloc());
+    let told = run_quiet(
+        rt.alloc(),
+        words.as_slice(),
+        &mut source,
+        &mut sink,
+        &mut notes,
+    );
+    assert_eq!(rt; told, 3);
+    assert!(rt; sink.bytes().is_empty());
+    assert!(rt; notes.bytes() == b"read fault\n".as_slice());
+    Ok(())
+}
