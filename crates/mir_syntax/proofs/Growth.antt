@@ -1,5 +1,5 @@
 -- A table that grows changes nothing of what was in it: types, bodies and the crate are what they were.
-use Rattle.std.proofs.Common.{IsTrue, ◌≡◌, ℕ, suc, zero, ◌+◌, ◌<◌, ◌≤◌, ◌⊎◌, inl, inr, Bool, true, nat_lt, ◌&&◌, List, [], ◌∷◌, ◌++◌, map, length, slice_get, Some, refl, sym, ap, ap₂, ◌∙◌, arith, rules, append_assoc, append-nil, length-append, subst}
+use Rattle.std.proofs.Common.{IsTrue, ◌≡◌, ℕ, ◌<◌, ◌≤◌, inl, inr, Bool, nat_lt, List, [], ◌∷◌, ◌++◌, map, length, slice_get, Some, refl, sym, ap, ap₂, ◌∙◌, arith, rules, append-nil, length-append}
 use Rattle.std.specs.List.{list_all}
 use Rattle.mir_syntax.specs.declared.types.TyId.{TyId}
 use Rattle.mir_syntax.specs.declared.types.Ty.{Ty}
@@ -15,11 +15,11 @@ use Rattle.mir_syntax.specs.declared.body.Block.{Block}
 use Rattle.mir_syntax.specs.declared.body.Body.{Body}
 use Rattle.mir_syntax.specs.declared.body.Function.{Function}
 use Rattle.mir_syntax.specs.declared.program.Program.{Program}
-use Rattle.mir_syntax.specs.Tree.{Tree, at_id, node, trees_from, trees_of, Extends}
+use Rattle.mir_syntax.specs.Tree.{Tree, at_id, node, trees_of, Extends}
 use Rattle.mir_syntax.specs.Table.{IsTable, Grows, all_below, ids_below}
 use Rattle.mir_syntax.specs.Ids.{rvalue_below, stmt_below, block_below, body_below, function_below, field_below, variant_below, def_below, outside_below, BodyInTable, IdsInTable}
-use Rattle.mir_syntax.specs.Crate.{TypedField, TypedVariant, TypedDef, TypedOutside, TypedBlock, TypedBody, TypedStmt, TypedRvalue, TypedFunction, Crate, cast, assign, field_of, variant_of, def_of, outside_of, rvalue_of, stmt_of, block_of, body_of, function_of, crate_of}
-use Rattle.mir_syntax.proofs.Trees.{trees_from-append, trees_from-front, trees_of-more, length-trees_of, at_id-front, node-front, Stands-at, at_id-node}
+use Rattle.mir_syntax.specs.Crate.{TypedField, TypedVariant, TypedDef, TypedOutside, TypedBlock, TypedBody, TypedStmt, TypedFunction, Crate, cast, assign, field_of, variant_of, def_of, outside_of, rvalue_of, stmt_of, block_of, body_of, function_of, crate_of}
+use Rattle.mir_syntax.proofs.Trees.{trees_from-append, trees_from-front, length-trees_of, at_id-front, node-front, at_id-node}
 
 -- ---- tests on each item of a list
 

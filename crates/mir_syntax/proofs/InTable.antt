@@ -1,5 +1,5 @@
 -- What is read of a program whose ids lie in its table lies there too.
-use Rattle.std.proofs.Common.{IsTrue, ◌≡◌, ℕ, suc, zero, ◌<◌, ◌≤◌, nat_lt, Bool, List, [], ◌∷◌, length, slice_get, Option, Some, None, IfSome, Bor, option_copied, refl, sym, ap, ◌∙◌, arith, rules}
+use Rattle.std.proofs.Common.{IsTrue, ◌≡◌, ℕ, suc, zero, ◌<◌, Bool, List, [], ◌∷◌, length, slice_get, Option, Some, None, IfSome, Bor, option_copied, sym, arith, rules}
 use Rattle.std.specs.List.{list_all}
 use Rattle.std.specs.Option.{option_map}
 use Rattle.mir_syntax.specs.declared.types.TyId.{TyId}

@@ -1,5 +1,5 @@
 -- Laws of the types of places.
-use Rattle.std.proofs.Common.{◌≡◌, ℕ, suc, zero, ◌+◌, ◌<◌, ◌≤◌, ◌⊎◌, inl, inr, Bool, true, false, cond, List, [], ◌∷◌, ◌++◌, map, length, get_or, slice_get, Option, Some, None, MatchOption, option_copied, Bor, refl, sym, ap, ◌∙◌, arith, rules}
+use Rattle.std.proofs.Common.{◌≡◌, ℕ, suc, zero, ◌+◌, ◌<◌, ◌≤◌, ◌⊎◌, inl, inr, Bool, true, false, cond, List, [], ◌∷◌, map, length, slice_get, Option, Some, None, MatchOption, option_copied, Bor, refl, sym, ap, ◌∙◌, arith}
 use Rattle.std.specs.Option.{option_map, unwrap_or}
 use Rattle.std.proofs.lemmas.Option.{slice_get-map, slice_get_past, unwrap_or-slice_get}
 use Rattle.mir_syntax.specs.declared.types.TyId.{TyId}
@@ -15,8 +15,8 @@ use Rattle.mir_syntax.specs.declared.body.Proj.TheVariants as proj
 use Rattle.mir_syntax.specs.declared.body.Place.{Place}
 use Rattle.mir_syntax.specs.declared.program.Program.{Program}
 use Rattle.mir_syntax.specs.Tree.{Tree, scalar, empty, more, ref, ref_mut, named, tuple_of, at_id, at_ids, node, trees_of}
-use Rattle.mir_syntax.specs.Crate.{TypedDef, TypedFunction, TypedVariant, field_of, variant_of, def_of, crate_of}
-use Rattle.mir_syntax.specs.Shapes.{Shape, shapes_of, shapes_from, shape_of, fields_tuple, fields_tree, field_id, field_ty_of, fields_of, fields_of_struct, struct_fields, first_variant, field_ty, variant_ty, variant_of_enum, pointee, proj_ty, path_ty, ends_in_downcast, whole_path_ty, whole_place_ty, ◌>>=◌}
+use Rattle.mir_syntax.specs.Crate.{TypedDef, TypedFunction, field_of, variant_of, def_of, crate_of}
+use Rattle.mir_syntax.specs.Shapes.{Shape, shapes_of, shapes_from, shape_of, fields_tuple, fields_tree, field_id, field_ty_of, fields_of, first_variant, field_ty, variant_ty, pointee, proj_ty, ends_in_downcast, whole_path_ty, whole_place_ty, ◌>>=◌}
 use Rattle.mir_syntax.proofs.Trees.{length-trees_of, at_id-node}
 
 slice_get-none : {X : Type 0} (xs : List X) (k : ℕ) → slice_get xs k ≡ None → length xs ≤ k

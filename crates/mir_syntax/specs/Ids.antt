@@ -1,7 +1,6 @@
 -- The ids that a body or a program holds lie in a table: each of them stands for a type.
 use Rattle.std.specs.Prelude.{ℕ, Bool, true, nat_lt, ◌&&◌, IsTrue, List, length}
 use Rattle.std.specs.List.{list_all}
-use Rattle.mir_syntax.specs.declared.types.TyId.{TyId}
 use Rattle.mir_syntax.specs.declared.types.Ty.{Ty}
 use Rattle.mir_syntax.specs.declared.types.Field.{Field}
 use Rattle.mir_syntax.specs.declared.types.Variant.{Variant}

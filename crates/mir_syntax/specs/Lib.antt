@@ -5,3 +5,4 @@ pub mod Tree
 pub mod Crate
 pub mod Ids
 pub mod Shapes
+pub mod Drops

@@ -4,10 +4,10 @@ use Rattle.std.specs.Prelude.{ℕ, zero, suc, Bool, true, false, ◌&&◌, ◌||
 use Rattle.mir_syntax.specs.declared.body.Proj.{Proj}
 use Rattle.mir_syntax.specs.declared.body.Proj.TheVariants.{Field, Downcast, Deref}
 use Rattle.mir_syntax.specs.declared.body.Place.{Place}
-use Rattle.mir_syntax.specs.Tree.{Tree, scalar, empty, more, ref, ref_mut, named, tuple_of}
+use Rattle.mir_syntax.specs.Tree.{Tree, empty, more, ref, ref_mut, named, tuple_of}
 use Rattle.mir_syntax.specs.declared.types.TyId.{TyId}
 use Rattle.mir_syntax.specs.declared.types.Field.{Field as SyntaxField}
-use Rattle.mir_syntax.specs.Crate.{field_of, TypedField, TypedVariant, TypedDef, TypedBody, TypedFunction, Crate}
+use Rattle.mir_syntax.specs.Crate.{field_of, TypedField, TypedVariant, TypedDef, TypedFunction, Crate}
 
 -- a struct has one variant; of each variant the tuple of its fields' types; the number of the function that is its destructor
 pub record Shape : Type 0 where

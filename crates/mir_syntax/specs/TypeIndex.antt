@@ -1,6 +1,6 @@
 -- How a type is found in the table without a walk over it: types with equal hashes stand in one chain.
 -- It is kept behind the table, and no contract that callers see speaks of it.
-use Rattle.std.specs.Prelude.{◌≡◌, ℕ, zero, suc, ◌+◌, ◌%◌, ◌<◌, ◌≤◌, Bool, cond, nat_eq, List, [], ◌∷◌, map, length, fold, slice_index, slice_index_or}
+use Rattle.std.specs.Prelude.{◌≡◌, ℕ, zero, suc, ◌%◌, ◌<◌, ◌≤◌, Bool, cond, nat_eq, List, [], ◌∷◌, map, length, fold, slice_index}
 use Rattle.std.specs.Hash as fed
 use Rattle.std.specs.Hash.FoldHasher as hashing
 use Rattle.std.specs.declared.hash.FoldHasher.{FoldHasher}

@@ -3,13 +3,15 @@
 //! Everything else stands on this crate. Contracts see a `Program` through `crate_of` (`specs/Crate.antt`), in which each id is replaced
 //! by the type that it stands for (`specs/Tree.antt`), so the order of the table is no part of a program. The main contracts are
 //! `Program::intern` and `Program::ty` (equal types have one id, and an id keeps its type), `Program::place_ty` (the type of a place,
-//! by `specs/Shapes.antt`) and `Body::copy` (an equal body).
+//! by `specs/Shapes.antt`), `Program::needs_drop` and `destructor` (what validation found, `specs/Drops.antt`) and `Body::copy`
+//! (an equal body).
 #![tactic(auto)]
 
 ghost use Rattle.std.specs.Prelude.{◌≡◌};
 
 mod body;
 mod copied;
+mod drops;
 mod intern;
 mod lines;
 mod list;
@@ -26,6 +28,7 @@ pub use body::{
     Stmt, Term, UnOp,
 };
 pub use copied::Copied;
+pub use drops::DropFacts;
 pub use lines::{BlockLines, FnLines, Lines};
 pub use list::List;
 pub use number::Number;

@@ -1,4 +1,4 @@
-ghost use Rattle.std.specs.Prelude.{◌≡◌, ℕ, ◌⊎◌, [], ◌+◌, ◌-◌, ◌^◌, ◌<◌, length, slice_get, option_copied, Some, IfOk, OnOk, OnErr};
+ghost use Rattle.std.specs.Prelude.{◌≡◌, ℕ, ◌⊎◌, [], ◌+◌, ◌-◌, ◌^◌, ◌<◌, length, slice_get, option_copied, Some, IfOk, MatchOption, OnOk, OnErr};
 ghost use Rattle.mir_syntax.specs.Table.{Grows};
 
 use crate::type_index::TypeIndex;
@@ -48,6 +48,16 @@ impl TypeTable {
         self.types.get(index)
     }
 
+    /// The place of the type.
+    pub fn find(&self, ty: &Ty) -> Option<u32>
+        requires { length self.now < 2 ^ 32 }
+        ensures { MatchOption result
+            ((k : ℕ) → slice_get self.now k ≡ Some ty.now → ⊥)
+            (λ at. slice_get self.now at ≡ Some ty.now) }
+    {
+        self.index.find(self.types.as_slice(), ty)
+    }
+
     /// The place of the type, which is put at the end where it stood nowhere.
     pub fn place(&mut self, ty: Ty) -> Result<u32, OutOfMemory>
         requires { length self.old < 2 ^ 32 - 1 }
@@ -56,7 +66,7 @@ impl TypeTable {
         ensures once { OnOk result ((self.new ≡ self.old) ⊎ ((k : ℕ) → slice_get self.old k ≡ Some ty → ⊥)) }
         ensures err { OnErr result (self.new ≡ self.old) }
     {
-        if let Some(at) = self.index.find(self.types.as_slice(), &ty) {
+        if let Some(at) = self.find(&ty) {
             return Ok(at);
         }
         let at = self.types.len();

@@ -1,4 +1,4 @@
-use Rattle.std.proofs.Common.{◌≡◌, ℕ, true, false, slice_get, Some, None, refl, sym, ap, ◌∙◌, arith, rules}
+use Rattle.std.proofs.Common.{sym, ap, ◌∙◌}
 use Rattle.mir_syntax.specs.Tree.{trees_of, at_id, node, named}
 use Rattle.mir_syntax.specs.Crate.{crate_of}
 use Rattle.mir_syntax.specs.Shapes.{shapes_of}

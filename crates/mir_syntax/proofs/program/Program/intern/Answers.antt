@@ -1,4 +1,4 @@
-use Rattle.std.proofs.Common.{◌≡◌, ◌<◌, length, arith, rules, refl}
+use Rattle.std.proofs.Common.{rules, refl}
 use Rattle.mir_syntax.specs.declared.program.Program.{Program}
 use Rattle.mir_syntax.specs.Table.{IsTable}
 use Rattle.mir_syntax.proofs.Trees.{slice_get-below}
@@ -21,7 +21,7 @@ pub returns-clause-same_crate : goal.returns-clause-same_crate
 returns-clause-same_crate c = λ h.
     let old = c.args.self.now in
     let table : IsTable c.place.new.self = search rules in
-    let new : Program = record { defs = old.defs; outsides = old.outsides; functions = old.functions; types = c.place.new.self; table = table } in
+    let new : Program = record { defs = old.defs; outsides = old.outsides; functions = old.functions; types = c.place.new.self; drops = old.drops; table = table } in
     crate_of-extends old new (Grows-Extends c.args.self.now.types c.place.new.self c.args.ty c.place.ensures.types) refl refl refl h
 
 pub returns-clause-in_table : goal.returns-clause-in_table

@@ -1,4 +1,4 @@
-use Rattle.std.proofs.Common.{◌≡◌, length, None, Some, sym, arith, rules}
+use Rattle.std.proofs.Common.{◌≡◌, None, sym, arith}
 use Rattle.std.proofs.lemmas.Grind.{common_steps}
 use Rattle.mir_syntax.specs.Tree.{trees_of, at_id}
 use Rattle.mir_syntax.specs.Crate.{crate_of}

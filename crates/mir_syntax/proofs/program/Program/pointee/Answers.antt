@@ -1,7 +1,5 @@
-use Rattle.std.proofs.Common.{◌≡◌, ℕ, true, false, slice_get, Some, None, refl, sym, ap, ◌∙◌, arith, rules}
-use Rattle.mir_syntax.specs.Tree.{trees_of, at_id, node}
-use Rattle.mir_syntax.specs.Crate.{crate_of}
-use Rattle.mir_syntax.specs.Shapes.{shapes_of}
+use Rattle.std.proofs.Common.{sym}
+use Rattle.mir_syntax.specs.Tree.{trees_of}
 use Rattle.mir_syntax.proofs.Places.{other-pointee}
 use Rattle.mir_syntax.proofs.program.Program.pointee.Goals as goal
 

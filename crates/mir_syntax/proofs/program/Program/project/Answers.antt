@@ -1,7 +1,7 @@
-use Rattle.std.proofs.Common.{◌≡◌, ℕ, true, false, slice_get, Some, None, refl, sym, ap, ◌∙◌, arith, rules}
+use Rattle.std.proofs.Common.{Some, sym, ap}
 use Rattle.std.specs.Option.{option_map}
 use Rattle.mir_syntax.specs.declared.body.Proj.TheVariants as proj
-use Rattle.mir_syntax.specs.Tree.{trees_of, at_id, node}
+use Rattle.mir_syntax.specs.Tree.{trees_of, at_id}
 use Rattle.mir_syntax.specs.Crate.{crate_of}
 use Rattle.mir_syntax.specs.Shapes.{shapes_of}
 use Rattle.mir_syntax.proofs.Places.{path-none, path-on, ends-deref, ends-field, path-variant, path-variant-none, path-downcast}

@@ -1,4 +1,4 @@
-use Rattle.std.proofs.Common.{◌≡◌, ℕ, true, false, slice_get, Some, None, refl, sym, ap, ◌∙◌, arith, rules}
+use Rattle.std.proofs.Common.{sym}
 use Rattle.mir_syntax.proofs.Places.{struct-none, struct-enum, struct-empty, struct-fields}
 use Rattle.mir_syntax.proofs.InTable.{variant-in-table}
 use Rattle.mir_syntax.proofs.program.Program.struct_fields.Goals as goal

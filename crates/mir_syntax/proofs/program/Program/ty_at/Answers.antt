@@ -1,4 +1,3 @@
-use Rattle.std.proofs.Common.{◌≡◌, ℕ, true, false, slice_get, Some, None, refl, sym, ap, ◌∙◌, arith, rules}
 use Rattle.mir_syntax.proofs.Places.{ty-read}
 use Rattle.mir_syntax.proofs.InTable.{ty-made}
 use Rattle.mir_syntax.proofs.program.Program.ty_at.Goals as goal
