@@ -1,0 +1,41 @@
+use crate::TypeText;
+use mir_syntax::{IntTy, List};
+
+/// A step of a place behind its local.
+#[derive(Debug, Drop)]
+pub enum ProjText {
+    /// `(* ..)`
+    Deref,
+    /// `(.. . number : type)`
+    Field(u32, TypeText),
+    /// `((.. as name) . number : type)`
+    VariantField(u32, u32, TypeText),
+}
+
+#[derive(Debug, Drop)]
+pub struct PlaceText {
+    pub local: u32,
+    /// From the local outwards.
+    pub projs: List<ProjText>,
+}
+
+#[derive(Clone, Copy, Debug, Drop)]
+pub enum ValueText {
+    /// Whether a minus stands before it, and its size.
+    Number(bool, u128, IntTy),
+    Bool(bool),
+    Unit,
+    /// `T::MIN`
+    Least(IntTy),
+    /// `T::MAX`
+    Most(IntTy),
+}
+
+#[derive(Debug, Drop)]
+pub enum OperandText {
+    Copy(PlaceText),
+    Move(PlaceText),
+    /// A place with neither word, which is copied.
+    Bare(PlaceText),
+    Const(ValueText),
+}
