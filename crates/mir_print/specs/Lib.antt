@@ -1,2 +1,4 @@
 pub mod Prints
+pub mod Seen
+pub mod Parts
 pub mod Plain

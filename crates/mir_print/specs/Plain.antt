@@ -1,4 +1,4 @@
--- The crates that are printed so far: functions of scalars and `()`, with assignments of operands to locals, gotos and returns.
+-- Crates of the first form: functions of scalars and `()`, with assignments of operands to locals, gotos and returns.
 use Rattle.std.specs.Prelude.{ℕ, ◌≡◌, ◌<◌, ⊤, List, [], length, All}
 use Rattle.mir_syntax.specs.declared.body.Place.{Place}
 use Rattle.mir_syntax.specs.declared.body.Operand.{Operand}

@@ -1,33 +1,25 @@
-ghost use Rattle.std.specs.Prelude.{◌≡◌, ◌++◌, ◌+◌, ◌<◌, suc, length, map, take, drop, get_or, codes, All};
-ghost use Rattle.mir_syntax.specs.Crate.{Crate, block_of, body_of, function_of};
+ghost use Rattle.std.specs.Prelude.{◌≡◌, ◌++◌, ◌+◌, codes, suc, map, take, drop};
+ghost use Rattle.mir_syntax.specs.Crate.{block_of, body_of, function_of};
 ghost use Rattle.mir_syntax.specs.Tree.{at_id, trees_of};
 ghost use Rattle.mir_text.specs.TypeText.{piece, type_text};
 ghost use Rattle.mir_text.specs.PlaceText.{local_ty};
+ghost use Rattle.mir_text.specs.TermText.{blocks_text};
 ghost use Rattle.mir_text.specs.Text.{local_decl, more_args, args_text, args_of, others_of, let_line, lets_text, body_text, inline_text, drop_text, header_text, function_text};
-ghost use Rattle.mir_print.specs.Plain.{IsPlainTy, IsPlainBlock, IsPlainFunction};
+ghost use Rattle.mir_print.specs.Seen.{crate_in, with_body};
 ghost use Rattle.mir_print.specs.Prints.{Goes, at};
 
+use crate::block::put_blocks;
 use crate::output::Output;
 use crate::place::put_local;
-use crate::term::put_blocks;
-use crate::types::put_type;
+use crate::types::{put_name, put_type};
 use mir_syntax::{Body, Function, Inline, Name, Program, TyId};
 use pipe_io::Sink;
-
-fn put_name<K: Sink>(output: &mut Output, sink: &mut K, name: &Name)
-    ensures { Goes (at (K.written sink.old) (K.faults sink.old) output.old)
-        (at (K.written sink.new) (K.faults sink.new) output.new) (piece name.now) }
-{
-    output.put(sink, name.as_slice());
-}
 
 // A local and its type.
 #[tactic(auto, using(crate::proofs::Printing::goes_then), unfolding(mir_text::specs::Text::local_decl))]
 fn put_decl<K: Sink>(output: &mut Output, sink: &mut K, program: &Program, local: u128, ty: TyId)
-    requires { IsPlainTy (at_id (trees_of program.now.types) ty) }
-    ensures { (c : Crate) → Goes (at (K.written sink.old) (K.faults sink.old) output.old)
-        (at (K.written sink.new) (K.faults sink.new) output.new)
-        (local_decl c local (at_id (trees_of program.now.types) ty)) }
+    ensures { Goes (at (K.written sink.old) (K.faults sink.old) output.old)
+        (at (K.written sink.new) (K.faults sink.new) output.new) (local_decl (crate_in program.now) local (at_id (trees_of program.now.types) ty)) }
 {
     put_local(output, sink, local);
     output.put(sink, b": ");
@@ -42,10 +34,8 @@ fn put_next_arg<K: Sink>(
     local: u128,
     ty: TyId,
 )
-    requires { IsPlainTy (at_id (trees_of program.now.types) ty) }
-    ensures { (c : Crate) → Goes (at (K.written sink.old) (K.faults sink.old) output.old)
-        (at (K.written sink.new) (K.faults sink.new) output.new)
-        (piece (codes ", ") ++ local_decl c local (at_id (trees_of program.now.types) ty)) }
+    ensures { Goes (at (K.written sink.old) (K.faults sink.old) output.old)
+        (at (K.written sink.new) (K.faults sink.new) output.new) (piece (codes ", ") ++ local_decl (crate_in program.now) local (at_id (trees_of program.now.types) ty)) }
 {
     output.put(sink, b", ");
     put_decl(output, sink, program, local, ty);
@@ -53,10 +43,8 @@ fn put_next_arg<K: Sink>(
 
 // The arguments after the first one.
 fn put_more_args<K: Sink>(output: &mut Output, sink: &mut K, program: &Program, types: &[TyId])
-    requires { All (λ ty. IsPlainTy (at_id (trees_of program.now.types) ty)) types.now }
-    ensures { (c : Crate) → Goes (at (K.written sink.old) (K.faults sink.old) output.old)
-        (at (K.written sink.new) (K.faults sink.new) output.new)
-        (more_args c 2 (map (at_id (trees_of program.now.types)) types.now)) }
+    ensures { Goes (at (K.written sink.old) (K.faults sink.old) output.old)
+        (at (K.written sink.new) (K.faults sink.new) output.new) (more_args (crate_in program.now) 2 (map (at_id (trees_of program.now.types)) types.now)) }
 {
     for (index, ty) in types.iter().enumerate() {
         put_next_arg(output, sink, program, index as u128 + 2, *ty);
@@ -65,10 +53,8 @@ fn put_more_args<K: Sink>(output: &mut Output, sink: &mut K, program: &Program, 
 
 #[tactic(auto, using(crate::proofs::Printing::goes_then, crate::proofs::Printing::goes_nothing), unfolding(mir_text::specs::Text::args_text))]
 fn put_args<K: Sink>(output: &mut Output, sink: &mut K, program: &Program, types: &[TyId])
-    requires { All (λ ty. IsPlainTy (at_id (trees_of program.now.types) ty)) types.now }
-    ensures { (c : Crate) → Goes (at (K.written sink.old) (K.faults sink.old) output.old)
-        (at (K.written sink.new) (K.faults sink.new) output.new)
-        (args_text c (map (at_id (trees_of program.now.types)) types.now)) }
+    ensures { Goes (at (K.written sink.old) (K.faults sink.old) output.old)
+        (at (K.written sink.new) (K.faults sink.new) output.new) (args_text (crate_in program.now) (map (at_id (trees_of program.now.types)) types.now)) }
 {
     match types {
         [] => {}
@@ -81,10 +67,8 @@ fn put_args<K: Sink>(output: &mut Output, sink: &mut K, program: &Program, types
 
 #[tactic(auto, using(crate::proofs::Printing::goes_then), unfolding(mir_text::specs::Text::let_line))]
 fn put_let<K: Sink>(output: &mut Output, sink: &mut K, program: &Program, local: u128, ty: TyId)
-    requires { IsPlainTy (at_id (trees_of program.now.types) ty) }
-    ensures { (c : Crate) → Goes (at (K.written sink.old) (K.faults sink.old) output.old)
-        (at (K.written sink.new) (K.faults sink.new) output.new)
-        (let_line c local (at_id (trees_of program.now.types) ty)) }
+    ensures { Goes (at (K.written sink.old) (K.faults sink.old) output.old)
+        (at (K.written sink.new) (K.faults sink.new) output.new) (let_line (crate_in program.now) local (at_id (trees_of program.now.types) ty)) }
 {
     output.put(sink, b"    let mut ");
     put_decl(output, sink, program, local, ty);
@@ -99,10 +83,8 @@ fn put_lets<K: Sink>(
     first: u64,
     types: &[TyId],
 )
-    requires { All (λ ty. IsPlainTy (at_id (trees_of program.now.types) ty)) types.now }
-    ensures { (c : Crate) → Goes (at (K.written sink.old) (K.faults sink.old) output.old)
-        (at (K.written sink.new) (K.faults sink.new) output.new)
-        (lets_text c first (map (at_id (trees_of program.now.types)) types.now)) }
+    ensures { Goes (at (K.written sink.old) (K.faults sink.old) output.old)
+        (at (K.written sink.new) (K.faults sink.new) output.new) (lets_text (crate_in program.now) first (map (at_id (trees_of program.now.types)) types.now)) }
 {
     for (index, ty) in types.iter().enumerate() {
         put_let(output, sink, program, first as u128 + index as u128, *ty);
@@ -132,68 +114,71 @@ fn put_drop<K: Sink>(output: &mut Output, sink: &mut K, is_drop: bool)
     }
 }
 
-// The types of the arguments.
-fn args_of(body: &Body) -> &[TyId]
-    requires { body.now.args < length body.now.locals }
-    ensures { result.now ≡ take body.now.args (drop 1 body.now.locals) }
+// The first ids, or all where there are fewer.
+fn first_ids(ids: &[TyId], count: usize) -> &[TyId]
+    ensures { result.now ≡ take count ids.now }
 {
-    &body.locals.as_slice()[1..][..body.args as usize]
+    &ids[..count.min(ids.len())]
 }
 
-// The types of the locals after the arguments.
-fn others_of(body: &Body) -> &[TyId]
-    requires { body.now.args < length body.now.locals }
-    ensures { result.now ≡ drop (body.now.args + 1) body.now.locals }
+// The ids behind the first ones.
+fn later_ids(ids: &[TyId], count: usize) -> &[TyId]
+    ensures { result.now ≡ drop count ids.now }
 {
-    &body.locals.as_slice()[body.args as usize + 1..]
-}
-
-// The type of `_0`.
-fn result_of(body: &Body) -> TyId
-    requires { body.now.args < length body.now.locals }
-    ensures { result ≡ get_or body.now.locals 0 result }
-{
-    body.locals.as_slice()[0]
+    &ids[count.min(ids.len())..]
 }
 
 fn put_args_of<K: Sink>(output: &mut Output, sink: &mut K, program: &Program, body: &Body)
-    requires headed { body.now.args < length body.now.locals }
-    requires plain { All (λ ty. IsPlainTy (at_id (trees_of program.now.types) ty)) body.now.locals }
-    ensures { (c : Crate) → Goes (at (K.written sink.old) (K.faults sink.old) output.old)
-        (at (K.written sink.new) (K.faults sink.new) output.new)
-        (args_text c (args_of (body_of (trees_of program.now.types) body.now))) }
+    ensures { Goes (at (K.written sink.old) (K.faults sink.old) output.old)
+        (at (K.written sink.new) (K.faults sink.new) output.new) (args_text (crate_in program.now) (args_of (body_of (trees_of program.now.types) body.now))) }
 {
-    put_args(output, sink, program, args_of(body));
+    let later = later_ids(body.locals.as_slice(), 1);
+    put_args(output, sink, program, first_ids(later, body.args as usize));
 }
 
 fn put_others_of<K: Sink>(output: &mut Output, sink: &mut K, program: &Program, body: &Body)
-    requires headed { body.now.args < length body.now.locals }
-    requires plain { All (λ ty. IsPlainTy (at_id (trees_of program.now.types) ty)) body.now.locals }
-    ensures { (c : Crate) → Goes (at (K.written sink.old) (K.faults sink.old) output.old)
-        (at (K.written sink.new) (K.faults sink.new) output.new)
-        (lets_text c (suc body.now.args) (others_of (body_of (trees_of program.now.types) body.now))) }
+    ensures { Goes (at (K.written sink.old) (K.faults sink.old) output.old)
+        (at (K.written sink.new) (K.faults sink.new) output.new) (lets_text (crate_in program.now) (suc body.now.args) (others_of (body_of (trees_of program.now.types) body.now))) }
 {
-    put_lets(output, sink, program, body.args as u64 + 1, others_of(body));
+    let first = body.args as u64 + 1;
+    put_lets(
+        output,
+        sink,
+        program,
+        first,
+        later_ids(body.locals.as_slice(), first as usize),
+    );
 }
 
+// The type of `_0`.
 fn put_result_ty<K: Sink>(output: &mut Output, sink: &mut K, program: &Program, body: &Body)
-    requires headed { body.now.args < length body.now.locals }
-    requires plain { All (λ ty. IsPlainTy (at_id (trees_of program.now.types) ty)) body.now.locals }
-    ensures { (c : Crate) → Goes (at (K.written sink.old) (K.faults sink.old) output.old)
-        (at (K.written sink.new) (K.faults sink.new) output.new)
-        (type_text c (local_ty (map (at_id (trees_of program.now.types)) body.now.locals) 0)) }
+    ensures { Goes (at (K.written sink.old) (K.faults sink.old) output.old)
+        (at (K.written sink.new) (K.faults sink.new) output.new) (type_text (crate_in program.now) (local_ty (map (at_id (trees_of program.now.types)) body.now.locals) 0)) }
 {
-    put_type(output, sink, program, result_of(body));
+    match body.locals.get(0) {
+        Some(ty) => put_type(output, sink, program, *ty),
+        None => output.put(sink, b"()"),
+    }
 }
 
-fn put_result_let<K: Sink>(output: &mut Output, sink: &mut K, program: &Program, body: &Body)
-    requires headed { body.now.args < length body.now.locals }
-    requires plain { All (λ ty. IsPlainTy (at_id (trees_of program.now.types) ty)) body.now.locals }
-    ensures { (c : Crate) → Goes (at (K.written sink.old) (K.faults sink.old) output.old)
-        (at (K.written sink.new) (K.faults sink.new) output.new)
-        (let_line c 0 (local_ty (map (at_id (trees_of program.now.types)) body.now.locals) 0)) }
+#[tactic(auto, using(crate::proofs::Printing::goes_then), unfolding(mir_text::specs::Text::local_decl))]
+fn put_result_decl<K: Sink>(output: &mut Output, sink: &mut K, program: &Program, body: &Body)
+    ensures { Goes (at (K.written sink.old) (K.faults sink.old) output.old)
+        (at (K.written sink.new) (K.faults sink.new) output.new) (local_decl (crate_in program.now) 0 (local_ty (map (at_id (trees_of program.now.types)) body.now.locals) 0)) }
 {
-    put_let(output, sink, program, 0, result_of(body));
+    put_local(output, sink, 0);
+    output.put(sink, b": ");
+    put_result_ty(output, sink, program, body);
+}
+
+#[tactic(auto, using(crate::proofs::Printing::goes_then), unfolding(mir_text::specs::Text::let_line))]
+fn put_result_let<K: Sink>(output: &mut Output, sink: &mut K, program: &Program, body: &Body)
+    ensures { Goes (at (K.written sink.old) (K.faults sink.old) output.old)
+        (at (K.written sink.new) (K.faults sink.new) output.new) (let_line (crate_in program.now) 0 (local_ty (map (at_id (trees_of program.now.types)) body.now.locals) 0)) }
+{
+    output.put(sink, b"    let mut ");
+    put_result_decl(output, sink, program, body);
+    output.put(sink, b";\n");
 }
 
 #[tactic(auto, using(crate::proofs::Printing::goes_then), unfolding(mir_text::specs::Text::header_text))]
@@ -204,11 +189,8 @@ fn put_header<K: Sink>(
     path: &Name,
     body: &Body,
 )
-    requires headed { body.now.args < length body.now.locals }
-    requires plain { All (λ ty. IsPlainTy (at_id (trees_of program.now.types) ty)) body.now.locals }
-    ensures { (c : Crate) → Goes (at (K.written sink.old) (K.faults sink.old) output.old)
-        (at (K.written sink.new) (K.faults sink.new) output.new)
-        (header_text c path.now (body_of (trees_of program.now.types) body.now)) }
+    ensures { Goes (at (K.written sink.old) (K.faults sink.old) output.old)
+        (at (K.written sink.new) (K.faults sink.new) output.new) (header_text (crate_in program.now) path.now (body_of (trees_of program.now.types) body.now)) }
 {
     output.put(sink, b"fn ");
     put_name(output, sink, path);
@@ -219,36 +201,44 @@ fn put_header<K: Sink>(
     output.put(sink, b" {\n");
 }
 
+fn put_blocks_of<K: Sink>(output: &mut Output, sink: &mut K, program: &Program, body: &Body)
+    ensures { Goes (at (K.written sink.old) (K.faults sink.old) output.old)
+        (at (K.written sink.new) (K.faults sink.new) output.new) (blocks_text (crate_in program.now) (map (at_id (trees_of program.now.types)) body.now.locals) 0 (map (block_of (trees_of program.now.types)) body.now.blocks)) }
+{
+    put_blocks(
+        output,
+        sink,
+        program,
+        body.locals.as_slice(),
+        body.blocks.as_slice(),
+    );
+}
+
 #[tactic(auto, using(crate::proofs::Printing::goes_then), unfolding(mir_text::specs::Text::body_text))]
 fn put_body<K: Sink>(output: &mut Output, sink: &mut K, program: &Program, body: &Body)
-    requires headed { body.now.args < length body.now.locals }
-    requires plain { All (λ ty. IsPlainTy (at_id (trees_of program.now.types) ty)) body.now.locals }
-    requires blocks { All (λ b. IsPlainBlock (block_of (trees_of program.now.types) b)) body.now.blocks }
-    ensures { (c : Crate) → Goes (at (K.written sink.old) (K.faults sink.old) output.old)
-        (at (K.written sink.new) (K.faults sink.new) output.new)
-        (body_text c (body_of (trees_of program.now.types) body.now)) }
+    ensures { Goes (at (K.written sink.old) (K.faults sink.old) output.old)
+        (at (K.written sink.new) (K.faults sink.new) output.new) (body_text (crate_in program.now) (body_of (trees_of program.now.types) body.now)) }
 {
     put_result_let(output, sink, program, body);
     put_others_of(output, sink, program, body);
-    put_blocks(output, sink, program, body.blocks.as_slice());
+    put_blocks_of(output, sink, program, body);
 }
 
-/// Prints a function.
+/// Prints a function with a body.
 #[tactic(auto, using(crate::proofs::Printing::goes_then), unfolding(mir_text::specs::Text::function_text))]
 pub fn put_function<K: Sink>(
     output: &mut Output,
     sink: &mut K,
     program: &Program,
     function: &Function,
+    body: &Body,
 )
-    requires { IsPlainFunction (function_of (trees_of program.now.types) function.now) }
-    ensures { (c : Crate) → Goes (at (K.written sink.old) (K.faults sink.old) output.old)
-        (at (K.written sink.new) (K.faults sink.new) output.new)
-        (function_text c (function_of (trees_of program.now.types) function.now)) }
+    ensures { Goes (at (K.written sink.old) (K.faults sink.old) output.old)
+        (at (K.written sink.new) (K.faults sink.new) output.new) (function_text (crate_in program.now) (with_body (function_of (trees_of program.now.types) function.now) (body_of (trees_of program.now.types) body.now))) }
 {
     put_inline(output, sink, function.inline);
     put_drop(output, sink, function.is_drop);
-    put_header(output, sink, program, &function.path, &function.body);
-    put_body(output, sink, program, &function.body);
+    put_header(output, sink, program, &function.path, body);
+    put_body(output, sink, program, body);
     output.put(sink, b"}\n");
 }

@@ -1,7 +1,7 @@
 ghost use Rattle.std.specs.Prelude.{◌≡◌, ◌≤◌, ◌+◌, ◌++◌, ◌↔◌, IsTrue, [], true, false, length, decimal};
 ghost use Rattle.std.specs.Io.KnownBytes.{Appends};
 ghost use Rattle.pipe_io.specs.Causes.{AppendsFront, Rose};
-ghost use Rattle.mir_print.specs.Prints.{Goes, at};
+ghost use Rattle.mir_print.specs.Prints.{Goes, at, counted};
 ghost use Rattle.mir_text.specs.TypeText.{piece};
 
 use itoa::Buffer;
@@ -10,13 +10,14 @@ use std::marker::Model;
 
 const ROOM: usize = 8192;
 
-/// Bytes that are printed and wait to be written, so that a sink is called for many pieces at once. After a write that failed nothing
-/// more is written.
+/// Bytes that are printed and wait to be written, so that a sink is called for many pieces at once, and how many were printed. After a
+/// write that failed nothing more is written.
 #[derive(Drop)]
 pub struct Output {
     bytes: [u8; ROOM],
     filled: usize,
     going: bool,
+    count: u64,
 }
 
 impl Model for Output {
@@ -25,7 +26,7 @@ impl Model for Output {
 
     ghost Value = { Waiting };
 
-    ghost view = { λ output. record { going = output.going; bytes = take output.filled output.bytes } };
+    ghost view = { λ output. record { going = output.going; bytes = take output.filled output.bytes; count = output.count } };
 
     ghost invariant = { λ output. output.filled ≤ 8192 };
 }
@@ -45,12 +46,13 @@ fn send<K: Sink>(sink: &mut K, text: &[u8]) -> bool
 impl Output {
     /// Nothing waits.
     pub fn new() -> Output
-        ensures { result ≡ record { going = true; bytes = [] } }
+        ensures { result ≡ record { going = true; bytes = []; count = 0 } }
     {
         Output {
             bytes: [0; ROOM],
             filled: 0,
             going: true,
+            count: 0,
         }
     }
 
@@ -59,6 +61,13 @@ impl Output {
         ensures { result ≡ self.now.going }
     {
         self.going
+    }
+
+    /// How many bytes were printed, or 2^64 - 1 where it is more.
+    pub fn count(&self) -> u64
+        ensures { result ≡ self.now.count }
+    {
+        self.count
     }
 
     fn has_room(&self, count: usize) -> bool
@@ -72,18 +81,21 @@ impl Output {
         requires { length self.old.bytes + length text.now ≤ 8192 }
         ensures bytes { self.new.bytes ≡ self.old.bytes ++ text.now }
         ensures going { self.new.going ≡ self.old.going }
+        ensures count { self.new.count ≡ counted self.old.count text.now }
     {
         let end = self.filled + text.len();
         self.bytes[self.filled..end].copy_from_slice(text);
         self.filled = end;
+        self.count = self.count.saturating_add(text.len() as u64);
     }
 
-    // Nothing waits any more.
-    fn clear(&mut self, going: bool)
-        ensures { self.new ≡ record { going = going; bytes = [] } }
+    // Nothing waits any more, and a text was printed.
+    fn clear(&mut self, going: bool, text: &[u8])
+        ensures { self.new ≡ record { going = going; bytes = []; count = counted self.old.count text.now } }
     {
         self.filled = 0;
         self.going = going;
+        self.count = self.count.saturating_add(text.len() as u64);
     }
 
     // Prints a text that is longer than there is room.
@@ -95,7 +107,9 @@ impl Output {
     {
         if self.going {
             let going = send(sink, text);
-            self.clear(going);
+            self.clear(going, text);
+        } else {
+            self.clear(false, text);
         }
     }
 
@@ -122,9 +136,9 @@ impl Output {
     {
         if self.going {
             let going = send(sink, &self.bytes[..self.filled]);
-            self.clear(going);
+            self.clear(going, &[]);
         } else {
-            self.clear(false);
+            self.clear(false, &[]);
         }
     }
 

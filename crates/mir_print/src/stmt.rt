@@ -1,66 +1,97 @@
-ghost use Rattle.std.specs.Prelude.{◌++◌, List, map, codes, All};
-ghost use Rattle.mir_syntax.specs.Crate.{Crate, rvalue_of, stmt_of};
-ghost use Rattle.mir_syntax.specs.Tree.{Tree, trees_of};
+ghost use Rattle.std.specs.Prelude.{◌++◌, codes, decimal, map};
+ghost use Rattle.mir_syntax.specs.Crate.{stmt_of};
+ghost use Rattle.mir_syntax.specs.Tree.{at_id, trees_of};
 ghost use Rattle.mir_text.specs.TypeText.{piece};
-ghost use Rattle.mir_text.specs.StatementText.{rvalue_text, stmt_text, stmt_line, stmts_text};
-ghost use Rattle.mir_print.specs.Plain.{IsPlainRvalue, IsPlainStmt};
+ghost use Rattle.mir_text.specs.PlaceText.{local_text, place_text};
+ghost use Rattle.mir_text.specs.StatementText.{stmt_text, stmt_line, stmts_text};
+ghost use Rattle.mir_print.specs.Seen.{crate_in};
 ghost use Rattle.mir_print.specs.Prints.{Goes, at};
 
 use crate::output::Output;
-use crate::place::{put_operand, put_place};
-use mir_syntax::{Program, Rvalue, Stmt};
+use crate::place::{put_local, put_place};
+use crate::rvalue::put_rvalue;
+use mir_syntax::{Place, Program, Stmt, TyId};
 use pipe_io::Sink;
 
-#[tactic(auto, unfolding(mir_text::specs::StatementText::rvalue_text))]
-fn put_rvalue<K: Sink>(output: &mut Output, sink: &mut K, _program: &Program, value: &Rvalue)
-    requires { IsPlainRvalue (rvalue_of (trees_of _program.now.types) value.now) }
-    ensures { (c : Crate) (locals : List Tree) → Goes (at (K.written sink.old) (K.faults sink.old) output.old)
-        (at (K.written sink.new) (K.faults sink.new) output.new)
-        (rvalue_text c locals (rvalue_of (trees_of _program.now.types) value.now)) }
+#[tactic(auto, using(crate::proofs::Printing::goes_then))]
+fn put_set_discriminant<K: Sink>(
+    output: &mut Output,
+    sink: &mut K,
+    program: &Program,
+    locals: &[TyId],
+    place: &Place,
+    variant: u32,
+)
+    ensures { Goes (at (K.written sink.old) (K.faults sink.old) output.old)
+        (at (K.written sink.new) (K.faults sink.new) output.new) (piece (codes "discriminant(") ++ (place_text (crate_in program.now) (map (at_id (trees_of program.now.types)) locals.now) place.now ++ (piece (codes ") = ") ++ piece (decimal variant)))) }
 {
-    match value {
-        Rvalue::Use(operand) => put_operand(output, sink, operand),
-        _ => unreachable!(),
-    }
+    output.put(sink, b"discriminant(");
+    put_place(output, sink, program, locals, place);
+    output.put(sink, b") = ");
+    output.put_number(sink, variant as u128);
 }
 
 #[tactic(auto, using(crate::proofs::Printing::goes_then), unfolding(mir_text::specs::StatementText::stmt_text))]
-fn put_stmt<K: Sink>(output: &mut Output, sink: &mut K, program: &Program, stmt: &Stmt)
-    requires { IsPlainStmt (stmt_of (trees_of program.now.types) stmt.now) }
-    ensures { (c : Crate) (locals : List Tree) → Goes (at (K.written sink.old) (K.faults sink.old) output.old)
-        (at (K.written sink.new) (K.faults sink.new) output.new)
-        (stmt_text c locals (stmt_of (trees_of program.now.types) stmt.now)) }
+fn put_stmt<K: Sink>(
+    output: &mut Output,
+    sink: &mut K,
+    program: &Program,
+    locals: &[TyId],
+    stmt: &Stmt,
+)
+    ensures { Goes (at (K.written sink.old) (K.faults sink.old) output.old)
+        (at (K.written sink.new) (K.faults sink.new) output.new) (stmt_text (crate_in program.now) (map (at_id (trees_of program.now.types)) locals.now) (stmt_of (trees_of program.now.types) stmt.now)) }
 {
     match stmt {
         Stmt::Assign(place, value) => {
-            put_place(output, sink, place);
+            put_place(output, sink, program, locals, place);
             output.put(sink, b" = ");
-            put_rvalue(output, sink, program, value);
+            put_rvalue(output, sink, program, locals, value);
         }
-        _ => unreachable!(),
+        Stmt::StorageLive(local) => {
+            output.put(sink, b"StorageLive(");
+            put_local(output, sink, *local as u128);
+            output.put(sink, b")");
+        }
+        Stmt::StorageDead(local) => {
+            output.put(sink, b"StorageDead(");
+            put_local(output, sink, *local as u128);
+            output.put(sink, b")");
+        }
+        Stmt::SetDiscriminant(place, variant) => put_set_discriminant(
+            output, sink, program, locals, place, *variant,
+        ),
     }
 }
 
 #[tactic(auto, using(crate::proofs::Printing::goes_then), unfolding(mir_text::specs::StatementText::stmt_line))]
-fn put_stmt_line<K: Sink>(output: &mut Output, sink: &mut K, program: &Program, stmt: &Stmt)
-    requires { IsPlainStmt (stmt_of (trees_of program.now.types) stmt.now) }
-    ensures { (c : Crate) (locals : List Tree) → Goes (at (K.written sink.old) (K.faults sink.old) output.old)
-        (at (K.written sink.new) (K.faults sink.new) output.new)
-        (stmt_line c locals (stmt_of (trees_of program.now.types) stmt.now)) }
+fn put_stmt_line<K: Sink>(
+    output: &mut Output,
+    sink: &mut K,
+    program: &Program,
+    locals: &[TyId],
+    stmt: &Stmt,
+)
+    ensures { Goes (at (K.written sink.old) (K.faults sink.old) output.old)
+        (at (K.written sink.new) (K.faults sink.new) output.new) (stmt_line (crate_in program.now) (map (at_id (trees_of program.now.types)) locals.now) (stmt_of (trees_of program.now.types) stmt.now)) }
 {
     output.put(sink, b"        ");
-    put_stmt(output, sink, program, stmt);
+    put_stmt(output, sink, program, locals, stmt);
     output.put(sink, b";\n");
 }
 
 /// Prints statements, each in a line.
-pub fn put_stmts<K: Sink>(output: &mut Output, sink: &mut K, program: &Program, stmts: &[Stmt])
-    requires { All (λ s. IsPlainStmt (stmt_of (trees_of program.now.types) s)) stmts.now }
-    ensures { (c : Crate) (locals : List Tree) → Goes (at (K.written sink.old) (K.faults sink.old) output.old)
-        (at (K.written sink.new) (K.faults sink.new) output.new)
-        (stmts_text c locals (map (stmt_of (trees_of program.now.types)) stmts.now)) }
+pub fn put_stmts<K: Sink>(
+    output: &mut Output,
+    sink: &mut K,
+    program: &Program,
+    locals: &[TyId],
+    stmts: &[Stmt],
+)
+    ensures { Goes (at (K.written sink.old) (K.faults sink.old) output.old)
+        (at (K.written sink.new) (K.faults sink.new) output.new) (stmts_text (crate_in program.now) (map (at_id (trees_of program.now.types)) locals.now) (map (stmt_of (trees_of program.now.types)) stmts.now)) }
 {
     for stmt in stmts {
-        put_stmt_line(output, sink, program, stmt);
+        put_stmt_line(output, sink, program, locals, stmt);
     }
 }

@@ -1,0 +1,18 @@
+use Rattle.mir_syntax.specs.declared.body.Proj.TheVariants as proj
+use Rattle.std.proofs.Common.{sym}
+use Rattle.mir_print.specs.Seen.{crate_in}
+use Rattle.mir_syntax.specs.Tree.{at_id, trees_of}
+use Rattle.mir_print.proofs.Texts.{after_some, after_none, other_downcast}
+use Rattle.mir_print.proofs.fields.after_downcast.Goals as goal
+
+pub returns-in_default : goal.returns-in_default
+returns-in_default c =
+    other_downcast (crate_in c.args.program.now) (trees_of c.args.program.now.types) c.args.part c.args.variant c.in_default.not-Ty
+
+pub returns-in-Some : goal.returns-in-Some
+returns-in-Some c =
+    rw c.in-Ty.is (after_some (crate_in c.args.program.now) (at_id (trees_of c.args.program.now.types) c.in-Ty.id) _ (proj.Downcast c.args.variant) (sym c.in-Some.ensures))
+
+pub returns-in-None : goal.returns-in-None
+returns-in-None c =
+    rw c.in-Ty.is (after_none (crate_in c.args.program.now) (at_id (trees_of c.args.program.now.types) c.in-Ty.id) (proj.Downcast c.args.variant) (sym c.in-None.ensures))

@@ -1,0 +1,14 @@
+use Rattle.std.proofs.Common.{map, drop}
+use Rattle.mir_print.specs.Seen.{crate_in}
+use Rattle.mir_syntax.specs.Tree.{trees_of}
+use Rattle.mir_text.specs.TypeText.{more_items}
+use Rattle.mir_text.specs.Text.{variant_text}
+use Rattle.mir_syntax.specs.Crate.{variant_of}
+use Rattle.mir_print.specs.Prints.{at}
+use Rattle.mir_print.proofs.Texts.{Remains}
+use Rattle.mir_print.proofs.items.put_more_variants.Given as goal
+
+abbrev pub invariant-loop-variant : goal.invariant-loop-variant
+invariant-loop-variant g l =
+    Remains (at (g.K.Sink.written l.fn.sink) (g.K.Sink.faults l.fn.sink) l.fn.output) (at (g.K.Sink.written l.sink) (g.K.Sink.faults l.sink) l.output)
+    (more_items (variant_text (crate_in l.program)) (map (variant_of (trees_of l.program.types)) l.variants)) (more_items (variant_text (crate_in l.program)) (map (variant_of (trees_of l.program.types)) (drop l.variant-index l.variants)))

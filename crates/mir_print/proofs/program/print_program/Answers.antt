@@ -1,6 +1,0 @@
-use Rattle.std.proofs.Common.{sym, ◌∙◌}
-use Rattle.mir_print.proofs.Printing.{prints_front}
-use Rattle.mir_print.proofs.program.print_program.Goals as goal
-
-pub returns-else-is_going : goal.returns-else-is_going
-returns-else-is_going g c = prints_front c.new-output.ensures c.put_whole.ensures.goes (sym c.is_going.ensures ∙ c.if-is_going.false)
