@@ -1,0 +1,12 @@
+pub mod Among
+pub mod Keeps
+pub mod Alone
+pub mod Alive
+pub mod Agree
+pub mod Pairs
+pub mod Items
+pub mod Slots
+pub mod Paths
+pub mod Runs
+pub mod Paired
+pub mod Steps
