@@ -10,3 +10,4 @@ pub mod Paths
 pub mod Runs
 pub mod Paired
 pub mod Steps
+pub mod Others

@@ -1,0 +1,162 @@
+-- A step in a function that is left alone, and what is kept from step to step.
+use Rattle.std.proofs.Common.{◌≡◌, ◌⊎◌, inl, inr, ⊎_elim, refl, sym, ap, ap₂, ◌∙◌, subst, ℕ, zero, suc, ◌+◌, ◌<◌, ◌≤◌, Bool, true, false, not, nat_eq, ◌&&◌, ◌||◌, if◌then◌else◌, List, [], ◌∷◌, ◌++◌, map, length, drop, take, Option, Some, None, is_some, slice_get, option_map, arith, append_assoc}
+use Rattle.std.proofs.lemmas.Bool.{eqb-true, cases_lt}
+use Rattle.mir_syntax.specs.declared.types.ScalarTy.{ScalarTy}
+use Rattle.mir_syntax.specs.declared.body.Proj.{Proj}
+use Rattle.mir_syntax.specs.declared.body.Proj.TheVariants.{Field, Downcast, Deref}
+use Rattle.mir_syntax.specs.declared.body.Place.{Place}
+use Rattle.mir_syntax.specs.declared.body.Operand.{Operand}
+use Rattle.mir_syntax.specs.declared.body.Operand.TheVariants as operand
+use Rattle.mir_syntax.specs.Tree.{Tree, scalar, empty, more, named}
+use Rattle.mir_syntax.specs.Tree as tree
+use Rattle.mir_syntax.specs.Crate.{TypedRvalue, «use», binary, overflow, unary, cast, discriminant, tuple, build, TypedStmt, assign, storage_live, storage_dead, set_discriminant}
+use Rattle.mir_syntax.specs.Crate as rvalue
+use Rattle.mir_syntax.specs.Shapes.{Shape, ◌>>=◌, struct_fields, fields_of_struct, fields_of, field_ty, variant_of_enum, variant_ty, pointee, proj_ty, path_ty, place_ty, destructor_of, needs_drop}
+use Rattle.mir_semantics.specs.Values.{Addr, Value, number, nil, cons, variant, pointer, hole, is_hole, part, payload, inner, at_path, put, blank}
+use Rattle.mir_semantics.specs.Memory.{Memory, local_at, value_at, write, further, there, referent, project, walk}
+use Rattle.mir_semantics.specs.Step.{Dest, Here, only_if, local_addr, resolve, type_of, has_deref, guard_of, dest_of, allows, store, read_at, read, read_all, number_in, read_number, operand_ty, scalar_ty_of, scalar_in, read_two, eval, set_blank, is_variant, write_unless, exec}
+use Rattle.mir_renaming.specs.Renaming.{Renaming, AddrRel, ValueRel, SomeRel, Sub, MemRel, AddrThere, RootOf}
+use Rattle.mir_renaming.proofs.Memory.{bind_some, some_bind, same_or_not, sub_addr, value_at_rel, walk_rel, root_or_not, write_same, write_other, write_back, write_target, write_source, fewer, write_again, write_whole_rel}
+use Rattle.mir_renaming.proofs.Statements.{blank_rel, ValuesRel, only_true, Linked, Got, got_at, write_linked, DestRel, MemGot, store_rel, H1, PlaceRel, OperandRel, OperandsRel, resolve_rel, read_all_rel, RvalueRel, eval_rel, dest_rel, exec_rel}
+use Rattle.mir_renaming.proofs.Types.{TypeMap, HasTy, AddrTy, MemTy, is_scalar, can_hole, holds_by, some_eq, more_eq, as_rows, value_at_ty, write_ty, resolve_ty, at_path_ty, blank_any, blank_fits}
+use Rattle.std.specs.Prelude.{ℤ}
+use Rattle.mir_syntax.specs.declared.body.Arm.{Arm}
+use Rattle.mir_syntax.specs.declared.body.Callee.{Callee}
+use Rattle.mir_syntax.specs.declared.body.Callee.TheVariants as callee
+use Rattle.mir_syntax.specs.declared.body.Term.{Term}
+use Rattle.mir_syntax.specs.declared.body.Term.TheVariants.{Goto, Switch, Return, Unreachable, Drop, Call, Assert}
+use Rattle.mir_syntax.specs.Crate.{TypedBlock, TypedBody}
+use Rattle.mir_num.specs.Numbers.{wrap, flag, integer_of}
+use Rattle.mir_semantics.specs.Memory.{open_frame, close_frame}
+use Rattle.mir_semantics.specs.Step.{Code, Visit, Dropping, Control, Called, State, returned, aborted, no_answer, Next, on, stop, fail, numbers_in, integers, go_on, to_block, next_stmt, take_arm, new_slots, entered, enter, calling, answered, ask, call, visits_of, shape_visits, enum_visits, variant_visits, field_visits, work_on, visit, visit_unless, visit_if, work_off, begun, left_in, left_at, destroyed_at, destroyed, return_to, check, finish, perform, step}
+use Rattle.mir_renaming.proofs.Statements.{write_clear, number_rel, read_rel, read_at_rel, read_number_rel, scalar_ty_rel}
+use Rattle.mir_renaming.proofs.Frames.{open_same, open_other, close_same, close_other}
+use Rattle.mir_renaming.proofs.Ghosts.{value_mono, plain_same, AllPlain, plains_self}
+use Rattle.mir_relate.proofs.Aligned.{Flat, new_control}
+use Rattle.mir_live.proofs.Slots.{slots_rel, value_in, close_live, close_rooms, open_live, open_rooms, zero_addr, local_parts, shape_of}
+use Rattle.mir_live.specs.Places.{solid, is_nil, fills}
+use Rattle.mir_live.proofs.Among.{Among, OkOperand, OkOperands, OkRvalue}
+use Rattle.mir_live.proofs.Keeps.{store_keeps, read_number_keeps}
+use Rattle.mir_live.proofs.Alive.{Ident, itself, plus, minus, plus_frame, pair_parts, then_is, else_is, plus_ident, plus_at, plus_sub, minus_ident, minus_sub, minus_other, frame_ident, frame_sub, frame_at, frame_old, linked, Rooms, rooms_left, rooms_right, store_split, root_of, at_path_solid, solid_plain, place_at, addr_eq, operand_at, operands_at, stmt_live, exec_rooms, read_rooms, reads_rooms, gone_live, far_dest, near_dest, whole_dest, part_dest, StmtOk, RefOk, store_linked, store_whole, store_part}
+use Rattle.mir_renaming.proofs.Types.{dest_ty, read_ty}
+use Rattle.mir_renaming.proofs.Typed.{ValidCode, FrameTy, Typed, TermTy, OpsTy, SomeTys, ResultTy, CalleeTy, step_typed}
+use Rattle.mir_live.proofs.Agree.{Tight, NeedsOk, Agree, at_path_agree, whole_tight, AgreeMem}
+use Rattle.mir_live.proofs.Pairs.{Tights, Pair, read_whole, read_pair, reads_pair, read_number_pair, exec_pair, SetOk}
+use Rattle.mir_live.proofs.Items.{step_parts, DropPlain, InLocal, Items, OwnDrop, Own, FirstNeeds, Runs, Owns, Drops, begun_own, step_drops}
+use Rattle.mir_live.proofs.Paired.{DropStep, off_step, destroyed_step, on_eq, LocalIn, Loc, Agrees, same_control, close_agree, Meet, store_both, entered_both, drop_both}
+use Rattle.mir_live.proofs.Runs.{Ghost, J, j_other, Frame, Covers, Stack, Mems, Base, Rel, Follows, follows_at, follows_by, Placed, ItemOk, FirstOk, NeedsFirst, Resumes, Reach, ReachTop, bodies, TermOk, Edges, DestOk, self, dest_live, DropTerm, begun_same, drop_live, finish_live, both_stmt}
+use Rattle.mir_live.specs.Paths.{Leads, fills_term}
+use Rattle.mir_semantics.specs.Values.{whole}
+
+use Rattle.mir_live.proofs.Steps.{R, top_drop, resumes, known, in_l, OpsOk, finish_both, stmt_both}
+
+module _ (C1 : Code) (bodies2 : List TypedBody) (f : ℕ) (f1 f2 : TypedBody) (is1 : slice_get C1.bodies f ≡ Some f1) (is2 : slice_get bodies2 f ≡ Some f2) (same_locals : f2.locals ≡ f1.locals) (others : (g : ℕ) → (g ≡ f → ⊥) → slice_get bodies2 g ≡ slice_get C1.bodies g) (lent : ℕ → Bool) (Lv : ℕ → ℕ → ℕ → Type 0) (InBlock : ℕ → Control → Control → Type 0) (begins : (c2 c1 : Control) → c2.block ≡ c1.block → c2.at ≡ 0 → c1.at ≡ 0 → (n : ℕ) × InBlock n c2 c1) (valid1 : ValidCode C1) (valid2 : ValidCode (record C1 { bodies = bodies2 })) (nk : NeedsOk C1.shapes) (plain : (g : ℕ) (b : TypedBody) (i : ℕ) (k : TypedBlock) → slice_get C1.bodies g ≡ Some b → slice_get b.blocks i ≡ Some k → DropPlain k.term) where
+  abbrev D : List Shape
+  D = C1.shapes
+
+  abbrev pub C2 : Code
+  C2 = record C1 { bodies = bodies2 }
+
+  -- the states of both sides, and what is known of them
+  pub record Known (n : ℕ) (s2 s1 : State) : Type 0 where
+    pub rel : Rel C1 bodies2 f f1 f2 is1 is2 same_locals others lent Lv InBlock begins n s2 s1
+    pub typed1 : Typed C1 valid1 s1
+    pub typed2 : Typed (record C1 { bodies = bodies2 }) valid2 s2
+    pub drops : Drops C1 s1
+    pub agree : Agrees C1 f (s1.top ∷ s1.callers) s2.memory s1.memory
+
+  -- the target follows a step of the source
+  abbrev pub Goes : Option Next → Next → Type 0
+  Goes o (stop y) = o ≡ Some (stop y)
+  Goes o (fail t) = Unit {0}
+  Goes o (on s1) = (m : ℕ) × (s2 : State) × (o ≡ Some (on s2)) × Known m s2 s1
+
+  module _ (n : ℕ) (s2 s1 : State) (K : Known n s2 s1) (b b2 : TypedBody) (k1 k2 : TypedBlock) (e1 : slice_get C1.bodies s1.top.function ≡ Some b) (i1 : slice_get b.blocks s1.top.block ≡ Some k1) (e2 : slice_get bodies2 s2.top.function ≡ Some b2) (i2 : slice_get b2.blocks s2.top.block ≡ Some k2) (ls : b2.locals ≡ b.locals) (of_f : s1.top.function ≡ f → b.locals ≡ f1.locals) where
+    abbrev pub G2 : TypeMap
+    G2 = K.typed2.types
+
+    abbrev pub bo2 : (t : Tree) → HasTy C1.shapes K.typed2.types t (blank C1.shapes t)
+    bo2 = valid2.blank_ok K.typed2.types
+
+    pub ok2 : (x : ℕ) (t : Tree) → slice_get b.locals x ≡ Some t → K.typed2.types s1.top.frame x ≡ Some t
+    ok2 x t l = subst (λ i. K.typed2.types i x ≡ Some t) K.rel.top.frame (K.typed2.top.locals b2 e2 x t (ap (λ ts. slice_get ts x) ls ∙ l))
+
+    abbrev pub H : Here
+    H = record { shapes = C1.shapes; locals = b.locals; frame = s1.top.frame }
+
+    source_is : step C1 s1 ≡ perform C1 H s1 k1.term (slice_get k1.stmts s1.top.at)
+    unfolding step
+    source_is = some_bind _ e1 (some_bind _ i1 refl)
+
+    target_is : step C2 s2 ≡ perform C2 H s2 k2.term (slice_get k2.stmts s2.top.at)
+    unfolding step
+    target_is = some_bind _ e2 (some_bind _ i2 (ap₂ (λ ts i. perform C2 (record { shapes = C1.shapes; locals = ts; frame = i }) s2 k2.term (slice_get k2.stmts s2.top.at)) ls K.rel.top.frame))
+
+    keeps : (m : ℕ) (s2' s1' : State) → step C1 s1 ≡ Some (on s1') → step C2 s2 ≡ Some (on s2') → Rel C1 bodies2 f f1 f2 is1 is2 same_locals others lent Lv InBlock begins m s2' s1' → Agrees C1 f (s1'.top ∷ s1'.callers) s2'.memory s1'.memory → Known m s2' s1'
+    keeps m s2' s1' e g h k = record { rel = h; typed1 = step_typed C1 valid1 s1 (on s1') K.typed1 e; typed2 = step_typed C2 valid2 s2 (on s2') K.typed2 g; drops = step_drops C1 plain s1 s1' K.drops e; agree = k }
+
+    -- ---- where results go
+
+    ops_some : (h : Here) (os : List Operand) (ts : List Tree) → OpsTy h os ts → SomeTys h os
+    ops_some h [] ts k = tt
+    ops_some h (o ∷ os) [] k = absurd k
+    ops_some h (o ∷ os) (t ∷ ts) k = ((t, k.0), ops_some h os ts k.1)
+
+    callee_some : (h : Here) (g : Callee) (os : List Operand) (t : Tree) → CalleeTy C1 h g os t → SomeTys h os
+    callee_some h (callee.Local g) os t (b, e, rt, k) = ops_some h os _ k
+    callee_some h (callee.Outside o) os t (out, e, rt, k) = k
+
+    reads_ty : (os : List Operand) (m : Memory) (q : List Value × Memory) → MemTy C1.shapes K.typed2.types m → SomeTys H os → read_all H m os ≡ Some q → MemTy C1.shapes K.typed2.types q.1
+    unfolding read_all
+    reads_ty [] m q ty k e = subst (λ (q : List Value × Memory). MemTy C1.shapes K.typed2.types q.1) (let z : ([], m) ≡ q = grind arith in z) ty
+    reads_ty (o ∷ os) m q ty ((t, ot), k) e =
+        let (x, a1, b1) = bind_some e in
+        let (y, a2, c2) = bind_some b1 in
+        subst (λ (q : List Value × Memory). MemTy C1.shapes K.typed2.types q.1) (let z : (x.0 ∷ y.0, y.1) ≡ q = grind arith in z) (reads_ty os x.1 y (read_ty C1.shapes K.typed2.types bo2 b.locals s1.top.frame ok2 m o t x ty ot a1).1 k a2)
+
+    reach : (p : Place) (g : Callee) (os : List Operand) (u : ℕ) (d : Dest) (q : List Value × Memory) → k1.term ≡ Call p g os u → dest_of H s2.memory p ≡ Some d → read_all H s2.memory os ≡ Some q → Reach C1 bodies2 f f1 f2 is1 is2 same_locals others lent Lv InBlock begins (to_block u s1.top) d q.1
+    reach p g os u d q et ed er ef fe lt el so o1 ro =
+        let (t, hp, ct) = subst (TermTy C1 H) et (valid1.terms s1.top.frame s1.top.function b s1.top.block k1 e1 i1) in
+        let after = reads_ty os s2.memory q K.typed2.mem (callee_some H g os t ct) er in
+        let at = dest_ty C1.shapes K.typed2.types bo2 b.locals s1.top.frame ok2 s2.memory p t d K.typed2.mem hp ed in
+        shape_of C1.shapes K.typed2.types q.1 d.addr lt t o1 after at (ap (λ i. K.typed2.types i d.addr.local) fe ∙ ok2 d.addr.local lt (ap (λ ts. slice_get ts d.addr.local) (of_f ef) ∙ el)) so ro
+
+    close_ty : (m : Memory) (i : ℕ) → MemTy C1.shapes K.typed2.types m → MemTy C1.shapes K.typed2.types (close_frame m i)
+    close_ty m i k = record { at = λ h x t v g e. go h x t v g e (same_or_not h i) }
+      where
+        go : (h x : ℕ) (t : Tree) (v : Value) → K.typed2.types h x ≡ Some t → local_at (close_frame m i) h x ≡ Some v → ((nat_eq h i ≡ true) × (h ≡ i)) ⊎ ((nat_eq h i ≡ false) × (h ≡ i → ⊥)) → HasTy C1.shapes K.typed2.types t v
+        go h x t v g e (inl p) = absurd (let q : local_at (close_frame m i) h x ≡ None = ap (λ y. local_at (close_frame m i) y x) p.1 ∙ close_same m i x in grind arith)
+        go h x t v g e (inr p) = k.at h x t v g (sym (close_other m i h x p.1) ∙ e)
+
+    abbrev Frames2 : TypeMap → List Control → Type 0
+    Frames2 G [] = Unit {0}
+    Frames2 G (c ∷ cs) = FrameTy (record C1 { bodies = bodies2 }) valid2 G c × Frames2 G cs
+
+    reach_top : ReachTop C1 bodies2 f f1 f2 is1 is2 same_locals others lent Lv InBlock begins s1.callers s1.top.dest (close_frame s2.memory s1.top.frame)
+    reach_top = go s2.callers s1.callers s1.top.dest K.rel.top.dest K.typed2.callers K.rel.stack
+      where
+        at_head : (c2 c1 : Control) (m : ℕ) (d : Dest) → Frame C1 bodies2 f f1 f2 is1 is2 same_locals others lent Lv InBlock begins K.rel.ghost m c2 c1 → s2.top.dest ≡ Some d → FrameTy (record C1 { bodies = bodies2 }) valid2 K.typed2.types c2 → Reach C1 bodies2 f f1 f2 is1 is2 same_locals others lent Lv InBlock begins c1 d (close_frame s2.memory s1.top.frame)
+        at_head c2 c1 m d h ed tys ef fe lt el so o ro =
+            let (t, q) = valid2.result s2.top.function b2 e2 in
+            shape_of C1.shapes K.typed2.types (close_frame s2.memory s1.top.frame) d.addr lt t o (close_ty s2.memory s1.top.frame K.typed2.mem) (K.typed2.top.dest d ed b2 e2 t q) (ap (λ i. K.typed2.types i d.addr.local) (fe ∙ sym h.frame) ∙ tys.locals f2 (ap (slice_get bodies2) (h.function ∙ ef) ∙ is2) d.addr.local lt (ap (λ ts. slice_get ts d.addr.local) same_locals ∙ el)) so ro
+        go : (cs ds : List Control) (d : Option Dest) → s2.top.dest ≡ d → Frames2 K.typed2.types cs → Stack C1 bodies2 f f1 f2 is1 is2 same_locals others lent Lv InBlock begins K.rel.ghost K.rel.live s1.top.frame d cs ds → ReachTop C1 bodies2 f f1 f2 is1 is2 same_locals others lent Lv InBlock begins ds d (close_frame s2.memory s1.top.frame)
+        go cs [] d ed tys k = tt
+        go cs (c1 ∷ ds) None ed tys k = tt
+        go (c2 ∷ cs) (c1 ∷ ds) (Some d) ed tys (lt, h, goal, waits, k) = at_head c2 c1 h.0 d h.1 ed tys.0
+        go [] (c1 ∷ ds) (Some d) ed tys k = absurd k
+
+    -- ---- at the end of a block
+
+    pub at_end : (x : Next) → slice_get k1.stmts s1.top.at ≡ None → slice_get k2.stmts s2.top.at ≡ None → k2.term ≡ k1.term → TermOk C1 bodies2 f f1 f2 is1 is2 same_locals others lent Lv InBlock begins n s2 s1 K.rel b.locals K.typed2.types bo2 K.typed2.mem ok2 k1.term → Edges C1 bodies2 f f1 f2 is1 is2 same_locals others lent Lv InBlock begins n s2 s1 K.rel b.locals K.typed2.types bo2 K.typed2.mem ok2 k1.term → OpsOk C1 bodies2 f f1 f2 is1 is2 same_locals others lent Lv InBlock begins valid1 n s2 s1 K.rel K.typed1 K.drops K.agree b e1 k1.term → DropTerm C1 bodies2 f f1 f2 is1 is2 same_locals others lent Lv InBlock begins n s2 s1 K.rel b.locals K.typed2.types bo2 K.typed2.mem ok2 k1.term x → step C1 s1 ≡ Some x → Flat x → Goes (step C2 s2) x
+    unfolding perform
+    at_end x none1 none2 terms ok ed ops dt e fl = go x refl (finish_live C1 bodies2 f f1 f2 is1 is2 same_locals others lent Lv InBlock begins n s2 s1 K.rel b.locals K.typed2.types bo2 K.typed2.mem ok2 k1.term x ok ed reach reach_top (resumes C1 bodies2 f f1 f2 is1 is2 same_locals others lent Lv InBlock begins valid1 n s2 s1 K.rel K.typed1 K.drops K.agree) dt fin fl)
+      where
+        fin : finish C1 H s1 k1.term ≡ Some x
+        fin = sym (source_is ∙ ap (perform C1 H s1 k1.term) none1) ∙ e
+        same : step C2 s2 ≡ finish C2 H s2 k1.term
+        same = target_is ∙ ap (perform C2 H s2 k2.term) none2 ∙ ap (finish C2 H s2) terms
+        go : (y : Next) → y ≡ x → Follows C1 bodies2 f f1 f2 is1 is2 same_locals others lent Lv InBlock begins (finish C2 H s2 k1.term) y → Goes (step C2 s2) y
+        go (stop o) q h = same ∙ h
+        go (fail t) q h = tt
+        go (on s1') q (m, s2', g, h) =
+            (m, s2', same ∙ g, keeps m s2' s1' (e ∙ ap Some (sym q)) (same ∙ g) h (finish_both C1 bodies2 f f1 f2 is1 is2 same_locals others lent Lv InBlock begins valid1 n s2 s1 K.rel K.typed1 K.drops K.agree b e1 m k1.term s2' s1' h (valid1.terms s1.top.frame s1.top.function b s1.top.block k1 e1 i1) ops (fin ∙ ap Some (sym q)) g))
