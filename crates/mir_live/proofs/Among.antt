@@ -28,3 +28,25 @@ OkRvalue A (rvalue.ref_mut p) = A p.local
 OkRvalue A (discriminant p) = A p.local
 OkRvalue A (tuple os) = OkOperands A os
 OkRvalue A (build d k os) = OkOperands A os
+
+-- all of them are, where each local is
+pub all_operand : (A : Among) → ((x : ℕ) → A x) → (o : Operand) → OkOperand A o
+all_operand A h (operand.Copy p) = h p.local
+all_operand A h (operand.Move p) = h p.local
+all_operand A h (operand.Const c) = tt
+
+pub all_operands : (A : Among) → ((x : ℕ) → A x) → (os : List Operand) → OkOperands A os
+all_operands A h [] = tt
+all_operands A h (o ∷ os) = (all_operand A h o, all_operands A h os)
+
+pub all_rvalue : (A : Among) → ((x : ℕ) → A x) → (r : TypedRvalue) → OkRvalue A r
+all_rvalue A h («use» o) = all_operand A h o
+all_rvalue A h (binary op a b) = (all_operand A h a, all_operand A h b)
+all_rvalue A h (overflow op a b) = (all_operand A h a, all_operand A h b)
+all_rvalue A h (unary op a) = all_operand A h a
+all_rvalue A h (cast a t) = all_operand A h a
+all_rvalue A h (rvalue.ref p) = h p.local
+all_rvalue A h (rvalue.ref_mut p) = h p.local
+all_rvalue A h (discriminant p) = h p.local
+all_rvalue A h (tuple os) = all_operands A h os
+all_rvalue A h (build d k os) = all_operands A h os

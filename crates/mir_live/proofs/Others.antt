@@ -35,7 +35,7 @@ use Rattle.mir_renaming.proofs.Ghosts.{value_mono, plain_same, AllPlain, plains_
 use Rattle.mir_relate.proofs.Aligned.{Flat, new_control}
 use Rattle.mir_live.proofs.Slots.{slots_rel, value_in, close_live, close_rooms, open_live, open_rooms, zero_addr, local_parts, shape_of}
 use Rattle.mir_live.specs.Places.{solid, is_nil, fills}
-use Rattle.mir_live.proofs.Among.{Among, OkOperand, OkOperands, OkRvalue}
+use Rattle.mir_live.proofs.Among.{Among, OkOperand, OkOperands, OkRvalue, all_operand, all_operands, all_rvalue}
 use Rattle.mir_live.proofs.Keeps.{store_keeps, read_number_keeps}
 use Rattle.mir_live.proofs.Alive.{Ident, itself, plus, minus, plus_frame, pair_parts, then_is, else_is, plus_ident, plus_at, plus_sub, minus_ident, minus_sub, minus_other, frame_ident, frame_sub, frame_at, frame_old, linked, Rooms, rooms_left, rooms_right, store_split, root_of, at_path_solid, solid_plain, place_at, addr_eq, operand_at, operands_at, stmt_live, exec_rooms, read_rooms, reads_rooms, gone_live, far_dest, near_dest, whole_dest, part_dest, StmtOk, RefOk, store_linked, store_whole, store_part}
 use Rattle.mir_renaming.proofs.Types.{dest_ty, read_ty}
@@ -160,3 +160,114 @@ module _ (C1 : Code) (bodies2 : List TypedBody) (f : ℕ) (f1 f2 : TypedBody) (i
         go (fail t) q h = tt
         go (on s1') q (m, s2', g, h) =
             (m, s2', same ∙ g, keeps m s2' s1' (e ∙ ap Some (sym q)) (same ∙ g) h (finish_both C1 bodies2 f f1 f2 is1 is2 same_locals others lent Lv InBlock begins valid1 n s2 s1 K.rel K.typed1 K.drops K.agree b e1 m k1.term s2' s1' h (valid1.terms s1.top.frame s1.top.function b s1.top.block k1 e1 i1) ops (fin ∙ ap Some (sym q)) g))
+
+    -- ---- at a statement of both
+
+    abbrev pub A1 : Among
+    A1 x = K.rel.live s1.top.frame x ≡ Some (s1.top.frame, x)
+
+    abbrev pub StmtFits : TypedStmt → Type 0
+    StmtFits = StmtOk A1 C1.shapes b.locals s1.top.frame (J C1 bodies2 f f1 f2 is1 is2 same_locals others lent Lv InBlock begins K.rel.ghost) K.rel.live K.rel.mems.low K.rel.mems.id (λ x h. h)
+
+    abbrev pub SetFits : TypedStmt → Type 0
+    SetFits = SetOk A1 C1.shapes b.locals s1.top.frame (J C1 bodies2 f f1 f2 is1 is2 same_locals others lent Lv InBlock begins K.rel.ghost) K.rel.live K.rel.mems.low K.rel.mems.id (λ x h. h) K.typed1.types (valid1.blank_ok K.typed1.types) (K.typed1.top.locals b e1) (Loc C1 f (s1.top ∷ s1.callers)) (known C1 bodies2 f f1 f2 is1 is2 same_locals others lent Lv InBlock begins valid1 n s2 s1 K.rel K.typed1 K.drops K.agree) (in_l C1 bodies2 f f1 f2 is1 is2 same_locals others lent Lv InBlock begins valid1 n s2 s1 K.rel K.typed1 K.drops K.agree)
+
+    pub at_stmt : (x : Next) (st : TypedStmt) (m : ℕ) → slice_get k1.stmts s1.top.at ≡ Some st → slice_get k2.stmts s2.top.at ≡ Some st → StmtFits st → SetFits st → Frame C1 bodies2 f f1 f2 is1 is2 same_locals others lent Lv InBlock begins K.rel.ghost m (next_stmt s2.top) (next_stmt s1.top) → (s1.top.function ≡ f → (x : ℕ) → Lv s1.top.block (suc s1.top.at) x → fills st x ≡ false → A1 x) → step C1 s1 ≡ Some x → Goes (step C2 s2) x
+    unfolding perform
+    at_stmt x st m at1 at2 ok so h ed e =
+        let fin = sym (source_is ∙ ap (perform C1 H s1 k1.term) at1) ∙ e in
+        let (m1', g1, g2) = bind_some fin in
+        let (m2', h1, fo) = both_stmt C1 bodies2 f f1 f2 is1 is2 same_locals others lent Lv InBlock begins n s2 s1 K.rel b.locals K.typed2.types bo2 K.typed2.mem ok2 st m1' m ok h ed g1 in
+        go m1' m2' g1 g2 h1 fo
+      where
+        go : (m1' m2' : Memory) → exec H s1.memory st ≡ Some m1' → go_on s1 m1' (next_stmt s1.top) ≡ Some x → exec H s2.memory st ≡ Some m2' → Follows C1 bodies2 f f1 f2 is1 is2 same_locals others lent Lv InBlock begins (go_on s2 m2' (next_stmt s2.top)) (on (record s1 { memory = m1'; top = next_stmt s1.top })) → Goes (step C2 s2) x
+        go m1' m2' g1 g2 h1 (i, s2', q, rel) =
+            let same : step C2 s2 ≡ Some (on s2') = target_is ∙ ap (perform C2 H s2 k2.term) at2 ∙ some_bind _ h1 q in
+            let is : on (record s1 { memory = m1'; top = next_stmt s1.top }) ≡ x = (let z = g2 in grind arith) in
+            let ag : Agrees C1 f (next_stmt s1.top ∷ s1.callers) m2' m1' = stmt_both C1 bodies2 f f1 f2 is1 is2 same_locals others lent Lv InBlock begins valid1 n s2 s1 K.rel K.typed1 K.drops K.agree b e1 nk st m2' m1' so ok g1 h1 in
+            let ag' : Agrees C1 f (next_stmt s1.top ∷ s1.callers) s2'.memory m1' = subst (λ (s : State). Agrees C1 f (next_stmt s1.top ∷ s1.callers) s.memory m1') (on_eq q) ag in
+            subst (Goes (step C2 s2)) is (i, s2', same, keeps i s2' (record s1 { memory = m1'; top = next_stmt s1.top }) (e ∙ ap Some (sym is)) same rel ag')
+
+    -- ---- in a function that is left alone
+
+    module _ (ne : s1.top.function ≡ f → ⊥) where
+      lent_all : (y : ℕ) → J C1 bodies2 f f1 f2 is1 is2 same_locals others lent Lv InBlock begins K.rel.ghost s1.top.frame y ≡ Some (s1.top.frame, y)
+      lent_all y = j_other C1 bodies2 f f1 f2 is1 is2 same_locals others lent Lv InBlock begins K.rel.ghost s1.top.frame s1.top.function y K.rel.top.ghost ne
+
+      any : (y : ℕ) → A1 y
+      any y = K.rel.mems.low s1.top.frame y _ (lent_all y)
+
+      all_term : (t : Term) → TermOk C1 bodies2 f f1 f2 is1 is2 same_locals others lent Lv InBlock begins n s2 s1 K.rel b.locals K.typed2.types bo2 K.typed2.mem ok2 t
+      all_term (Goto u) = tt
+      all_term (Switch o arms u) = all_operand A1 any o
+      all_term Return = any 0
+      all_term Unreachable = tt
+      all_term (Drop p u) = tt
+      all_term (Call p g os u) = (all_operands A1 any os, inl (inl (lent_all p.local)))
+      all_term (Assert o c m os u) = (all_operand A1 any o, all_operands A1 any os)
+
+      all_stmt : (st : TypedStmt) → StmtFits st
+      all_stmt (assign p q) = (inl (any p.local), all_rvalue A1 any q, ref q)
+        where
+          ref : (q : TypedRvalue) → RefOk A1 C1.shapes b.locals s1.top.frame (J C1 bodies2 f f1 f2 is1 is2 same_locals others lent Lv InBlock begins K.rel.ghost) K.rel.live K.rel.mems.low K.rel.mems.id (λ x h. h) q
+          ref (rvalue.ref p) = inr (lent_all p.local)
+          ref (rvalue.ref_mut p) = inr (lent_all p.local)
+          ref («use» o) = tt
+          ref (binary op a c) = tt
+          ref (overflow op a c) = tt
+          ref (unary op a) = tt
+          ref (cast a t) = tt
+          ref (discriminant p) = tt
+          ref (tuple os) = tt
+          ref (build d i os) = tt
+      all_stmt (storage_live y) = tt
+      all_stmt (storage_dead y) = tt
+      all_stmt (set_discriminant p i) = any p.local
+
+      abbrev VisitsTy1 : List Visit → Type 0
+      VisitsTy1 [] = Unit {0}
+      VisitsTy1 (i ∷ is) = AddrTy C1.shapes K.typed1.types i.addr i.ty × VisitsTy1 is
+
+      abbrev DropTy1 : Option Dropping → Type 0
+      DropTy1 None = Unit {0}
+      DropTy1 (Some d) = AddrTy C1.shapes K.typed1.types d.place.addr d.place.ty × VisitsTy1 d.items
+
+      begun_ty : (p : Place) (u : ℕ) (o : Option Dropping) (d : Dropping) → s1.top.dropping ≡ o → begun H s1 p u o ≡ Some d → DropTy1 (Some d)
+      unfolding begun
+      begun_ty p u (Some d') d ev e = subst DropTy1 (ev ∙ e) K.typed1.top.dropping
+      begun_ty p u None d ev e =
+          let (a, a1, b1) = bind_some e in
+          let (t, a2, b2) = bind_some b1 in
+          let at = resolve_ty C1.shapes K.typed1.types (valid1.blank_ok K.typed1.types) b.locals s1.top.frame (K.typed1.top.locals b e1) s1.memory p a t K.typed1.mem a2 a1 in
+          subst DropTy1 b2 (at, (at, tt))
+
+      all_ops : (t : Term) → OpsOk C1 bodies2 f f1 f2 is1 is2 same_locals others lent Lv InBlock begins valid1 n s2 s1 K.rel K.typed1 K.drops K.agree b e1 t
+      all_ops (Goto u) = tt
+      all_ops (Switch o arms u) = all_operand A1 any o
+      all_ops Return = any 0
+      all_ops Unreachable = tt
+      all_ops (Drop p u) = (ne, λ d e. (ap (λ o. begun H s2 p u o) (K.rel.top.dropping ne) ∙ begun_same C1 bodies2 f f1 f2 is1 is2 same_locals others lent Lv InBlock begins n s2 s1 K.rel b.locals K.typed2.types bo2 K.typed2.mem ok2 p u (lent_all p.local) s1.top.dropping d e, (begun_ty p u s1.top.dropping d refl e).0))
+      all_ops (Call p g os u) = (all_operands A1 any os, λ d e. (dest_live C1 bodies2 f f1 f2 is1 is2 same_locals others lent Lv InBlock begins n s2 s1 K.rel b.locals K.typed2.types bo2 K.typed2.mem ok2 p u d (inl (inl (lent_all p.local))) e).0)
+      all_ops (Assert o c m os u) = all_operand A1 any o
+
+      drop_term : (t : Term) (x : Next) → DropPlain t → finish C1 H s1 t ≡ Some x → DropTerm C1 bodies2 f f1 f2 is1 is2 same_locals others lent Lv InBlock begins n s2 s1 K.rel b.locals K.typed2.types bo2 K.typed2.mem ok2 t x
+      drop_term (Goto u) x hd e = tt
+      drop_term (Switch o arms u) x hd e = tt
+      drop_term Return x hd e = tt
+      drop_term Unreachable x hd e = tt
+      drop_term (Drop p u) x hd e = drop_live C1 bodies2 f f1 f2 is1 is2 same_locals others lent Lv InBlock begins n s2 s1 K.rel b.locals K.typed2.types bo2 K.typed2.mem ok2 ne p u x (lent_all p.local) (λ d q. top_drop C1 bodies2 f f1 f2 is1 is2 same_locals others lent Lv InBlock begins valid1 n s2 s1 K.rel K.typed1 K.drops K.agree ne d (begun_own C1 s1 K.drops b e1 p u s1.top.dropping d hd refl q) (begun_ty p u s1.top.dropping d refl q).1) e
+      drop_term (Call p g os u) x hd e = tt
+      drop_term (Assert o c m os u) x hd e = tt
+
+      next : Frame C1 bodies2 f f1 f2 is1 is2 same_locals others lent Lv InBlock begins K.rel.ghost 0 (next_stmt s2.top) (next_stmt s1.top)
+      next = record { frame = K.rel.top.frame; function = K.rel.top.function; block = K.rel.top.block; dest = K.rel.top.dest; ghost = K.rel.top.ghost; here = λ ef. absurd (ne ef); there = λ z. ap suc (K.rel.top.there z); dropping = K.rel.top.dropping; calm = λ ef. absurd (ne ef) }
+
+      pub alone : k2 ≡ k1 → ((st : TypedStmt) → slice_get k1.stmts s1.top.at ≡ Some st → SetFits st) → (x : Next) → step C1 s1 ≡ Some x → Flat x → Goes (step C2 s2) x
+      unfolding perform
+      alone ks sets x e fl = go (slice_get k1.stmts s1.top.at) refl
+        where
+          at2 : slice_get k2.stmts s2.top.at ≡ slice_get k1.stmts s1.top.at
+          at2 = ap₂ (λ (k : TypedBlock) i. slice_get k.stmts i) ks (K.rel.top.there ne)
+          go : (o : Option TypedStmt) → slice_get k1.stmts s1.top.at ≡ o → Goes (step C2 s2) x
+          go None q = at_end x q (at2 ∙ q) (ap (λ (k : TypedBlock). k.term) ks) (all_term k1.term) (λ u l ef. absurd (ne ef)) (all_ops k1.term) (drop_term k1.term x (plain s1.top.function b s1.top.block k1 e1 i1) (sym (source_is ∙ ap (perform C1 H s1 k1.term) q) ∙ e)) e fl
+          go (Some st) q = at_stmt x st 0 q (at2 ∙ q) (all_stmt st) (sets st q) next (λ ef. absurd (ne ef)) e
