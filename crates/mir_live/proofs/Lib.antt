@@ -11,3 +11,4 @@ pub mod Runs
 pub mod Paired
 pub mod Steps
 pub mod Others
+pub mod Follow
