@@ -12,3 +12,4 @@ pub mod Paired
 pub mod Steps
 pub mod Others
 pub mod Follow
+pub mod Starts

@@ -140,17 +140,17 @@ module _ (C1 : Code) (bodies2 : List TypedBody) (f : ℕ) (f1 f2 : TypedBody) (i
       go (inl p) = then_is None (Some (g, x)) (ap₂ (λ b c. b && not c) p.0 b)
       go (inr p) = absurd (p.1 refl)
 
-  abbrev extend : Ghost → ℕ → ℕ → Ghost
+  abbrev pub extend : Ghost → ℕ → ℕ → Ghost
   extend F n h k = if nat_eq n k then Some h else F k
 
-  extend_new : (F : Ghost) (n h : ℕ) → extend F n h n ≡ Some h
+  pub extend_new : (F : Ghost) (n h : ℕ) → extend F n h n ≡ Some h
   extend_new F n h = go (same_or_not n n)
     where
       go : ((nat_eq n n ≡ true) × (n ≡ n)) ⊎ ((nat_eq n n ≡ false) × (n ≡ n → ⊥)) → extend F n h n ≡ Some h
       go (inl p) = then_is (Some h) (F n) p.0
       go (inr p) = absurd (p.1 refl)
 
-  extend_old : (F : Ghost) (n h k : ℕ) → (n ≡ k → ⊥) → extend F n h k ≡ F k
+  pub extend_old : (F : Ghost) (n h k : ℕ) → (n ≡ k → ⊥) → extend F n h k ≡ F k
   extend_old F n h k ne = go (same_or_not n k)
     where
       go : ((nat_eq n k ≡ true) × (n ≡ k)) ⊎ ((nat_eq n k ≡ false) × (n ≡ k → ⊥)) → extend F n h k ≡ F k
@@ -358,7 +358,7 @@ module _ (C1 : Code) (bodies2 : List TypedBody) (f : ℕ) (f1 f2 : TypedBody) (i
   values_mono j k up [] (w ∷ ws) h = absurd h
   values_mono j k up (v ∷ vs) [] h = absurd h
 
-  low_frame : (F : Ghost) (L : Renaming) (n g : ℕ) → Ident L → Sub (J F) L → Sub (J (extend F n g)) (plus_frame L n)
+  pub low_frame : (F : Ghost) (L : Renaming) (n g : ℕ) → Ident L → Sub (J F) L → Sub (J (extend F n g)) (plus_frame L n)
   low_frame F L n g id low k x r e = go (same_or_not n k)
     where
       go : ((nat_eq n k ≡ true) × (n ≡ k)) ⊎ ((nat_eq n k ≡ false) × (n ≡ k → ⊥)) → plus_frame L n k x ≡ Some r
