@@ -1,24 +1,18 @@
 -- What an evaluation does to the source alone, where what it reads is related.
-use Rattle.std.proofs.Common.{◌≡◌, ◌⊎◌, inl, inr, ⊎_elim, refl, sym, ap, ap₂, ◌∙◌, subst, ℕ, zero, suc, ◌+◌, ◌<◌, ◌≤◌, Bool, true, false, not, nat_eq, ◌&&◌, ◌||◌, if◌then◌else◌, List, [], ◌∷◌, ◌++◌, map, length, drop, take, Option, Some, None, is_some, slice_get, option_map, arith, append_assoc}
-use Rattle.std.proofs.lemmas.Bool.{eqb-true, cases_lt}
-use Rattle.mir_syntax.specs.declared.types.ScalarTy.{ScalarTy}
-use Rattle.mir_syntax.specs.declared.body.Proj.{Proj}
-use Rattle.mir_syntax.specs.declared.body.Proj.TheVariants.{Field, Downcast, Deref}
-use Rattle.mir_syntax.specs.declared.body.Place.{Place}
+use Rattle.std.proofs.Common.{◌≡◌, refl, sym, ◌∙◌, subst, ℕ, List, [], ◌∷◌, Some, slice_get, arith}
 use Rattle.mir_syntax.specs.declared.body.Operand.{Operand}
 use Rattle.mir_syntax.specs.declared.body.Operand.TheVariants as operand
-use Rattle.mir_syntax.specs.Tree.{Tree, scalar, empty, more, named}
-use Rattle.mir_syntax.specs.Tree as tree
+use Rattle.mir_syntax.specs.Tree.{Tree}
 use Rattle.mir_syntax.specs.Crate.{TypedRvalue, «use», binary, overflow, unary, cast, discriminant, tuple, build, TypedStmt, assign, storage_live, storage_dead, set_discriminant}
 use Rattle.mir_syntax.specs.Crate as rvalue
-use Rattle.mir_syntax.specs.Shapes.{Shape, ◌>>=◌, struct_fields, fields_of_struct, fields_of, field_ty, variant_of_enum, variant_ty, pointee, proj_ty, path_ty, place_ty, destructor_of, needs_drop}
-use Rattle.mir_semantics.specs.Values.{Addr, Value, number, nil, cons, variant, pointer, hole, is_hole, part, payload, inner, at_path, put, blank}
-use Rattle.mir_semantics.specs.Memory.{Memory, local_at, value_at, write, further, there, referent, project, walk}
-use Rattle.mir_semantics.specs.Step.{Dest, Here, only_if, local_addr, resolve, type_of, has_deref, guard_of, dest_of, allows, store, read_at, read, read_all, number_in, read_number, operand_ty, scalar_ty_of, scalar_in, read_two, eval, set_blank, is_variant, write_unless, exec}
-use Rattle.mir_renaming.specs.Renaming.{Renaming, AddrRel, ValueRel, SomeRel, Sub, MemRel, AddrThere, RootOf}
-use Rattle.mir_renaming.proofs.Memory.{bind_some, some_bind, same_or_not, sub_addr, value_at_rel, walk_rel, root_or_not, write_same, write_other, write_back, write_target, write_source, fewer, write_again, write_whole_rel}
-use Rattle.mir_renaming.proofs.Statements.{blank_rel, ValuesRel, only_true, Linked, Got, got_at, write_linked, DestRel, MemGot, store_rel, H1, PlaceRel, OperandRel, OperandsRel, resolve_rel, read_all_rel, RvalueRel, eval_rel, dest_rel, exec_rel}
-use Rattle.mir_renaming.proofs.Types.{TypeMap, HasTy, AddrTy, MemTy, is_scalar, can_hole, holds_by, some_eq, more_eq, as_rows, value_at_ty, write_ty, resolve_ty, at_path_ty, blank_any, blank_fits}
+use Rattle.mir_syntax.specs.Shapes.{Shape}
+use Rattle.mir_semantics.specs.Values.{Addr, Value, blank}
+use Rattle.mir_semantics.specs.Memory.{Memory, value_at, write}
+use Rattle.mir_semantics.specs.Step.{Here, read_at, read, read_all, read_number, read_two, eval}
+use Rattle.mir_renaming.specs.Renaming.{Renaming, AddrRel, ValueRel, Sub}
+use Rattle.mir_renaming.proofs.Memory.{bind_some, value_at_rel, write_again}
+use Rattle.mir_renaming.proofs.Statements.{Linked, write_linked, H1, resolve_rel}
+use Rattle.mir_renaming.proofs.Types.{TypeMap, HasTy, MemTy, value_at_ty, write_ty, resolve_ty, blank_any}
 use Rattle.mir_live.proofs.Among.{Among, OkOperand, OkOperands, OkRvalue}
 
 -- a write of the source where the target's value is related to what is written

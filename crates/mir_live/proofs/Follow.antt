@@ -1,57 +1,28 @@
 -- A step of the source alone, and the simulation: a pass has to show only what it does at a step of the body that it changes.
-use Rattle.std.proofs.Common.{◌≡◌, ◌⊎◌, inl, inr, ⊎_elim, refl, sym, ap, ap₂, ◌∙◌, subst, ℕ, zero, suc, ◌+◌, ◌<◌, ◌≤◌, Bool, true, false, not, nat_eq, ◌&&◌, ◌||◌, if◌then◌else◌, List, [], ◌∷◌, ◌++◌, map, length, drop, take, Option, Some, None, is_some, slice_get, option_map, arith, append_assoc}
-use Rattle.std.proofs.lemmas.Bool.{eqb-true, cases_lt}
-use Rattle.mir_syntax.specs.declared.types.ScalarTy.{ScalarTy}
-use Rattle.mir_syntax.specs.declared.body.Proj.{Proj}
-use Rattle.mir_syntax.specs.declared.body.Proj.TheVariants.{Field, Downcast, Deref}
+use Rattle.std.proofs.Common.{◌≡◌, ◌⊎◌, inl, inr, refl, sym, ap, ◌∙◌, subst, ℕ, suc, ◌<◌, ◌≤◌, Bool, true, false, nat_eq, List, [], ◌∷◌, Option, Some, None, slice_get, arith}
 use Rattle.mir_syntax.specs.declared.body.Place.{Place}
-use Rattle.mir_syntax.specs.declared.body.Operand.{Operand}
-use Rattle.mir_syntax.specs.declared.body.Operand.TheVariants as operand
-use Rattle.mir_syntax.specs.Tree.{Tree, scalar, empty, more, named}
-use Rattle.mir_syntax.specs.Tree as tree
-use Rattle.mir_syntax.specs.Crate.{TypedRvalue, «use», binary, overflow, unary, cast, discriminant, tuple, build, TypedStmt, assign, storage_live, storage_dead, set_discriminant}
-use Rattle.mir_syntax.specs.Crate as rvalue
-use Rattle.mir_syntax.specs.Shapes.{Shape, ◌>>=◌, struct_fields, fields_of_struct, fields_of, field_ty, variant_of_enum, variant_ty, pointee, proj_ty, path_ty, place_ty, destructor_of, needs_drop}
-use Rattle.mir_semantics.specs.Values.{Addr, Value, number, nil, cons, variant, pointer, hole, is_hole, part, payload, inner, at_path, put, blank}
-use Rattle.mir_semantics.specs.Memory.{Memory, local_at, value_at, write, further, there, referent, project, walk}
-use Rattle.mir_semantics.specs.Step.{Dest, Here, only_if, local_addr, resolve, type_of, has_deref, guard_of, dest_of, allows, store, read_at, read, read_all, number_in, read_number, operand_ty, scalar_ty_of, scalar_in, read_two, eval, set_blank, is_variant, write_unless, exec}
-use Rattle.mir_renaming.specs.Renaming.{Renaming, AddrRel, ValueRel, SomeRel, Sub, MemRel, AddrThere, RootOf}
-use Rattle.mir_renaming.proofs.Memory.{bind_some, some_bind, same_or_not, sub_addr, value_at_rel, walk_rel, root_or_not, write_same, write_other, write_back, write_target, write_source, fewer, write_again, write_whole_rel}
-use Rattle.mir_renaming.proofs.Statements.{blank_rel, ValuesRel, only_true, Linked, Got, got_at, write_linked, DestRel, MemGot, store_rel, H1, PlaceRel, OperandRel, OperandsRel, resolve_rel, read_all_rel, RvalueRel, eval_rel, dest_rel, exec_rel}
-use Rattle.mir_renaming.proofs.Types.{TypeMap, HasTy, AddrTy, MemTy, is_scalar, can_hole, holds_by, some_eq, more_eq, as_rows, value_at_ty, write_ty, resolve_ty, at_path_ty, blank_any, blank_fits}
-use Rattle.std.specs.Prelude.{ℤ}
-use Rattle.mir_syntax.specs.declared.body.Arm.{Arm}
-use Rattle.mir_syntax.specs.declared.body.Callee.{Callee}
-use Rattle.mir_syntax.specs.declared.body.Callee.TheVariants as callee
-use Rattle.mir_syntax.specs.declared.body.Term.{Term}
-use Rattle.mir_syntax.specs.declared.body.Term.TheVariants.{Goto, Switch, Return, Unreachable, Drop, Call, Assert}
+use Rattle.mir_syntax.specs.Tree.{Tree}
+use Rattle.mir_syntax.specs.Crate.{TypedRvalue, TypedStmt, assign, storage_live, storage_dead, set_discriminant}
+use Rattle.mir_syntax.specs.Shapes.{place_ty, needs_drop}
+use Rattle.mir_semantics.specs.Memory.{Memory}
+use Rattle.mir_semantics.specs.Step.{Dest, Here, type_of, has_deref, exec}
+use Rattle.mir_renaming.specs.Renaming.{Renaming}
+use Rattle.mir_renaming.proofs.Memory.{bind_some, some_bind, same_or_not}
 use Rattle.mir_syntax.specs.Crate.{TypedBlock, TypedBody}
-use Rattle.mir_num.specs.Numbers.{wrap, flag, integer_of}
-use Rattle.mir_semantics.specs.Memory.{open_frame, close_frame}
-use Rattle.mir_semantics.specs.Step.{Code, Visit, Dropping, Control, Called, State, returned, aborted, no_answer, Next, on, stop, fail, numbers_in, integers, go_on, to_block, next_stmt, take_arm, new_slots, entered, enter, calling, answered, ask, call, visits_of, shape_visits, enum_visits, variant_visits, field_visits, work_on, visit, visit_unless, visit_if, work_off, begun, left_in, left_at, destroyed_at, destroyed, return_to, check, finish, perform, step}
-use Rattle.mir_renaming.proofs.Statements.{write_clear, number_rel, read_rel, read_at_rel, read_number_rel, scalar_ty_rel}
-use Rattle.mir_renaming.proofs.Frames.{open_same, open_other, close_same, close_other}
-use Rattle.mir_renaming.proofs.Ghosts.{value_mono, plain_same, AllPlain, plains_self}
-use Rattle.mir_relate.proofs.Aligned.{Flat, new_control}
-use Rattle.mir_live.proofs.Slots.{slots_rel, value_in, close_live, close_rooms, open_live, open_rooms, zero_addr, local_parts, shape_of}
-use Rattle.mir_live.specs.Places.{solid, is_nil, fills}
-use Rattle.mir_live.proofs.Among.{Among, OkOperand, OkOperands, OkRvalue, all_operand, all_operands, all_rvalue}
-use Rattle.mir_live.proofs.Keeps.{store_keeps, read_number_keeps}
-use Rattle.mir_live.proofs.Alive.{Ident, itself, plus, minus, plus_frame, pair_parts, then_is, else_is, plus_ident, plus_at, plus_sub, minus_ident, minus_sub, minus_other, frame_ident, frame_sub, frame_at, frame_old, linked, Rooms, rooms_left, rooms_right, store_split, assign_split, plain_dest, root_of, at_path_solid, solid_plain, place_at, addr_eq, operand_at, operands_at, stmt_live, exec_rooms, read_rooms, reads_rooms, gone_live, far_dest, near_dest, whole_dest, part_dest, StmtOk, RefOk, store_linked, store_whole, store_part}
-use Rattle.mir_renaming.proofs.Types.{dest_ty, read_ty}
-use Rattle.mir_renaming.proofs.Typed.{ValidCode, FrameTy, Typed, TermTy, OpsTy, SomeTys, ResultTy, CalleeTy, step_typed}
-use Rattle.mir_live.proofs.Agree.{Tight, NeedsOk, Agree, at_path_agree, whole_tight, AgreeMem, write_agree_other}
-use Rattle.mir_live.proofs.Pairs.{Tights, Pair, read_whole, read_pair, reads_pair, read_number_pair, exec_pair, SetOk, RvalueMoves, alone_eval}
-use Rattle.mir_live.proofs.Items.{step_parts, DropPlain, InLocal, Items, OwnDrop, Own, FirstNeeds, Runs, Owns, Drops, begun_own, step_drops}
-use Rattle.mir_live.proofs.Paired.{DropStep, off_step, destroyed_step, on_eq, LocalIn, Loc, Agrees, same_control, close_agree, Meet, store_both, entered_both, drop_both}
-use Rattle.mir_live.proofs.Runs.{Ghost, J, j_other, Frame, Covers, Stack, Mems, Base, Rel, Follows, follows_at, follows_by, Placed, ItemOk, FirstOk, NeedsFirst, Resumes, Reach, ReachTop, bodies, TermOk, Edges, DestOk, self, dest_live, DropTerm, begun_same, drop_live, finish_live, both_stmt, gone_stmt}
-use Rattle.mir_live.specs.Paths.{Leads, fills_term}
-use Rattle.mir_semantics.specs.Values.{whole}
-
-use Rattle.mir_live.proofs.Steps.{R, top_drop, resumes, known, in_l, OpsOk, finish_both, stmt_both}
-
-use Rattle.mir_relate.specs.Simulation.{Simulation, Follows as Owes, moves, keep_on}
-use Rattle.mir_live.proofs.Others.{Known, Goes, A1, StmtFits, SetFits, at_end, at_stmt, alone}
+use Rattle.mir_semantics.specs.Step.{Code, Control, State, Next, on, stop, fail, next_stmt, perform, step}
+use Rattle.mir_relate.proofs.Aligned.{Flat}
+use Rattle.mir_live.specs.Places.{fills}
+use Rattle.mir_live.proofs.Among.{Among, OkRvalue}
+use Rattle.mir_live.proofs.Alive.{linked, store_split, assign_split, plain_dest}
+use Rattle.mir_renaming.proofs.Typed.{ValidCode, step_typed}
+use Rattle.mir_live.proofs.Agree.{NeedsOk, write_agree_other}
+use Rattle.mir_live.proofs.Pairs.{RvalueMoves, alone_eval}
+use Rattle.mir_live.proofs.Items.{step_parts, DropPlain, step_drops}
+use Rattle.mir_live.proofs.Paired.{on_eq, Loc, Agrees}
+use Rattle.mir_live.proofs.Runs.{Ghost, J, Frame, Stack, Rel, gone_stmt}
+use Rattle.mir_live.proofs.Steps.{known, in_l}
+use Rattle.mir_relate.specs.Simulation.{Simulation, Follows as Owes, keep_on}
+use Rattle.mir_live.proofs.Others.{Known, Goes, SetFits, alone}
 
 module _ (C1 : Code) (bodies2 : List TypedBody) (f : ℕ) (f1 f2 : TypedBody) (is1 : slice_get C1.bodies f ≡ Some f1) (is2 : slice_get bodies2 f ≡ Some f2) (same_locals : f2.locals ≡ f1.locals) (others : (g : ℕ) → (g ≡ f → ⊥) → slice_get bodies2 g ≡ slice_get C1.bodies g) (lent : ℕ → Bool) (Lv : ℕ → ℕ → ℕ → Type 0) (InBlock : ℕ → Control → Control → Type 0) (begins : (c2 c1 : Control) → c2.block ≡ c1.block → c2.at ≡ 0 → c1.at ≡ 0 → (n : ℕ) × InBlock n c2 c1) (valid1 : ValidCode C1) (valid2 : ValidCode (record C1 { bodies = bodies2 })) (nk : NeedsOk C1.shapes) (plain : (g : ℕ) (b : TypedBody) (i : ℕ) (k : TypedBlock) → slice_get C1.bodies g ≡ Some b → slice_get b.blocks i ≡ Some k → DropPlain k.term) where
   abbrev pub C2 : Code
@@ -146,6 +117,7 @@ module _ (C1 : Code) (bodies2 : List TypedBody) (f : ℕ) (f1 f2 : TypedBody) (i
         where
           fl : Flat x
           fl = flat s1 x r.inv e
+
           go : ((nat_eq s1.top.function f ≡ true) × (s1.top.function ≡ f)) ⊎ ((nat_eq s1.top.function f ≡ false) × (s1.top.function ≡ f → ⊥)) → Answer n s2 x
           go (inl p) = f_step n s2 s1 x r.known_of r.inv p.1 e fl
           go (inr p) = follows_answer n s2 x (other_step n s2 s1 r.known_of p.1 x e fl)
@@ -156,6 +128,7 @@ module _ (C1 : Code) (bodies2 : List TypedBody) (f : ℕ) (f1 f2 : TypedBody) (i
           goes : (n : ℕ) (s2 s1 s1' : State) → Related n s2 s1 → step C1 s1 ≡ Some (on s1') → Answer n s2 (on s1') → Owes C2 Related n s2 (Some (on s1'))
           goes n s2 s1 s1' r e (inl (m, s, h, k)) = (1, m, s, ap (keep_on (λ s. Some s)) h, record { known_of = k; inv = inv_keeps s1 s1' r.inv e }, inl (omega arith))
           goes n s2 s1 s1' r e (inr (m, k, lt)) = (0, m, s2, refl, record { known_of = k; inv = inv_keeps s1 s1' r.inv e }, inr lt)
+
           go : (n : ℕ) (s2 s1 : State) → Related n s2 s1 → (o : Option Next) → step C1 s1 ≡ o → Owes C2 Related n s2 o
           go n s2 s1 r None e = tt
           go n s2 s1 r (Some (fail t)) e = tt

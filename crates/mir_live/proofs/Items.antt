@@ -1,6 +1,6 @@
 -- The items of a drop lie in one local of their own frame, and what a destructor runs on needs drop: an invariant of the source alone.
-use Rattle.std.proofs.Common.{◌≡◌, refl, sym, ap, ◌∙◌, subst, ℕ, zero, suc, Bool, true, false, not, ◌&&◌, nat_eq, if◌then◌else◌, List, [], ◌∷◌, ◌++◌, Option, Some, None, slice_get, arith}
-use Rattle.mir_syntax.specs.declared.body.Proj.TheVariants.{Field, Downcast}
+use Rattle.std.proofs.Common.{◌≡◌, refl, sym, ◌∙◌, subst, ℕ, suc, Bool, true, false, nat_eq, if◌then◌else◌, List, [], ◌∷◌, ◌++◌, Option, Some, None, slice_get, arith}
+use Rattle.mir_syntax.specs.declared.body.Proj.TheVariants.{Downcast}
 use Rattle.mir_syntax.specs.declared.body.Operand.{Operand}
 use Rattle.mir_syntax.specs.declared.body.Place.{Place}
 use Rattle.mir_syntax.specs.declared.body.Callee.{Callee}
@@ -12,9 +12,9 @@ use Rattle.mir_syntax.specs.Tree as tree
 use Rattle.mir_syntax.specs.Crate.{TypedStmt, TypedBlock, TypedBody}
 use Rattle.mir_syntax.specs.Shapes.{Shape, struct_fields, destructor_of, needs_drop, place_ty}
 use Rattle.mir_num.specs.Numbers.{wrap, flag}
-use Rattle.mir_semantics.specs.Values.{Addr, Value, number, nil, cons, variant, pointer, hole, is_hole, blank}
-use Rattle.mir_semantics.specs.Memory.{Memory, further, write}
-use Rattle.mir_semantics.specs.Step.{Code, Dest, Visit, Dropping, Control, Called, State, returned, aborted, no_answer, Next, on, stop, fail, Here, local_addr, resolve, type_of, has_deref, go_on, to_block, next_stmt, take_arm, entered, enter, calling, answered, ask, call, return_to, field_visits, variant_visits, enum_visits, shape_visits, visits_of, work_on, visit, visit_unless, visit_if, work_off, begun, left_at, destroyed_at, destroyed, check, finish, perform, step}
+use Rattle.mir_semantics.specs.Values.{Addr, Value, number, nil, cons, variant, pointer, hole, is_hole}
+use Rattle.mir_semantics.specs.Memory.{Memory, further}
+use Rattle.mir_semantics.specs.Step.{Code, Dest, Visit, Dropping, Control, State, returned, aborted, no_answer, Next, on, stop, fail, Here, local_addr, resolve, type_of, has_deref, go_on, to_block, next_stmt, take_arm, entered, enter, calling, answered, ask, call, return_to, field_visits, variant_visits, enum_visits, shape_visits, visits_of, work_on, visit, visit_unless, visit_if, work_off, begun, destroyed_at, destroyed, check, finish, perform, step}
 use Rattle.mir_renaming.proofs.Memory.{bind_some}
 use Rattle.mir_live.proofs.Alive.{walk_plain}
 

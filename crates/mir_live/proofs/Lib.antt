@@ -13,3 +13,4 @@ pub mod Steps
 pub mod Others
 pub mod Follow
 pub mod Starts
+pub mod Prune

@@ -1,35 +1,29 @@
 -- A statement of both sides, or of the source alone, keeps the agreement of memories.
-use Rattle.std.proofs.Common.{◌≡◌, ◌⊎◌, inl, inr, ⊎_elim, refl, sym, ap, ap₂, ◌∙◌, subst, ℕ, zero, suc, ◌+◌, ◌<◌, ◌≤◌, Bool, true, false, not, nat_eq, ◌&&◌, ◌||◌, if◌then◌else◌, List, [], ◌∷◌, ◌++◌, map, length, drop, take, Option, Some, None, is_some, slice_get, option_map, arith, append_assoc}
-use Rattle.std.proofs.lemmas.Bool.{eqb-true, cases_lt}
-use Rattle.mir_syntax.specs.declared.types.ScalarTy.{ScalarTy}
-use Rattle.mir_syntax.specs.declared.body.Proj.{Proj}
-use Rattle.mir_syntax.specs.declared.body.Proj.TheVariants.{Field, Downcast, Deref}
+use Rattle.std.proofs.Common.{◌≡◌, ◌⊎◌, inl, inr, refl, sym, ap, ◌∙◌, subst, ℕ, Bool, true, false, nat_eq, if◌then◌else◌, List, [], ◌∷◌, Option, Some, None, slice_get, arith}
 use Rattle.mir_syntax.specs.declared.body.Place.{Place}
 use Rattle.mir_syntax.specs.declared.body.Operand.{Operand}
 use Rattle.mir_syntax.specs.declared.body.Operand.TheVariants as operand
-use Rattle.mir_syntax.specs.Tree.{Tree, scalar, empty, more, named}
-use Rattle.mir_syntax.specs.Tree as tree
+use Rattle.mir_syntax.specs.Tree.{Tree}
 use Rattle.mir_syntax.specs.Crate.{TypedRvalue, «use», binary, overflow, unary, cast, discriminant, tuple, build, TypedStmt, assign, storage_live, storage_dead, set_discriminant}
 use Rattle.mir_syntax.specs.Crate as rvalue
-use Rattle.mir_syntax.specs.Shapes.{Shape, ◌>>=◌, struct_fields, fields_of_struct, fields_of, field_ty, variant_of_enum, variant_ty, pointee, proj_ty, path_ty, place_ty, destructor_of, needs_drop}
-use Rattle.mir_semantics.specs.Values.{Addr, Value, number, nil, cons, variant, pointer, hole, is_hole, part, payload, inner, at_path, put, blank}
-use Rattle.mir_semantics.specs.Memory.{Memory, local_at, value_at, write, further, there, referent, project, walk}
-use Rattle.mir_semantics.specs.Step.{Dest, Here, only_if, local_addr, resolve, type_of, has_deref, guard_of, dest_of, allows, store, read_at, read, read_all, number_in, read_number, operand_ty, scalar_ty_of, scalar_in, read_two, eval, set_blank, is_variant, write_unless, exec}
-use Rattle.mir_renaming.specs.Renaming.{Renaming, AddrRel, ValueRel, SomeRel, Sub, MemRel, AddrThere, RootOf}
-use Rattle.mir_renaming.proofs.Memory.{bind_some, some_bind, same_or_not, sub_addr, value_at_rel, walk_rel, root_or_not, write_same, write_other, write_back, write_target, write_source, fewer, write_again, write_whole_rel}
-use Rattle.mir_renaming.proofs.Statements.{blank_rel, ValuesRel, only_true, Linked, Got, got_at, write_linked, DestRel, MemGot, store_rel, H1, PlaceRel, OperandRel, OperandsRel, resolve_rel, read_all_rel, RvalueRel, eval_rel, dest_rel, exec_rel}
-use Rattle.mir_renaming.proofs.Types.{TypeMap, HasTy, AddrTy, MemTy, is_scalar, can_hole, holds_by, some_eq, more_eq, as_rows, value_at_ty, write_ty, resolve_ty, at_path_ty, blank_any, blank_fits}
-use Rattle.mir_semantics.specs.Values.{listed, whole, is_unit}
-use Rattle.mir_semantics.specs.Step.{const_value, built, built_by, pair_of}
+use Rattle.mir_syntax.specs.Shapes.{Shape, needs_drop}
+use Rattle.mir_semantics.specs.Values.{Addr, Value, number, nil, variant, blank}
+use Rattle.mir_semantics.specs.Memory.{Memory, value_at, write}
+use Rattle.mir_semantics.specs.Step.{Dest, Here, local_addr, resolve, type_of, has_deref, dest_of, store, read_at, read, read_all, read_number, read_two, eval, set_blank, is_variant, write_unless, exec}
+use Rattle.mir_renaming.specs.Renaming.{Renaming, ValueRel, Sub, MemRel}
+use Rattle.mir_renaming.proofs.Memory.{bind_some, value_at_rel}
+use Rattle.mir_renaming.proofs.Statements.{only_true, Linked, resolve_rel}
+use Rattle.mir_renaming.proofs.Types.{TypeMap, HasTy, AddrTy, MemTy, write_ty, resolve_ty}
+use Rattle.mir_semantics.specs.Values.{listed, whole}
+use Rattle.mir_semantics.specs.Step.{const_value, built_by}
 use Rattle.mir_num.specs.Numbers as num
-use Rattle.mir_syntax.specs.declared.body.Const.{Const}
 use Rattle.mir_syntax.specs.declared.body.Const.TheVariants as constant
 use Rattle.mir_renaming.proofs.Statements.{read_rel}
 use Rattle.mir_renaming.proofs.Types.{dest_ty}
 use Rattle.mir_live.proofs.Among.{Among, OkOperand, OkOperands, OkRvalue}
 use Rattle.mir_live.proofs.Alive.{Ident, linked, place_at, operand_at, addr_eq, store_split, walk_plain, whole_dest, blank_split, addr_is, StmtOk}
 use Rattle.mir_live.proofs.Alone.{read_source}
-use Rattle.mir_live.proofs.Agree.{Tight, NeedsOk, Agree, tight_agree, no_need, whole_tight, tight_self, AgreeMem, write_agree, write_agree_source, write_agree_other}
+use Rattle.mir_live.proofs.Agree.{Tight, NeedsOk, tight_agree, no_need, whole_tight, tight_self, AgreeMem, write_agree, write_agree_source, write_agree_other}
 
 pub read_whole : (h : Here) (m : Memory) (o : Operand) (r : Value × Memory) → read h m o ≡ Some r → whole r.0 ≡ true
 unfolding read read_at const_value
@@ -262,7 +256,7 @@ module _ (A : Among) (D : List Shape) (ts : List Tree) (f : ℕ) (j L : Renaming
         let (l', ty') = read_source A D G blank_ok ts f f j L low self locals_ok m2 m1 o r1 h (l, ty) e in
         (l', ty', alone_read m2 m1 o r1 h mo l.mem ty k e)
 
-    abbrev MovesOk : List Operand → Type 0
+    abbrev pub MovesOk : List Operand → Type 0
     MovesOk [] = Unit {0}
     MovesOk (o ∷ os) = MoveOk HB o × MovesOk os
 

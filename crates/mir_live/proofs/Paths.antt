@@ -1,25 +1,13 @@
 -- Where terminators lead, and what statements fill.
-use Rattle.std.proofs.Common.{◌≡◌, ◌⊎◌, inl, inr, ⊎_elim, refl, sym, ap, ap₂, ◌∙◌, subst, ℕ, zero, suc, ◌+◌, ◌<◌, ◌≤◌, Bool, true, false, not, nat_eq, ◌&&◌, ◌||◌, if◌then◌else◌, List, [], ◌∷◌, ◌++◌, map, length, drop, take, Option, Some, None, is_some, slice_get, option_map, arith, append_assoc}
-use Rattle.std.proofs.lemmas.Bool.{eqb-true, cases_lt}
-use Rattle.mir_syntax.specs.declared.types.ScalarTy.{ScalarTy}
+use Rattle.std.proofs.Common.{◌≡◌, ◌⊎◌, inl, inr, refl, sym, ap, ◌∙◌, ℕ, zero, suc, Bool, true, false, nat_eq, ◌&&◌, if◌then◌else◌, List, [], ◌∷◌, drop, Some, None, slice_get, arith}
 use Rattle.mir_syntax.specs.declared.body.Proj.{Proj}
-use Rattle.mir_syntax.specs.declared.body.Proj.TheVariants.{Field, Downcast, Deref}
 use Rattle.mir_syntax.specs.declared.body.Place.{Place}
-use Rattle.mir_syntax.specs.declared.body.Operand.{Operand}
-use Rattle.mir_syntax.specs.declared.body.Operand.TheVariants as operand
-use Rattle.mir_syntax.specs.Tree.{Tree, scalar, empty, more, named}
-use Rattle.mir_syntax.specs.Tree as tree
-use Rattle.mir_syntax.specs.Crate.{TypedRvalue, «use», binary, overflow, unary, cast, discriminant, tuple, build, TypedStmt, assign, storage_live, storage_dead, set_discriminant}
-use Rattle.mir_syntax.specs.Crate as rvalue
-use Rattle.mir_syntax.specs.Shapes.{Shape, ◌>>=◌, struct_fields, fields_of_struct, fields_of, field_ty, variant_of_enum, variant_ty, pointee, proj_ty, path_ty, place_ty, destructor_of, needs_drop}
-use Rattle.mir_semantics.specs.Values.{Addr, Value, number, nil, cons, variant, pointer, hole, is_hole, part, payload, inner, at_path, put, blank}
-use Rattle.mir_semantics.specs.Memory.{Memory, local_at, value_at, write, further, there, referent, project, walk}
-use Rattle.mir_semantics.specs.Step.{Dest, Here, only_if, local_addr, resolve, type_of, has_deref, guard_of, dest_of, allows, store, read_at, read, read_all, number_in, read_number, operand_ty, scalar_ty_of, scalar_in, read_two, eval, set_blank, is_variant, write_unless, exec}
+use Rattle.mir_syntax.specs.Crate.{TypedRvalue, TypedStmt, assign}
 use Rattle.mir_syntax.specs.declared.body.Arm.{Arm}
 use Rattle.mir_semantics.specs.Step.{take_arm}
 use Rattle.mir_renaming.proofs.Memory.{same_or_not}
 use Rattle.mir_live.specs.Places.{is_nil, fills}
-use Rattle.mir_live.specs.Paths.{ArmLeads, Leads}
+use Rattle.mir_live.specs.Paths.{ArmLeads}
 
 -- the taken block is one to which the terminator leads
 pub take_leads : (n : ℕ) (arms : List Arm) (t : ℕ) → ArmLeads arms (take_arm n arms t) ⊎ (t ≡ take_arm n arms t)

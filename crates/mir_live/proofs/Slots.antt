@@ -1,42 +1,20 @@
 -- The slots of a new frame, and memories in which frames open and close.
-use Rattle.std.proofs.Common.{◌≡◌, ◌⊎◌, inl, inr, ⊎_elim, refl, sym, ap, ap₂, ◌∙◌, subst, ℕ, zero, suc, ◌+◌, ◌<◌, ◌≤◌, Bool, true, false, not, nat_eq, ◌&&◌, ◌||◌, if◌then◌else◌, List, [], ◌∷◌, ◌++◌, map, length, drop, take, Option, Some, None, is_some, slice_get, option_map, arith, append_assoc}
-use Rattle.std.proofs.lemmas.Bool.{eqb-true, cases_lt}
-use Rattle.mir_syntax.specs.declared.types.ScalarTy.{ScalarTy}
-use Rattle.mir_syntax.specs.declared.body.Proj.{Proj}
-use Rattle.mir_syntax.specs.declared.body.Proj.TheVariants.{Field, Downcast, Deref}
-use Rattle.mir_syntax.specs.declared.body.Place.{Place}
-use Rattle.mir_syntax.specs.declared.body.Operand.{Operand}
-use Rattle.mir_syntax.specs.declared.body.Operand.TheVariants as operand
-use Rattle.mir_syntax.specs.Tree.{Tree, scalar, empty, more, named}
-use Rattle.mir_syntax.specs.Tree as tree
-use Rattle.mir_syntax.specs.Crate.{TypedRvalue, «use», binary, overflow, unary, cast, discriminant, tuple, build, TypedStmt, assign, storage_live, storage_dead, set_discriminant}
-use Rattle.mir_syntax.specs.Crate as rvalue
-use Rattle.mir_syntax.specs.Shapes.{Shape, ◌>>=◌, struct_fields, fields_of_struct, fields_of, field_ty, variant_of_enum, variant_ty, pointee, proj_ty, path_ty, place_ty, destructor_of, needs_drop}
-use Rattle.mir_semantics.specs.Values.{Addr, Value, number, nil, cons, variant, pointer, hole, is_hole, part, payload, inner, at_path, put, blank}
-use Rattle.mir_semantics.specs.Memory.{Memory, local_at, value_at, write, further, there, referent, project, walk}
-use Rattle.mir_semantics.specs.Step.{Dest, Here, only_if, local_addr, resolve, type_of, has_deref, guard_of, dest_of, allows, store, read_at, read, read_all, number_in, read_number, operand_ty, scalar_ty_of, scalar_in, read_two, eval, set_blank, is_variant, write_unless, exec}
-use Rattle.mir_renaming.specs.Renaming.{Renaming, AddrRel, ValueRel, SomeRel, Sub, MemRel, AddrThere, RootOf}
-use Rattle.mir_renaming.proofs.Memory.{bind_some, some_bind, same_or_not, sub_addr, value_at_rel, walk_rel, root_or_not, write_same, write_other, write_back, write_target, write_source, fewer, write_again, write_whole_rel}
-use Rattle.mir_renaming.proofs.Statements.{blank_rel, ValuesRel, only_true, Linked, Got, got_at, write_linked, DestRel, MemGot, store_rel, H1, PlaceRel, OperandRel, OperandsRel, resolve_rel, read_all_rel, RvalueRel, eval_rel, dest_rel, exec_rel}
-use Rattle.mir_renaming.proofs.Types.{TypeMap, HasTy, AddrTy, MemTy, is_scalar, can_hole, holds_by, some_eq, more_eq, as_rows, value_at_ty, write_ty, resolve_ty, at_path_ty, blank_any, blank_fits}
-use Rattle.std.specs.Prelude.{ℤ}
-use Rattle.mir_syntax.specs.declared.body.Arm.{Arm}
-use Rattle.mir_syntax.specs.declared.body.Callee.{Callee}
-use Rattle.mir_syntax.specs.declared.body.Callee.TheVariants as callee
-use Rattle.mir_syntax.specs.declared.body.Term.{Term}
-use Rattle.mir_syntax.specs.declared.body.Term.TheVariants.{Goto, Switch, Return, Unreachable, Drop, Call, Assert}
-use Rattle.mir_syntax.specs.Crate.{TypedBlock, TypedBody}
-use Rattle.mir_num.specs.Numbers.{wrap, flag, integer_of}
+use Rattle.std.proofs.Common.{◌≡◌, ◌⊎◌, inl, inr, refl, sym, ap, ap₂, ◌∙◌, subst, ℕ, zero, suc, true, false, nat_eq, List, [], ◌∷◌, ◌++◌, length, drop, Some, None, slice_get, arith}
+use Rattle.mir_syntax.specs.Tree.{Tree}
+use Rattle.mir_syntax.specs.Shapes.{Shape, path_ty}
+use Rattle.mir_semantics.specs.Values.{Addr, Value}
+use Rattle.mir_semantics.specs.Memory.{Memory, local_at, value_at}
+use Rattle.mir_semantics.specs.Step.{local_addr}
+use Rattle.mir_renaming.specs.Renaming.{Renaming, AddrRel, ValueRel, SomeRel, Sub, MemRel}
+use Rattle.mir_renaming.proofs.Memory.{some_bind, same_or_not}
+use Rattle.mir_renaming.proofs.Statements.{blank_rel, ValuesRel}
+use Rattle.mir_renaming.proofs.Types.{TypeMap, AddrTy, MemTy, some_eq}
 use Rattle.mir_semantics.specs.Memory.{open_frame, close_frame}
-use Rattle.mir_semantics.specs.Step.{Code, Visit, Dropping, Control, Called, State, returned, aborted, no_answer, Next, on, stop, fail, blanks, first_of, numbers_in, integers, go_on, to_block, next_stmt, take_arm, new_slots, entered, enter, calling, answered, ask, call, visits_of, shape_visits, enum_visits, variant_visits, field_visits, work_on, visit, visit_unless, visit_if, work_off, begun, left_in, left_at, destroyed_at, destroyed, return_to, check, finish, perform, step}
-use Rattle.mir_renaming.proofs.Statements.{write_clear, number_rel, read_rel, read_at_rel, read_number_rel, scalar_ty_rel}
+use Rattle.mir_semantics.specs.Step.{blanks, first_of, new_slots}
 use Rattle.mir_renaming.proofs.Frames.{open_same, open_other, close_same, close_other}
-use Rattle.mir_renaming.proofs.Ghosts.{value_mono, plain_same, AllPlain, plains_self}
-use Rattle.mir_relate.proofs.Aligned.{Flat, new_control}
-use Rattle.mir_live.specs.Places.{solid, is_nil, fills}
-use Rattle.mir_live.proofs.Among.{Among, OkOperand, OkOperands, OkRvalue}
-use Rattle.mir_live.proofs.Keeps.{store_keeps, read_number_keeps}
-use Rattle.mir_live.proofs.Alive.{Ident, itself, plus, minus, plus_frame, pair_parts, then_is, else_is, plus_ident, plus_at, plus_sub, minus_ident, minus_sub, minus_other, frame_ident, frame_sub, frame_at, frame_old, linked, Rooms, rooms_left, rooms_right, store_split, root_of, at_path_solid, solid_plain, place_at, addr_eq, operand_at, operands_at, stmt_live, exec_rooms, read_rooms, reads_rooms, far_dest, near_dest, whole_dest, part_dest, StmtOk, RefOk, store_linked, store_whole, store_part}
+use Rattle.mir_renaming.proofs.Ghosts.{value_mono}
+use Rattle.mir_live.specs.Places.{solid}
+use Rattle.mir_live.proofs.Alive.{Ident, plus_frame, frame_ident, frame_old, Rooms, at_path_solid}
 
 append_rel : (j : Renaming) (a b c d : List Value) → ValuesRel j a b → ValuesRel j c d → ValuesRel j (a ++ c) (b ++ d)
 append_rel j [] [] c d h k = k

@@ -1,58 +1,23 @@
 -- The starts of an entry are related.
-use Rattle.std.proofs.Common.{◌≡◌, ◌⊎◌, inl, inr, ⊎_elim, refl, sym, ap, ap₂, ◌∙◌, subst, ℕ, zero, suc, ◌+◌, ◌<◌, ◌≤◌, Bool, true, false, not, nat_eq, ◌&&◌, ◌||◌, if◌then◌else◌, List, [], ◌∷◌, ◌++◌, map, length, drop, take, Option, Some, None, is_some, slice_get, option_map, arith, append_assoc}
-use Rattle.std.proofs.lemmas.Bool.{eqb-true, cases_lt}
-use Rattle.mir_syntax.specs.declared.types.ScalarTy.{ScalarTy}
-use Rattle.mir_syntax.specs.declared.body.Proj.{Proj}
-use Rattle.mir_syntax.specs.declared.body.Proj.TheVariants.{Field, Downcast, Deref}
-use Rattle.mir_syntax.specs.declared.body.Place.{Place}
-use Rattle.mir_syntax.specs.declared.body.Operand.{Operand}
-use Rattle.mir_syntax.specs.declared.body.Operand.TheVariants as operand
-use Rattle.mir_syntax.specs.Tree.{Tree, scalar, empty, more, named}
-use Rattle.mir_syntax.specs.Tree as tree
-use Rattle.mir_syntax.specs.Crate.{TypedRvalue, «use», binary, overflow, unary, cast, discriminant, tuple, build, TypedStmt, assign, storage_live, storage_dead, set_discriminant}
-use Rattle.mir_syntax.specs.Crate as rvalue
-use Rattle.mir_syntax.specs.Shapes.{Shape, ◌>>=◌, struct_fields, fields_of_struct, fields_of, field_ty, variant_of_enum, variant_ty, pointee, proj_ty, path_ty, place_ty, destructor_of, needs_drop}
-use Rattle.mir_semantics.specs.Values.{Addr, Value, number, nil, cons, variant, pointer, hole, is_hole, part, payload, inner, at_path, put, blank}
-use Rattle.mir_semantics.specs.Memory.{Memory, local_at, value_at, write, further, there, referent, project, walk}
-use Rattle.mir_semantics.specs.Step.{Dest, Here, only_if, local_addr, resolve, type_of, has_deref, guard_of, dest_of, allows, store, read_at, read, read_all, number_in, read_number, operand_ty, scalar_ty_of, scalar_in, read_two, eval, set_blank, is_variant, write_unless, exec}
-use Rattle.mir_renaming.specs.Renaming.{Renaming, AddrRel, ValueRel, SomeRel, Sub, MemRel, AddrThere, RootOf}
-use Rattle.mir_renaming.proofs.Memory.{bind_some, some_bind, same_or_not, sub_addr, value_at_rel, walk_rel, root_or_not, write_same, write_other, write_back, write_target, write_source, fewer, write_again, write_whole_rel}
-use Rattle.mir_renaming.proofs.Statements.{blank_rel, ValuesRel, only_true, Linked, Got, got_at, write_linked, DestRel, MemGot, store_rel, H1, PlaceRel, OperandRel, OperandsRel, resolve_rel, read_all_rel, RvalueRel, eval_rel, dest_rel, exec_rel}
-use Rattle.mir_renaming.proofs.Types.{TypeMap, HasTy, AddrTy, MemTy, is_scalar, can_hole, holds_by, some_eq, more_eq, as_rows, value_at_ty, write_ty, resolve_ty, at_path_ty, blank_any, blank_fits}
-use Rattle.std.specs.Prelude.{ℤ}
-use Rattle.mir_syntax.specs.declared.body.Arm.{Arm}
-use Rattle.mir_syntax.specs.declared.body.Callee.{Callee}
-use Rattle.mir_syntax.specs.declared.body.Callee.TheVariants as callee
-use Rattle.mir_syntax.specs.declared.body.Term.{Term}
-use Rattle.mir_syntax.specs.declared.body.Term.TheVariants.{Goto, Switch, Return, Unreachable, Drop, Call, Assert}
+use Rattle.std.proofs.Common.{◌≡◌, refl, sym, subst, ℕ, Bool, List, [], ◌∷◌, Option, Some, None, slice_get, arith}
+use Rattle.mir_syntax.specs.Shapes.{Shape}
+use Rattle.mir_semantics.specs.Values.{Value}
+use Rattle.mir_renaming.specs.Renaming.{Renaming}
+use Rattle.mir_renaming.proofs.Statements.{ValuesRel}
 use Rattle.mir_syntax.specs.Crate.{TypedBlock, TypedBody}
-use Rattle.mir_num.specs.Numbers.{wrap, flag, integer_of}
-use Rattle.mir_semantics.specs.Memory.{open_frame, close_frame}
-use Rattle.mir_semantics.specs.Step.{Code, Visit, Dropping, Control, Called, State, returned, aborted, no_answer, Next, on, stop, fail, numbers_in, integers, go_on, to_block, next_stmt, take_arm, new_slots, entered, enter, calling, answered, ask, call, visits_of, shape_visits, enum_visits, variant_visits, field_visits, work_on, visit, visit_unless, visit_if, work_off, begun, left_in, left_at, destroyed_at, destroyed, return_to, check, finish, perform, step}
-use Rattle.mir_renaming.proofs.Statements.{write_clear, number_rel, read_rel, read_at_rel, read_number_rel, scalar_ty_rel}
-use Rattle.mir_renaming.proofs.Frames.{open_same, open_other, close_same, close_other}
-use Rattle.mir_renaming.proofs.Ghosts.{value_mono, plain_same, AllPlain, plains_self}
-use Rattle.mir_relate.proofs.Aligned.{Flat, new_control}
-use Rattle.mir_live.proofs.Slots.{slots_rel, value_in, close_live, close_rooms, open_live, open_rooms, zero_addr, local_parts, shape_of}
-use Rattle.mir_live.specs.Places.{solid, is_nil, fills}
-use Rattle.mir_live.proofs.Among.{Among, OkOperand, OkOperands, OkRvalue, all_operand, all_operands, all_rvalue}
-use Rattle.mir_live.proofs.Keeps.{store_keeps, read_number_keeps}
-use Rattle.mir_live.proofs.Alive.{Ident, itself, plus, minus, plus_frame, pair_parts, then_is, else_is, plus_ident, plus_at, plus_sub, minus_ident, minus_sub, minus_other, frame_ident, frame_sub, frame_at, frame_old, linked, Rooms, rooms_left, rooms_right, store_split, assign_split, plain_dest, root_of, at_path_solid, solid_plain, place_at, addr_eq, operand_at, operands_at, stmt_live, exec_rooms, read_rooms, reads_rooms, gone_live, far_dest, near_dest, whole_dest, part_dest, StmtOk, RefOk, store_linked, store_whole, store_part}
-use Rattle.mir_renaming.proofs.Types.{dest_ty, read_ty}
-use Rattle.mir_renaming.proofs.Typed.{ValidCode, FrameTy, Typed, TermTy, OpsTy, SomeTys, ResultTy, CalleeTy, step_typed}
-use Rattle.mir_live.proofs.Agree.{Tight, NeedsOk, Agree, at_path_agree, whole_tight, tight_self, AgreeMem, write_agree_other}
-use Rattle.mir_live.proofs.Pairs.{Tights, Pair, read_whole, read_pair, reads_pair, read_number_pair, exec_pair, SetOk, RvalueMoves, alone_eval}
-use Rattle.mir_live.proofs.Items.{step_parts, DropPlain, InLocal, Items, OwnDrop, Own, FirstNeeds, Runs, Owns, Drops, begun_own, step_drops}
-use Rattle.mir_live.proofs.Paired.{slots_tight, open_agree, DropStep, off_step, destroyed_step, on_eq, LocalIn, Loc, Agrees, same_control, close_agree, Meet, store_both, entered_both, drop_both}
-use Rattle.mir_live.proofs.Runs.{extend, extend_new, extend_old, low_frame, Ghost, J, j_other, Frame, Covers, Stack, Mems, Base, Rel, Follows, follows_at, follows_by, Placed, ItemOk, FirstOk, NeedsFirst, Resumes, Reach, ReachTop, bodies, TermOk, Edges, DestOk, self, dest_live, DropTerm, begun_same, drop_live, finish_live, both_stmt, gone_stmt}
-use Rattle.mir_live.specs.Paths.{Leads, fills_term}
-use Rattle.mir_semantics.specs.Values.{whole}
-
-use Rattle.mir_live.proofs.Steps.{R, top_drop, resumes, known, in_l, OpsOk, finish_both, stmt_both}
-
-use Rattle.mir_relate.specs.Simulation.{Simulation, Follows as Owes, moves, keep_on}
-use Rattle.mir_live.proofs.Others.{Known, Goes, A1, StmtFits, SetFits, at_end, at_stmt, alone}
-
+use Rattle.mir_semantics.specs.Memory.{open_frame}
+use Rattle.mir_semantics.specs.Step.{Code, Control, State, new_slots}
+use Rattle.mir_renaming.proofs.Ghosts.{AllPlain, plains_self}
+use Rattle.mir_relate.proofs.Aligned.{new_control}
+use Rattle.mir_live.proofs.Slots.{slots_rel, open_live, open_rooms}
+use Rattle.mir_live.proofs.Alive.{Ident, plus_frame, frame_ident, frame_at}
+use Rattle.mir_renaming.proofs.Typed.{ValidCode, Typed}
+use Rattle.mir_live.proofs.Agree.{NeedsOk, tight_self}
+use Rattle.mir_live.proofs.Pairs.{Tights}
+use Rattle.mir_live.proofs.Items.{DropPlain}
+use Rattle.mir_live.proofs.Paired.{slots_tight, open_agree, Agrees}
+use Rattle.mir_live.proofs.Runs.{extend, extend_new, extend_old, low_frame, Ghost, J, Mems, Rel, bodies}
+use Rattle.mir_live.proofs.Others.{Known}
 use Rattle.mir_semantics.specs.Run.{Entry, start, slots_at}
 
 tights_self : (vs : List Value) → Tights vs vs
@@ -122,11 +87,13 @@ module _ (C1 : Code) (bodies2 : List TypedBody) (f : ℕ) (f1 f2 : TypedBody) (i
   pub start_known : (e : Entry) (b1 : TypedBody) (answers : List ℕ) → slice_get C1.bodies e.function ≡ Some b1 → AllPlain e.args → Typed C1 valid1 (start C1 e answers) → Typed (record C1 { bodies = bodies2 }) valid2 (start (record C1 { bodies = bodies2 }) e answers) → (n : ℕ) × Known C1 bodies2 f f1 f2 is1 is2 same_locals others lent Lv InBlock begins valid1 valid2 nk plain n (start (record C1 { bodies = bodies2 }) e answers) (start C1 e answers)
   unfolding state_of
   start_known e b1 answers e1 h T1 T2 =
-      let (b2, e2, same) = bodies C1 bodies2 f f1 f2 is1 is2 same_locals others lent Lv InBlock begins e.function b1 e1 in
-      (n0 e b1 b2 answers same h, record {
-        rel = subst (λ o. Rel C1 bodies2 f f1 f2 is1 is2 same_locals others lent Lv InBlock begins (n0 e b1 b2 answers same h) (state_of C2 e answers o) (start C1 e answers)) (sym e2) (subst (λ o. Rel C1 bodies2 f f1 f2 is1 is2 same_locals others lent Lv InBlock begins (n0 e b1 b2 answers same h) (state_of C2 e answers (Some b2)) (state_of C1 e answers o)) (sym e1) (start_rel e b1 b2 answers same h));
-        typed1 = T1;
-        typed2 = T2;
-        drops = record { top = λ d q. absurd (grind arith); callers = tt };
-        agree = subst (λ o. Agrees C1 f (new_control e.function 0 None ∷ []) (state_of C2 e answers o).memory (start C1 e answers).memory) (sym e2) (subst (λ o. Agrees C1 f (new_control e.function 0 None ∷ []) (state_of C2 e answers (Some b2)).memory (state_of C1 e answers o).memory) (sym e1) (start_agree e b1 b2 answers same h));
-      })
+      let (b2, e2, same) = bodies C1 bodies2 f f1 f2 is1 is2 same_locals others lent Lv InBlock begins e.function b1 e1 in (
+        n0 e b1 b2 answers same h,
+        record {
+          rel = subst (λ o. Rel C1 bodies2 f f1 f2 is1 is2 same_locals others lent Lv InBlock begins (n0 e b1 b2 answers same h) (state_of C2 e answers o) (start C1 e answers)) (sym e2) (subst (λ o. Rel C1 bodies2 f f1 f2 is1 is2 same_locals others lent Lv InBlock begins (n0 e b1 b2 answers same h) (state_of C2 e answers (Some b2)) (state_of C1 e answers o)) (sym e1) (start_rel e b1 b2 answers same h));
+          typed1 = T1;
+          typed2 = T2;
+          drops = record { top = λ d q. absurd (grind arith); callers = tt };
+          agree = subst (λ o. Agrees C1 f (new_control e.function 0 None ∷ []) (state_of C2 e answers o).memory (start C1 e answers).memory) (sym e2) (subst (λ o. Agrees C1 f (new_control e.function 0 None ∷ []) (state_of C2 e answers (Some b2)).memory (state_of C1 e answers o).memory) (sym e1) (start_agree e b1 b2 answers same h));
+        },
+      )
