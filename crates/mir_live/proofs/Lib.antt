@@ -14,3 +14,4 @@ pub mod Others
 pub mod Follow
 pub mod Starts
 pub mod Prune
+pub mod PruneRefines
