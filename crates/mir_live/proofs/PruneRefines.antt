@@ -1,10 +1,10 @@
 -- A crate of which one body lost assignments that nobody reads refines the crate.
-use Rattle.std.proofs.Common.{◌≡◌, refl, sym, subst, ℕ, zero, suc, Bool, true, false, List, map, Option, Some, None, slice_get}
+use Rattle.std.proofs.Common.{◌≡◌, refl, sym, subst, ℕ, Bool, false, List, map, Some, slice_get}
 use Rattle.mir_syntax.specs.declared.body.Place.{Place}
 use Rattle.mir_syntax.specs.Tree.{Tree}
 use Rattle.mir_syntax.specs.Crate.{set_discriminant, TypedBlock, TypedBody, Crate}
 use Rattle.mir_syntax.specs.Shapes.{place_ty, needs_drop}
-use Rattle.mir_semantics.specs.Step.{Code, code_of, State, Next, on, step}
+use Rattle.mir_semantics.specs.Step.{code_of, State, Next, on, step}
 use Rattle.mir_semantics.specs.Run.{Entry, start}
 use Rattle.mir_semantics.specs.Entry.{IsEntry}
 use Rattle.mir_semantics.specs.Refines.{Refines, header}
