@@ -9,6 +9,8 @@
 mod edges;
 mod problem;
 mod solver;
+#[cfg(test)]
+mod tests;
 mod worklist;
 
 pub use edges::Edge;
