@@ -16,7 +16,6 @@ returns-in-Assign c = λ trees.
     let row = c.args.row in
     let p = c.in-Assign.place in
     let r = c.in-Assign.rvalue in
-
     let low : row < length c.fill.new.rows = rw c.fill.ensures (rw length-set c.requires) in
     let reads : c.read_written.new.rows ≡ set c.fill.new.rows row (marked (row_at c.fill.new.rows row) (bare_rvalue_reads r ++ written_reads p)) = marks_then c.fill.new.rows c.read_rvalue.new.rows c.read_written.new.rows row (bare_rvalue_reads r) (written_reads p) low c.read_rvalue.ensures c.read_written.ensures in
     row_then rows c.fill.new.rows c.read_written.new.rows row (λ x. cleared x (whole p)) (λ x. marked x (bare_rvalue_reads r ++ written_reads p)) c.requires c.fill.ensures reads
