@@ -1,0 +1,3 @@
+pub mod Seeing
+pub mod Operators
+pub mod PartTypes

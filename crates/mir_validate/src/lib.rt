@@ -1,0 +1,8 @@
+//! Validation.
+#![tactic(auto)]
+
+mod inside;
+mod parts;
+mod rvalue;
+mod seen;
+mod typing;
