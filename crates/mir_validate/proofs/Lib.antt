@@ -1,3 +1,5 @@
 pub mod Seeing
 pub mod Operators
 pub mod PartTypes
+pub mod Values
+pub mod PathSteps

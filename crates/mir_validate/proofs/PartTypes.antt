@@ -1,8 +1,9 @@
 -- The types of lists of operands, of enums, and of what is built.
-use Rattle.std.proofs.Common.{◌≡◌, ℕ, zero, suc, Bool, true, false, ◌&&◌, is_some, List, [], ◌∷◌, map, slice_get, Option, Some, None, refl, sym, ap, ◌∙◌}
+use Rattle.std.proofs.Common.{◌≡◌, ℕ, zero, suc, Bool, true, false, ◌&&◌, is_some, List, [], ◌∷◌, map, length, slice_get, Option, Some, None, refl, sym, ap, ◌∙◌}
 use Rattle.std.specs.Bool.{then_some}
 use Rattle.std.specs.Option.{option_map}
 use Rattle.std.proofs.lemmas.Option.{slice_get-map}
+use Rattle.std.proofs.lemmas.List.{length-map}
 use Rattle.mir_syntax.specs.declared.types.Field.{Field}
 use Rattle.mir_syntax.specs.declared.types.Variant.{Variant}
 use Rattle.mir_syntax.specs.declared.types.Def.{Def}
@@ -18,7 +19,7 @@ use Rattle.mir_rules.specs.Same.{same_tree}
 use Rattle.mir_rules.specs.Typing.{operand_ty, operands_ty, isize_ty, enum_of, discriminant_ty, build_ty}
 use Rattle.mir_rules.proofs.Lists.{some_bind}
 use Rattle.mir_validate.specs.Inside.{shapes}
-use Rattle.mir_validate.specs.Codes.{has_type, have_types, field_tree}
+use Rattle.mir_validate.specs.Codes.{has_type, have_types, field_tree, variant_count}
 
 pub none_bind : {A B : Type 0} (o : Option A) (f : A → Option B) → o ≡ None → (o >>= f) ≡ None
 unfolding ◌>>=◌
@@ -109,3 +110,13 @@ build_at p None d v def variant b h e same = rw (← same) refl
 build_at p (Some t) d v def variant b h e same =
     let fields = variant_at (trees_of p.types) def.variants v ∙ ap (option_map (λ (w : Variant). tuple_of (map (field_tree (trees_of p.types)) w.fields))) e in
     rw (shape-at p d def h, fields, same) refl
+
+-- ---- how many variants an enum has
+
+pub count_at : (p : Program) (d : ℕ) (def : Def) → slice_get p.defs d ≡ Some def → def.is_enum ≡ true → option_map variant_count (enum_of (shapes p) (named d)) ≡ Some (length def.variants)
+unfolding ◌>>=◌
+count_at p d def h e = rw (shape-at p d def h, e) (ap Some (length-map (map (variant_of (trees_of p.types)) def.variants) fields_tuple ∙ length-map def.variants (variant_of (trees_of p.types))))
+
+pub count_struct : (p : Program) (d : ℕ) (def : Def) → slice_get p.defs d ≡ Some def → def.is_enum ≡ false → option_map variant_count (enum_of (shapes p) (named d)) ≡ None
+unfolding ◌>>=◌
+count_struct p d def h e = rw (shape-at p d def h, e) refl

@@ -1,5 +1,5 @@
 -- Forms of the rules in the shape of the code. No public promise rests on these.
-use Rattle.std.specs.Prelude.{ℕ, Bool, true, false, ◌&&◌, ◌||◌, List, [], ◌∷◌, flat_map, Option, Some, None, is_none}
+use Rattle.std.specs.Prelude.{ℕ, Bool, true, false, ◌&&◌, ◌||◌, List, [], ◌∷◌, ◌++◌, length, Option, Some, None, is_none}
 use Rattle.std.specs.List.{list_any, list_all}
 use Rattle.mir_syntax.specs.declared.body.Place.{Place}
 use Rattle.mir_syntax.specs.declared.body.Operand.{Operand}
@@ -15,10 +15,12 @@ use Rattle.mir_syntax.specs.declared.body.Term.TheVariants as term
 use Rattle.mir_syntax.specs.declared.types.Field.{Field}
 use Rattle.mir_syntax.specs.Tree.{Tree, ref, ref_mut, at_id}
 use Rattle.mir_syntax.specs.Crate.{TypedRvalue, tuple}
-use Rattle.mir_syntax.specs.Shapes.{Shape, place_ty, ◌>>=◌}
+use Rattle.mir_syntax.specs.Shapes.{Shape, place_ty, variant_ty, field_ty, ◌>>=◌}
 use Rattle.mir_rules.specs.Parts.{operand_places, rvalue_places}
 use Rattle.mir_rules.specs.Formed.{path_formed}
 use Rattle.mir_rules.specs.Same.{same_tree}
+use Rattle.mir_rules.specs.BodyRules.{differ}
+use Rattle.mir_rules.specs.Broken.{if_broken, rvalue_broken}
 use Rattle.mir_rules.specs.Typing.{operand_ty, operands_ty, rvalue_ty, binary_ty, overflow_ty, unary_ty, cast_ty, discriminant_ty, build_ty}
 
 -- ---- downcasts are followed by fields
@@ -42,6 +44,12 @@ rvalue_whole (rvalue.RefMut p) = path_formed p.proj
 rvalue_whole (rvalue.Discriminant p) = path_formed p.proj
 rvalue_whole (rvalue.Tuple parts) = list_all operand_whole parts
 rvalue_whole (rvalue.Build d v parts) = list_all operand_whole parts
+
+abbrev pub stmt_whole : Stmt → Bool
+stmt_whole (stmt.Assign p r) = path_formed p.proj && rvalue_whole r
+stmt_whole (stmt.StorageLive x) = true
+stmt_whole (stmt.StorageDead x) = true
+stmt_whole (stmt.SetDiscriminant p k) = path_formed p.proj
 
 -- ---- places without a type
 
@@ -120,3 +128,46 @@ field_tree trees f = at_id trees f.ty
 abbrev pub first_code : List ℕ → Option ℕ
 first_code [] = None
 first_code (code ∷ others) = Some code
+
+-- ---- tests of each operand of an rvalue
+
+abbrev pub rvalue_any : (Operand → Bool) → Rvalue → Bool
+rvalue_any test (rvalue.Use a) = test a
+rvalue_any test (rvalue.Binary op a b) = test a || test b
+rvalue_any test (rvalue.Overflow op a b) = test a || test b
+rvalue_any test (rvalue.Unary op a) = test a
+rvalue_any test (rvalue.Cast a ty) = test a
+rvalue_any test (rvalue.Ref p) = false
+rvalue_any test (rvalue.RefMut p) = false
+rvalue_any test (rvalue.Discriminant p) = false
+rvalue_any test (rvalue.Tuple parts) = list_any test parts
+rvalue_any test (rvalue.Build d v parts) = list_any test parts
+
+-- the rule that an rvalue without a type breaks where its operands have types
+abbrev pub own_rule : Rvalue → ℕ
+own_rule (rvalue.Binary op a b) = 9
+own_rule (rvalue.Overflow op a b) = 9
+own_rule (rvalue.Unary op a) = 10
+own_rule (rvalue.Cast a ty) = 11
+own_rule (rvalue.Build d v parts) = 12
+own_rule (rvalue.Discriminant p) = 13
+own_rule r = 14
+
+-- what an rvalue breaks of its own, and as a value of a type
+abbrev pub value_broken : List Shape → List Tree → TypedRvalue → Tree → List ℕ
+value_broken D locals r t = rvalue_broken D locals r ++ if_broken (differ (rvalue_ty D locals r) (Some t)) 14
+
+abbrev pub variant_count : Shape → ℕ
+variant_count s = length s.variants
+
+-- the code of what moves break
+abbrev pub moves_code : Bool → Bool → Option ℕ
+moves_code true indirectly = Some 21
+moves_code false true = Some 22
+moves_code false false = None
+
+-- ---- paths
+
+-- the type of a field of an enum's variant
+abbrev pub variant_field : List Shape → Tree → ℕ → ℕ → Option Tree
+variant_field D t k i = variant_ty D t k >>= λ u. field_ty u i
