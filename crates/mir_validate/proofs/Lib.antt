@@ -3,3 +3,5 @@ pub mod Operators
 pub mod PartTypes
 pub mod Values
 pub mod PathSteps
+pub mod TermCodes
+pub mod HeadersOf

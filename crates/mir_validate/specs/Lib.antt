@@ -1,2 +1,4 @@
 pub mod Inside
 pub mod Codes
+pub mod Terms
+pub mod Headers

@@ -20,7 +20,7 @@ pub struct Moves {
 }
 
 impl Moves {
-    fn none() -> Moves
+    pub fn none() -> Moves
         ensures through { result.through ≡ false }
         ensures indirectly { result.indirectly ≡ false }
     {
@@ -30,7 +30,7 @@ impl Moves {
         }
     }
 
-    fn or(self, other: Moves) -> Moves
+    pub fn or(self, other: Moves) -> Moves
         ensures through { result.through ≡ (self.through || other.through) }
         ensures indirectly { result.indirectly ≡ (self.indirectly || other.indirectly) }
     {
@@ -68,7 +68,7 @@ impl Inside<'_> {
         }
     }
 
-    fn operand_moves(&self, operand: &Operand) -> Moves
+    pub fn operand_moves(&self, operand: &Operand) -> Moves
         requires formed { IsTrue (operand_whole operand.now) }
         ensures through { result.through ≡ moves_through_destructor (shapes self.now.program.now) (local_types self.now.program.now self.now.body.now) operand.now }
         ensures indirectly { result.indirectly ≡ moves_needing_indirectly (shapes self.now.program.now) (local_types self.now.program.now self.now.body.now) operand.now }

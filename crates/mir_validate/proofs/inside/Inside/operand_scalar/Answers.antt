@@ -1,0 +1,13 @@
+use Rattle.std.proofs.Common.{Some, None, true, false, sym, ap, refl, ◌∙◌}
+use Rattle.mir_syntax.specs.Crate.{crate_of}
+use Rattle.mir_syntax.specs.Tree.{trees_of, at_id}
+use Rattle.mir_rules.proofs.Lists.{some_bind}
+use Rattle.mir_validate.specs.Inside.{shapes, local_types}
+use Rattle.mir_validate.proofs.PartTypes.{none_bind}
+use Rattle.mir_validate.proofs.inside.Inside.operand_scalar.Goals as goal
+
+pub returns-in-Some : goal.returns-in-Some
+returns-in-Some c = c.scalar.ensures ∙ sym (some_bind _ (sym c.in-Some.ensures.ty) refl)
+
+pub returns-in-None : goal.returns-in-None
+returns-in-None c = sym (none_bind _ _ (sym c.in-None.ensures.ty))
