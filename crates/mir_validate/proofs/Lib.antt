@@ -5,3 +5,6 @@ pub mod Values
 pub mod PathSteps
 pub mod TermCodes
 pub mod HeadersOf
+pub mod Faulty
+pub mod FormedParts
+pub mod Located

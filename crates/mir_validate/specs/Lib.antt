@@ -2,3 +2,4 @@ pub mod Inside
 pub mod Codes
 pub mod Terms
 pub mod Headers
+pub mod Walk

@@ -7,17 +7,18 @@ use Rattle.mir_syntax.specs.declared.body.Place.{Place}
 use Rattle.mir_syntax.specs.declared.body.Operand.{Operand}
 use Rattle.mir_syntax.specs.declared.body.Callee.{Callee}
 use Rattle.mir_syntax.specs.declared.body.Arm.{Arm}
+use Rattle.mir_syntax.specs.declared.body.Block.{Block}
 use Rattle.mir_syntax.specs.declared.body.Term.{Term}
 use Rattle.mir_syntax.specs.declared.body.Term.TheVariants as term
 use Rattle.mir_syntax.specs.Tree.{Tree}
 use Rattle.mir_syntax.specs.Crate.{Crate}
 use Rattle.mir_syntax.specs.Shapes.{Shape, place_ty, ◌>>=◌}
 use Rattle.mir_rules.specs.Same.{same_tree}
-use Rattle.mir_rules.specs.Formed.{path_formed}
+use Rattle.mir_rules.specs.Formed.{path_formed, call_formed}
 use Rattle.mir_rules.specs.Typing.{scalar_of, operand_ty, operands_ty, callee_args_ty, callee_result_ty}
 use Rattle.mir_rules.specs.BodyRules.{unfit, breaks_v15, breaks_v16, breaks_v17, breaks_v18, breaks_v19, breaks_v20}
 use Rattle.mir_rules.specs.Broken.{if_broken}
-use Rattle.mir_validate.specs.Codes.{operand_whole, place_untyped, operand_untyped}
+use Rattle.mir_validate.specs.Codes.{operand_whole, stmt_whole, place_untyped, operand_untyped}
 
 abbrev pub arm_goes_back : Arm → Bool
 arm_goes_back a = a.block == 0
@@ -41,6 +42,9 @@ term_whole (term.Assert a expected text args next) = operand_whole a && list_all
 term_whole (term.Goto next) = true
 term_whole term.Return = true
 term_whole term.Unreachable = true
+
+abbrev pub block_whole : Crate → Block → Bool
+block_whole C b = list_all stmt_whole b.stmts && (term_whole b.term && call_formed C b.term)
 
 abbrev pub term_untyped : List Shape → List Tree → Term → Bool
 term_untyped D locals (term.Switch a arms other) = operand_untyped D locals a
