@@ -1,5 +1,5 @@
 -- What a walk over a body with its lines finds is all that the body breaks, each on its line.
-use Rattle.std.proofs.Common.{◌≡◌, ℕ, zero, suc, ◌+◌, Bool, true, false, ◌&&◌, nat_eq, IsTrue, List, [], ◌∷◌, ◌++◌, map, length, slice_get, Option, Some, None, refl, sym, ap, ◌∙◌, arith, eqb-true}
+use Rattle.std.proofs.Common.{◌≡◌, ℕ, suc, ◌+◌, true, List, [], ◌∷◌, ◌++◌, map, length, slice_get, Some, refl, sym, ap, ◌∙◌, arith, eqb-true}
 use Rattle.std.proofs.lemmas.List.{length-map}
 use Rattle.mir_syntax.specs.declared.lines.BlockLines.{BlockLines}
 use Rattle.mir_syntax.specs.declared.lines.FnLines.{FnLines}
@@ -7,11 +7,11 @@ use Rattle.mir_syntax.specs.declared.lines.Lines.{Lines}
 use Rattle.mir_syntax.specs.declared.body.Stmt.{Stmt}
 use Rattle.mir_syntax.specs.declared.body.Block.{Block}
 use Rattle.mir_syntax.specs.declared.body.Body.{Body}
-use Rattle.mir_syntax.specs.Tree.{Tree, at_id}
-use Rattle.mir_syntax.specs.Crate.{TypedBody, TypedBlock, Crate, stmt_of, block_of, body_of}
+use Rattle.mir_syntax.specs.Tree.{Tree}
+use Rattle.mir_syntax.specs.Crate.{TypedBody, Crate, stmt_of, block_of, body_of}
 use Rattle.mir_syntax.specs.Shapes.{Shape, ◌>>=◌}
 use Rattle.mir_rules.specs.Broken.{Spot, statement, terminator, gather, at_spot, statement_broken, terminator_broken, statement_found, block_found, body_found}
-use Rattle.mir_rules.specs.Faults.{or_zero, block_lines, line_at, same_lengths, block_fits, by_line}
+use Rattle.mir_rules.specs.Faults.{block_lines, line_at, same_lengths, block_fits, by_line}
 use Rattle.mir_rules.proofs.Lists.{and_true-left, and_true-right}
 use Rattle.mir_validate.specs.Walk.{at_line, statements_broken, block_broken, blocks_broken}
 

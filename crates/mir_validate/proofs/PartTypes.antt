@@ -2,7 +2,6 @@
 use Rattle.std.proofs.Common.{◌≡◌, ℕ, zero, suc, Bool, true, false, ◌&&◌, is_some, List, [], ◌∷◌, map, length, slice_get, Option, Some, None, refl, sym, ap, ◌∙◌}
 use Rattle.std.specs.Bool.{then_some}
 use Rattle.std.specs.Option.{option_map}
-use Rattle.std.proofs.lemmas.Option.{slice_get-map}
 use Rattle.std.proofs.lemmas.List.{length-map}
 use Rattle.mir_syntax.specs.declared.types.Field.{Field}
 use Rattle.mir_syntax.specs.declared.types.Variant.{Variant}
@@ -11,9 +10,9 @@ use Rattle.mir_syntax.specs.declared.types.Ty.{Ty}
 use Rattle.mir_syntax.specs.declared.types.Ty.TheVariants.{Scalar, Tuple, Ref, RefMut, Named}
 use Rattle.mir_syntax.specs.declared.body.Operand.{Operand}
 use Rattle.mir_syntax.specs.declared.program.Program.{Program}
-use Rattle.mir_syntax.specs.Tree.{Tree, scalar, empty, more, named, at_id, node, trees_of, tuple_of}
-use Rattle.mir_syntax.specs.Crate.{crate_of, def_of, variant_of, field_of}
-use Rattle.mir_syntax.specs.Shapes.{Shape, shapes_of, shape_of, field_ty_of, fields_tuple, ◌>>=◌}
+use Rattle.mir_syntax.specs.Tree.{Tree, empty, more, named, at_id, node, trees_of, tuple_of}
+use Rattle.mir_syntax.specs.Crate.{variant_of, field_of}
+use Rattle.mir_syntax.specs.Shapes.{Shape, field_ty_of, fields_tuple, ◌>>=◌}
 use Rattle.mir_syntax.proofs.Places.{shape-at, shape-past}
 use Rattle.mir_rules.specs.Same.{same_tree}
 use Rattle.mir_rules.specs.Typing.{operand_ty, operands_ty, isize_ty, enum_of, discriminant_ty, build_ty}

@@ -1,5 +1,5 @@
 -- Paths, step by step: a downcast with the field behind it is one step.
-use Rattle.std.proofs.Common.{◌≡◌, ℕ, zero, suc, Bool, true, false, ◌&&◌, ◌||◌, ◌⊎◌, inl, inr, is_some, List, [], ◌∷◌, map, slice_get, Option, Some, None, refl, sym, ap, ◌∙◌}
+use Rattle.std.proofs.Common.{◌≡◌, ℕ, zero, suc, Bool, true, false, ◌⊎◌, inl, inr, List, [], ◌∷◌, map, slice_get, Option, Some, None, refl, sym, ap, ◌∙◌}
 use Rattle.std.specs.Option.{option_map}
 use Rattle.std.proofs.lemmas.Option.{slice_get-map}
 use Rattle.mir_syntax.specs.declared.types.TyId.{TyId}
@@ -12,12 +12,11 @@ use Rattle.mir_syntax.specs.declared.body.Proj.{Proj}
 use Rattle.mir_syntax.specs.declared.body.Proj.TheVariants as proj
 use Rattle.mir_syntax.specs.declared.program.Program.{Program}
 use Rattle.mir_syntax.specs.Tree.{Tree, scalar, empty, more, ref, ref_mut, named, at_id, node, trees_of, tuple_of}
-use Rattle.mir_syntax.specs.Shapes.{Shape, fields_of, field_ty, variant_ty, proj_ty, destructor_of, fields_tree, field_id, field_ty_of, ◌>>=◌}
+use Rattle.mir_syntax.specs.Shapes.{Shape, field_ty, variant_ty, fields_tree, field_id, field_ty_of, ◌>>=◌}
 use Rattle.mir_syntax.specs.Crate.{field_of}
 use Rattle.mir_syntax.proofs.Places.{variant-none, variant-struct, variant-fields}
-use Rattle.mir_rules.specs.Formed.{path_formed, begins_with_field}
+use Rattle.mir_rules.specs.Formed.{path_formed}
 use Rattle.mir_rules.specs.BodyRules.{path_through}
-use Rattle.mir_rules.proofs.Lists.{and_true-left}
 use Rattle.mir_validate.specs.Inside.{shapes}
 use Rattle.mir_validate.specs.Codes.{variant_field}
 

@@ -1,5 +1,5 @@
 -- The types that are seen, and whether they are those of the table.
-use Rattle.std.proofs.Common.{◌≡◌, ℕ, ◌<◌, Bool, true, false, ◌&&◌, nat_eq, IsTrue, List, [], ◌∷◌, length, Option, Some, None, refl, sym, ap, ◌∙◌, arith, eqb-true, eq-eqb}
+use Rattle.std.proofs.Common.{◌≡◌, ℕ, ◌<◌, Bool, true, false, ◌&&◌, nat_eq, List, [], ◌∷◌, length, Option, Some, None, refl, sym, ap, arith, eqb-true}
 use Rattle.std.proofs.lemmas.Bool.{eqb-false}
 use Rattle.mir_syntax.specs.declared.types.TyId.{TyId}
 use Rattle.mir_syntax.specs.declared.types.ScalarTy.{ScalarTy}
@@ -16,7 +16,7 @@ use Rattle.mir_syntax.proofs.OneId.{one-id-each}
 use Rattle.mir_rules.specs.Formed.{path_formed, begins_with_field}
 use Rattle.mir_rules.specs.Same.{same_tree}
 use Rattle.mir_rules.specs.Typing.{scalar_of}
-use Rattle.mir_rules.proofs.Lists.{and_true-left, and_true-right}
+use Rattle.mir_rules.proofs.Lists.{and_true-right}
 use Rattle.mir_validate.specs.Inside.{flagged}
 use Rattle.mir_rules.proofs.Same.{same_tree_is, same_tree_refl}
 

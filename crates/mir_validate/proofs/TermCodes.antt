@@ -1,5 +1,5 @@
 -- What a terminator breaks, in the order of its codes.
-use Rattle.std.proofs.Common.{◌≡◌, ℕ, zero, suc, ◌<◌, ◌≤◌, ◌+◌, ◌*◌, ◌%◌, ◌^◌, ◌==◌, nat_eq, Bool, true, false, not, ◌&&◌, ◌||◌, nat_lt, IsTrue, is_none, List, [], ◌∷◌, ◌++◌, map, flat_map, length, take, drop, get_or, slice_get, Option, Some, None, refl, sym, ap, ◌∙◌, arith, ltb-true, ltb-false, eqb-true, eq-eqb}
+use Rattle.std.proofs.Common.{◌≡◌, ℕ, zero, suc, ◌<◌, ◌≤◌, ◌+◌, ◌*◌, ◌%◌, ◌^◌, ◌==◌, nat_eq, Bool, true, false, not, ◌||◌, nat_lt, IsTrue, is_none, List, [], ◌∷◌, ◌++◌, map, length, take, drop, get_or, slice_get, Option, Some, None, refl, sym, ap, ◌∙◌, arith, ltb-true, ltb-false, eqb-true, eq-eqb}
 use Rattle.std.specs.List.{list_any}
 use Rattle.std.specs.Option.{option_map}
 use Rattle.std.proofs.lemmas.Option.{slice_get-map}
@@ -28,13 +28,13 @@ use Rattle.mir_syntax.specs.Ids.{IdsInTable, function_below, outside_below}
 use Rattle.mir_syntax.proofs.InTable.{all-at}
 use Rattle.mir_rules.proofs.Lists.{and_true-left, and_true-right}
 use Rattle.mir_rules.specs.Same.{same_tree}
-use Rattle.mir_rules.specs.Parts.{operand_places, arm_block, term_operands, term_places}
+use Rattle.mir_rules.specs.Parts.{arm_block, term_operands, term_places}
 use Rattle.mir_rules.specs.Formed.{callee_formed}
 use Rattle.mir_rules.specs.Typing.{bool_ty, scalar_of, operand_ty, operands_ty, callee_args_ty, callee_result_ty}
-use Rattle.mir_rules.specs.BodyRules.{differ, unfit, arm_value, has_twice, breaks_v05, breaks_v06, breaks_v19, breaks_v20, breaks_v21, breaks_v22}
+use Rattle.mir_rules.specs.BodyRules.{differ, arm_value, has_twice, breaks_v05, breaks_v06, breaks_v20, breaks_v21, breaks_v22}
 use Rattle.mir_rules.specs.Broken.{if_broken, own_broken, operands_broken, terminator_broken}
 use Rattle.mir_validate.specs.Codes.{place_untyped, operand_untyped, has_type, have_types, moves_code, first_code}
-use Rattle.mir_validate.specs.Terms.{arm_goes_back, goes_back, term_untyped, term_any, scalar_operand, is_bool_scalar, agree, callee_takes, callee_returns, switch_broken, call_broken, assert_broken, ascends_from, ascends}
+use Rattle.mir_validate.specs.Terms.{arm_goes_back, goes_back, term_untyped, term_any, scalar_operand, is_bool_scalar, agree, callee_takes, switch_broken, call_broken, assert_broken, ascends_from, ascends}
 use Rattle.mir_validate.proofs.Seeing.{not_true}
 use Rattle.mir_validate.proofs.PartTypes.{none_bind, have_types_is}
 use Rattle.mir_validate.proofs.Values.{or_none, any_append, untyped_operands, one_untyped, typed_parts, bind_there, below_there, unfit_none, unfit_some, first_append, first_front, moves_first}

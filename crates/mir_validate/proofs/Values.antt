@@ -1,17 +1,17 @@
 -- What a value breaks whose parts have types.
-use Rattle.std.proofs.Common.{◌≡◌, ℕ, zero, suc, ◌<◌, ◌≤◌, Bool, true, false, not, ◌&&◌, ◌||◌, is_none, is_some, List, [], ◌∷◌, ◌++◌, map, flat_map, length, slice_get, Option, Some, None, refl, sym, ap, ◌∙◌, arith}
+use Rattle.std.proofs.Common.{◌≡◌, ℕ, zero, suc, ◌<◌, ◌≤◌, Bool, true, false, not, ◌||◌, is_none, List, [], ◌∷◌, ◌++◌, map, flat_map, length, slice_get, Option, Some, None, refl, sym, ap, ◌∙◌, arith}
 use Rattle.std.specs.Bool.{then_some}
 use Rattle.std.specs.List.{list_any}
 use Rattle.std.specs.Option.{option_map}
 use Rattle.mir_syntax.specs.declared.types.TyId.{TyId}
 use Rattle.mir_syntax.specs.declared.types.Ty.{Ty}
-use Rattle.mir_syntax.specs.declared.types.Ty.TheVariants.{Scalar, Tuple, Ref, RefMut, Named}
+use Rattle.mir_syntax.specs.declared.types.Ty.TheVariants.{Tuple}
 use Rattle.mir_syntax.specs.declared.body.Place.{Place}
 use Rattle.mir_syntax.specs.declared.body.Operand.{Operand}
 use Rattle.mir_syntax.specs.declared.body.Operand.TheVariants as operand
 use Rattle.mir_syntax.specs.declared.body.Rvalue.{Rvalue}
 use Rattle.mir_syntax.specs.declared.body.Rvalue.TheVariants as rvalue
-use Rattle.mir_syntax.specs.Tree.{Tree, scalar, empty, more, named, at_id, at_ids, node, trees_of, tuple_of}
+use Rattle.mir_syntax.specs.Tree.{Tree, more, at_id, at_ids, node, tuple_of}
 use Rattle.mir_syntax.specs.Crate.{TypedRvalue, rvalue_of, assign, set_discriminant}
 use Rattle.mir_syntax.specs.Shapes.{Shape, place_ty, needs_drop, ◌>>=◌}
 use Rattle.mir_rules.specs.Same.{same_tree}

@@ -10,13 +10,11 @@ use Rattle.mir_syntax.specs.declared.body.Rvalue.{Rvalue}
 use Rattle.mir_syntax.specs.declared.body.Rvalue.TheVariants as rvalue
 use Rattle.mir_syntax.specs.declared.body.Stmt.{Stmt}
 use Rattle.mir_syntax.specs.declared.body.Stmt.TheVariants as stmt
-use Rattle.mir_syntax.specs.declared.body.Term.{Term}
-use Rattle.mir_syntax.specs.declared.body.Term.TheVariants as term
 use Rattle.mir_syntax.specs.declared.types.Field.{Field}
 use Rattle.mir_syntax.specs.Tree.{Tree, ref, ref_mut, at_id}
 use Rattle.mir_syntax.specs.Crate.{TypedRvalue, tuple}
 use Rattle.mir_syntax.specs.Shapes.{Shape, place_ty, variant_ty, field_ty, ◌>>=◌}
-use Rattle.mir_rules.specs.Parts.{operand_places, rvalue_places}
+use Rattle.mir_rules.specs.Parts.{rvalue_places}
 use Rattle.mir_rules.specs.Formed.{path_formed}
 use Rattle.mir_rules.specs.Same.{same_tree}
 use Rattle.mir_rules.specs.BodyRules.{differ}

@@ -12,7 +12,7 @@ use Rattle.mir_syntax.specs.declared.body.Term.{Term}
 use Rattle.mir_syntax.specs.declared.body.Term.TheVariants as term
 use Rattle.mir_syntax.specs.Tree.{Tree}
 use Rattle.mir_syntax.specs.Crate.{Crate}
-use Rattle.mir_syntax.specs.Shapes.{Shape, place_ty, ◌>>=◌}
+use Rattle.mir_syntax.specs.Shapes.{Shape, ◌>>=◌}
 use Rattle.mir_rules.specs.Same.{same_tree}
 use Rattle.mir_rules.specs.Formed.{path_formed, call_formed}
 use Rattle.mir_rules.specs.Typing.{scalar_of, operand_ty, operands_ty, callee_args_ty, callee_result_ty}

@@ -1,5 +1,5 @@
-use Rattle.std.proofs.Common.{◌≡◌, ◌==◌, ◌^◌, nat_lt, not, IsTrue, map, length}
-use Rattle.std.specs.List.{list_any, list_all}
+use Rattle.std.proofs.Common.{◌≡◌, length}
+use Rattle.std.specs.List.{list_any}
 use Rattle.mir_validate.specs.Terms.{arm_goes_back}
 use Rattle.mir_validate.proofs.terminator.an_arm_goes_back.Given as goal
 

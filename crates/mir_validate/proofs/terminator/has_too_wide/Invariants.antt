@@ -1,5 +1,5 @@
-use Rattle.std.proofs.Common.{◌≡◌, ◌==◌, ◌^◌, nat_lt, not, IsTrue, map, length}
-use Rattle.std.specs.List.{list_any, list_all}
+use Rattle.std.proofs.Common.{◌≡◌, ◌^◌, nat_lt, not, map, length}
+use Rattle.std.specs.List.{list_any}
 use Rattle.mir_num.specs.Widths.{width_of}
 use Rattle.mir_rules.specs.BodyRules.{arm_value}
 use Rattle.mir_validate.proofs.terminator.has_too_wide.Given as goal

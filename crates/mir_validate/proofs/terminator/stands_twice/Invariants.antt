@@ -1,5 +1,4 @@
-use Rattle.std.proofs.Common.{◌≡◌, ◌==◌, ◌^◌, nat_lt, not, IsTrue, map, length}
-use Rattle.std.specs.List.{list_any, list_all}
+use Rattle.std.proofs.Common.{◌≡◌, map, length}
 use Rattle.mir_rules.specs.BodyRules.{arm_value, has_twice}
 use Rattle.mir_validate.proofs.terminator.stands_twice.Given as goal
 

@@ -1,6 +1,6 @@
-use Rattle.std.proofs.Common.{Some, true, false, sym, ap, ◌<◌, ◌≤◌, arith, ◌∙◌}
+use Rattle.std.proofs.Common.{sym, ◌∙◌}
 use Rattle.mir_syntax.specs.Tree.{trees_of, at_id}
-use Rattle.mir_validate.specs.Inside.{shapes, local_types, seen_tree}
+use Rattle.mir_validate.specs.Inside.{shapes, local_types}
 use Rattle.mir_rules.specs.BodyRules.{moves_through_destructor, moves_needing_indirectly}
 use Rattle.mir_validate.proofs.Values.{any_of_value, assign_place, assign_parts, assign_value, assign_moves}
 use Rattle.mir_validate.proofs.inside.Inside.assign_code.Goals as goal

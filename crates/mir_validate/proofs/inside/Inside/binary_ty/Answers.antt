@@ -1,7 +1,5 @@
 use Rattle.std.proofs.Common.{Some, sym, ap, ◌∙◌}
-use Rattle.std.specs.Bool.{then_some}
 use Rattle.mir_syntax.specs.Tree.{trees_of}
-use Rattle.mir_rules.specs.Typing.{kind_of, made_by}
 use Rattle.mir_validate.specs.Inside.{seen_tree}
 use Rattle.mir_validate.proofs.Operators.{binary_is}
 use Rattle.mir_validate.proofs.inside.Inside.binary_ty.Goals as goal

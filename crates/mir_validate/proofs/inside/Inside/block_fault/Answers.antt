@@ -1,7 +1,6 @@
-use Rattle.std.proofs.Common.{◌++◌, map, sym, ap, ap₂, ◌∙◌}
+use Rattle.std.proofs.Common.{map, sym, ap, ap₂, ◌∙◌}
 use Rattle.mir_syntax.specs.Tree.{trees_of}
 use Rattle.mir_syntax.specs.Crate.{crate_of}
-use Rattle.mir_text.specs.NameFaults.{first_fault}
 use Rattle.mir_rules.specs.Broken.{terminator_broken}
 use Rattle.mir_rules.proofs.Least.{first_fault_append}
 use Rattle.mir_validate.specs.Inside.{shapes, local_types}

@@ -1,4 +1,4 @@
-use Rattle.std.proofs.Common.{◌≡◌, ◌&&◌, length, sym, ap, ◌∙◌}
+use Rattle.std.proofs.Common.{length, sym, ap, ◌∙◌}
 use Rattle.std.specs.List.{list_all}
 use Rattle.mir_syntax.specs.Table.{all_below}
 use Rattle.mir_syntax.specs.Ids.{block_below}
@@ -6,8 +6,7 @@ use Rattle.mir_syntax.specs.Tree.{trees_of}
 use Rattle.mir_syntax.specs.Crate.{crate_of}
 use Rattle.mir_text.specs.NameFaults.{first_fault}
 use Rattle.mir_rules.proofs.Lists.{and_true-right}
-use Rattle.mir_validate.specs.Inside.{shapes, typed, local_types}
-use Rattle.mir_validate.specs.Walk.{blocks_broken}
+use Rattle.mir_validate.specs.Inside.{shapes, typed}
 use Rattle.mir_validate.proofs.FormedParts.{whole_blocks, formed_blocks}
 use Rattle.mir_validate.proofs.Located.{body_located}
 use Rattle.mir_validate.proofs.inside.Inside.body_fault.Goals as goal

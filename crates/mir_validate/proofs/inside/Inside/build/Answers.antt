@@ -1,7 +1,6 @@
-use Rattle.std.proofs.Common.{sym, ap, true, false, refl, is_some, map, ◌∙◌}
-use Rattle.mir_syntax.specs.Tree.{trees_of, at_id}
-use Rattle.mir_rules.proofs.Lists.{some_bind}
-use Rattle.mir_validate.specs.Inside.{shapes, local_types, seen_tree}
+use Rattle.std.proofs.Common.{sym, ap, true, false, map, ◌∙◌}
+use Rattle.mir_syntax.specs.Tree.{trees_of}
+use Rattle.mir_validate.specs.Inside.{shapes, local_types}
 use Rattle.mir_validate.proofs.PartTypes.{build_past, build_absent, build_at, have_types_is}
 use Rattle.mir_syntax.proofs.InTable.{variant-in-table}
 use Rattle.mir_validate.specs.Codes.{field_tree, have_types}

@@ -1,9 +1,7 @@
-use Rattle.std.proofs.Common.{Some, None, true, false, sym, ap, refl, ◌∙◌}
+use Rattle.std.proofs.Common.{true, false, sym, ◌∙◌}
 use Rattle.mir_syntax.specs.Crate.{crate_of}
-use Rattle.mir_syntax.specs.Tree.{trees_of, at_id}
-use Rattle.mir_rules.proofs.Lists.{some_bind}
+use Rattle.mir_syntax.specs.Tree.{trees_of}
 use Rattle.mir_validate.specs.Inside.{shapes, local_types}
-use Rattle.mir_validate.proofs.PartTypes.{none_bind}
 use Rattle.mir_validate.proofs.TermCodes.{call_args, call_result}
 use Rattle.mir_validate.proofs.inside.Inside.call_code.Goals as goal
 

@@ -1,7 +1,7 @@
-use Rattle.std.proofs.Common.{Some, sym, ap, refl, ◌∙◌}
+use Rattle.std.proofs.Common.{sym, refl, ◌∙◌}
 use Rattle.mir_syntax.specs.Tree.{trees_of, at_id}
 use Rattle.mir_validate.specs.Inside.{seen_tree}
-use Rattle.mir_validate.proofs.Operators.{cast_is, cast_unfit, cast_none}
+use Rattle.mir_validate.proofs.Operators.{cast_is, cast_unfit}
 use Rattle.mir_validate.proofs.inside.Inside.cast_ty.Goals as goal
 
 pub returns-in_err-scalar-clause-ty : goal.returns-in_err-scalar-clause-ty

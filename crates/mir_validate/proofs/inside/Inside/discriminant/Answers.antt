@@ -1,7 +1,7 @@
-use Rattle.std.proofs.Common.{sym, ap, true, false, refl, is_some, map, ◌∙◌}
+use Rattle.std.proofs.Common.{sym, true, false, ◌∙◌}
 use Rattle.mir_syntax.specs.Tree.{trees_of, at_id}
 use Rattle.mir_rules.proofs.Lists.{some_bind}
-use Rattle.mir_validate.specs.Inside.{shapes, local_types, seen_tree}
+use Rattle.mir_validate.specs.Inside.{shapes}
 use Rattle.mir_validate.proofs.PartTypes.{none_bind, discriminant_is}
 use Rattle.mir_validate.proofs.inside.Inside.discriminant.Goals as goal
 

@@ -1,5 +1,5 @@
-use Rattle.std.proofs.Common.{sym, ap, ◌∙◌, length, IsTrue, arith, ltb-true, ◌<◌}
-use Rattle.mir_syntax.specs.Tree.{trees_of, at_id, node, named}
+use Rattle.std.proofs.Common.{sym, ap, ◌∙◌, length, IsTrue, arith}
+use Rattle.mir_syntax.specs.Tree.{trees_of, node, named}
 use Rattle.mir_syntax.specs.declared.types.Ty.TheVariants.{Tuple}
 use Rattle.mir_syntax.specs.Table.{ids_below, all_below}
 use Rattle.mir_syntax.proofs.Places.{other-field, tuple-field, no-field, field-of-fields}

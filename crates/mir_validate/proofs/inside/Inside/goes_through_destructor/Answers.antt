@@ -1,4 +1,4 @@
-use Rattle.std.proofs.Common.{Some, None, sym, ap, ◌∙◌}
+use Rattle.std.proofs.Common.{Some, None, sym, ◌∙◌}
 use Rattle.mir_syntax.specs.Tree.{trees_of}
 use Rattle.mir_syntax.proofs.InTable.{local-in-table}
 use Rattle.mir_validate.specs.Inside.{shapes}

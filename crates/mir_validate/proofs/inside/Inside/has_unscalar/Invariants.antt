@@ -1,5 +1,5 @@
-use Rattle.std.proofs.Common.{◌≡◌, ◌==◌, ◌^◌, nat_lt, not, IsTrue, map, length}
-use Rattle.std.specs.List.{list_any, list_all}
+use Rattle.std.proofs.Common.{◌≡◌, IsTrue, length}
+use Rattle.std.specs.List.{list_all}
 use Rattle.mir_rules.specs.BodyRules.{breaks_v20}
 use Rattle.mir_validate.specs.Inside.{shapes, local_types}
 use Rattle.mir_validate.specs.Codes.{operand_whole}

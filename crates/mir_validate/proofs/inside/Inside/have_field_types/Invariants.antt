@@ -1,6 +1,6 @@
 use Rattle.std.proofs.Common.{◌≡◌, IsTrue, length, map}
 use Rattle.std.specs.List.{list_all}
-use Rattle.mir_syntax.specs.Tree.{at_id, trees_of}
+use Rattle.mir_syntax.specs.Tree.{trees_of}
 use Rattle.mir_syntax.specs.Ids.{field_below}
 use Rattle.mir_validate.specs.Inside.{shapes, local_types}
 use Rattle.mir_validate.specs.Codes.{operand_whole, have_types, field_tree}

@@ -3,7 +3,7 @@ use Rattle.std.specs.List.{list_all}
 use Rattle.mir_syntax.specs.Tree.{at_id, trees_of}
 use Rattle.mir_syntax.specs.Table.{all_below}
 use Rattle.mir_validate.specs.Inside.{shapes, local_types}
-use Rattle.mir_validate.specs.Codes.{operand_whole, have_types, field_tree}
+use Rattle.mir_validate.specs.Codes.{operand_whole, have_types}
 use Rattle.mir_validate.proofs.inside.Inside.have_types.Given as goal
 
 abbrev pub invariant-operands : goal.invariant-operands

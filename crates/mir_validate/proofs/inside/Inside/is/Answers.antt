@@ -1,6 +1,4 @@
-use Rattle.std.proofs.Common.{sym, ◌∙◌, arith, ltb-true, ◌<◌, length}
-use Rattle.mir_syntax.specs.Tree.{trees_of, at_id}
-use Rattle.mir_rules.specs.Same.{same_tree}
+use Rattle.std.proofs.Common.{sym, ltb-true, ◌<◌, length}
 use Rattle.mir_validate.proofs.Seeing.{same_ids}
 use Rattle.mir_validate.proofs.inside.Inside.is.Goals as goal
 

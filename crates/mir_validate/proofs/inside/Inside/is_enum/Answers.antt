@@ -1,7 +1,6 @@
-use Rattle.std.proofs.Common.{sym, ap, refl, is_some, map, ◌∙◌}
-use Rattle.mir_syntax.specs.Tree.{trees_of, at_id}
-use Rattle.mir_rules.proofs.Lists.{some_bind}
-use Rattle.mir_validate.specs.Inside.{shapes, local_types, seen_tree}
+use Rattle.std.proofs.Common.{sym, ap, is_some}
+use Rattle.mir_syntax.specs.Tree.{trees_of}
+use Rattle.mir_validate.specs.Inside.{shapes}
 use Rattle.mir_validate.proofs.PartTypes.{not_enum, enum_past, enum_at}
 use Rattle.mir_validate.proofs.inside.Inside.is_enum.Goals as goal
 

@@ -1,5 +1,5 @@
-use Rattle.std.proofs.Common.{sym, ◌∙◌, arith, ltb-true, ◌<◌, length}
-use Rattle.mir_syntax.specs.Tree.{trees_of, at_id}
+use Rattle.std.proofs.Common.{sym}
+use Rattle.mir_syntax.specs.Tree.{trees_of}
 use Rattle.mir_rules.specs.Same.{same_tree}
 use Rattle.mir_validate.proofs.Seeing.{not_named}
 use Rattle.mir_validate.proofs.inside.Inside.is_named.Goals as goal

@@ -1,4 +1,4 @@
-use Rattle.std.proofs.Common.{sym, ◌∙◌, arith, ltb-true, ◌<◌, length}
+use Rattle.std.proofs.Common.{sym, arith, ltb-true, ◌<◌, length}
 use Rattle.mir_syntax.specs.Tree.{trees_of, at_id}
 use Rattle.mir_rules.specs.Same.{same_tree}
 use Rattle.mir_validate.proofs.Seeing.{not_ref_mut, same_ids}

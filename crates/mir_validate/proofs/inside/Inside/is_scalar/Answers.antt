@@ -1,5 +1,5 @@
-use Rattle.std.proofs.Common.{sym, ap, ◌∙◌}
-use Rattle.mir_syntax.specs.Tree.{trees_of, node}
+use Rattle.std.proofs.Common.{sym}
+use Rattle.mir_syntax.specs.Tree.{trees_of}
 use Rattle.mir_rules.specs.Same.{same_tree}
 use Rattle.mir_validate.proofs.Seeing.{not_scalar}
 use Rattle.mir_validate.proofs.inside.Inside.is_scalar.Goals as goal

@@ -1,6 +1,6 @@
 use Rattle.std.proofs.Common.{sym, ap, map, length, IsTrue, arith, ◌∙◌}
 use Rattle.mir_syntax.specs.Tree.{trees_of, at_id}
-use Rattle.mir_syntax.specs.Table.{ids_below, all_below}
+use Rattle.mir_syntax.specs.Table.{ids_below}
 use Rattle.mir_syntax.specs.declared.types.Ty.TheVariants.{Tuple}
 use Rattle.mir_syntax.proofs.Growth.{all_below-more}
 use Rattle.mir_validate.specs.Inside.{shapes, local_types}

@@ -1,7 +1,6 @@
-use Rattle.std.proofs.Common.{sym, ◌∙◌, ap, ◌&&◌}
+use Rattle.std.proofs.Common.{sym, ◌∙◌}
 use Rattle.mir_syntax.specs.declared.types.ScalarTy.TheVariants as scalar_ty
-use Rattle.mir_syntax.specs.Tree.{trees_of, at_id, empty, more, scalar}
-use Rattle.mir_rules.specs.Same.{same_tree}
+use Rattle.mir_syntax.specs.Tree.{trees_of, empty, more, scalar}
 use Rattle.mir_validate.proofs.Seeing.{not_tuple, flag_is, not_flag}
 use Rattle.mir_validate.proofs.inside.Inside.is_with_flag.Goals as goal
 

@@ -1,7 +1,5 @@
-use Rattle.std.proofs.Common.{sym, ap, refl, is_some, map, ◌∙◌}
-use Rattle.mir_syntax.specs.Tree.{trees_of, at_id}
+use Rattle.std.proofs.Common.{sym, refl, ◌∙◌}
 use Rattle.mir_rules.proofs.Lists.{some_bind}
-use Rattle.mir_validate.specs.Inside.{shapes, local_types, seen_tree}
 use Rattle.mir_validate.proofs.PartTypes.{none_bind}
 use Rattle.mir_validate.proofs.inside.Inside.overflow.Goals as goal
 

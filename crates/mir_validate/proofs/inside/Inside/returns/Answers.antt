@@ -1,10 +1,4 @@
-use Rattle.std.proofs.Common.{Some, None, true, false, sym, ap, refl, map, take, drop, ◌∙◌}
-use Rattle.mir_syntax.specs.declared.body.Callee.TheVariants.{Local, Outside}
-use Rattle.mir_syntax.specs.Crate.{crate_of}
-use Rattle.mir_syntax.specs.Tree.{trees_of, at_id}
-use Rattle.mir_rules.specs.Typing.{callee_args_ty, operands_ty}
-use Rattle.mir_validate.specs.Inside.{shapes, local_types}
-use Rattle.mir_validate.specs.Codes.{have_types}
+use Rattle.std.proofs.Common.{refl}
 use Rattle.mir_validate.proofs.TermCodes.{no_function, no_outside, function_result, function_unit, outside_result, local_below, outside_result_below}
 use Rattle.mir_validate.proofs.inside.Inside.returns.Goals as goal
 

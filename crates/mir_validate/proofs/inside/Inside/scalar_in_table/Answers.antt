@@ -1,6 +1,5 @@
-use Rattle.std.proofs.Common.{sym, ap, ◌∙◌}
+use Rattle.std.proofs.Common.{sym}
 use Rattle.mir_syntax.specs.Tree.{trees_of}
-use Rattle.mir_rules.specs.Typing.{scalar_of}
 use Rattle.mir_validate.proofs.Seeing.{other_scalar}
 use Rattle.mir_validate.proofs.inside.Inside.scalar_in_table.Goals as goal
 

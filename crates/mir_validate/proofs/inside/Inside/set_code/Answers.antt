@@ -1,6 +1,6 @@
-use Rattle.std.proofs.Common.{Some, true, false, sym, ap, ◌<◌, ◌≤◌, arith, ◌∙◌}
+use Rattle.std.proofs.Common.{sym, arith, ◌∙◌}
 use Rattle.mir_syntax.specs.Tree.{trees_of, at_id}
-use Rattle.mir_validate.specs.Inside.{shapes, local_types, seen_tree}
+use Rattle.mir_validate.specs.Inside.{shapes, local_types}
 use Rattle.mir_validate.proofs.Values.{set_place, set_unfit, set_needs, set_fits, set_past}
 use Rattle.mir_validate.proofs.inside.Inside.set_code.Goals as goal
 

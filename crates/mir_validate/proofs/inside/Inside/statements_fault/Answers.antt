@@ -1,4 +1,4 @@
-use Rattle.std.proofs.Common.{◌&&◌, [], ◌∷◌, map, length, sym, ap, ◌∙◌}
+use Rattle.std.proofs.Common.{map, length, ap, ◌∙◌}
 use Rattle.std.specs.List.{list_all}
 use Rattle.std.specs.Option.{option_map}
 use Rattle.mir_syntax.specs.Ids.{stmt_below}

@@ -2,7 +2,6 @@ use Rattle.std.proofs.Common.{◌≡◌, IsTrue, length}
 use Rattle.std.specs.List.{list_all}
 use Rattle.std.specs.Option.{option_map}
 use Rattle.mir_syntax.specs.Tree.{trees_of}
-use Rattle.mir_syntax.specs.Crate.{crate_of}
 use Rattle.mir_text.specs.NameFaults.{first_fault}
 use Rattle.mir_syntax.specs.Ids.{stmt_below}
 use Rattle.mir_validate.specs.Codes.{stmt_whole}

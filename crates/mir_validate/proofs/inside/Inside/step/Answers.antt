@@ -1,8 +1,7 @@
-use Rattle.std.proofs.Common.{sym, ap, refl, ◌∙◌}
+use Rattle.std.proofs.Common.{refl}
 use Rattle.mir_syntax.specs.Tree.{trees_of, at_id}
-use Rattle.mir_rules.specs.BodyRules.{path_through}
 use Rattle.mir_validate.specs.Inside.{shapes}
-use Rattle.mir_validate.proofs.PathSteps.{through_none, through_variant, must_field}
+use Rattle.mir_validate.proofs.PathSteps.{through_none, through_variant}
 use Rattle.mir_validate.proofs.inside.Inside.step.Goals as goal
 
 pub returns-in_err-pointee-in-Deref-clause-on : goal.returns-in_err-pointee-in-Deref-clause-on

@@ -1,4 +1,4 @@
-use Rattle.std.proofs.Common.{Some, None, true, false, sym, ap, refl, map, take, drop, ◌∙◌}
+use Rattle.std.proofs.Common.{sym, ap, map, take, drop, ◌∙◌}
 use Rattle.mir_syntax.specs.declared.body.Callee.TheVariants.{Local, Outside}
 use Rattle.mir_syntax.specs.Crate.{crate_of}
 use Rattle.mir_syntax.specs.Tree.{trees_of, at_id}

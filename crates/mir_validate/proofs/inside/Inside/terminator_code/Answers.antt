@@ -1,9 +1,7 @@
-use Rattle.std.proofs.Common.{Some, None, true, false, sym, ap, refl, ◌∙◌}
+use Rattle.std.proofs.Common.{sym, ◌∙◌}
 use Rattle.mir_syntax.specs.Crate.{crate_of}
-use Rattle.mir_syntax.specs.Tree.{trees_of, at_id}
-use Rattle.mir_rules.proofs.Lists.{some_bind}
+use Rattle.mir_syntax.specs.Tree.{trees_of}
 use Rattle.mir_validate.specs.Inside.{shapes, local_types}
-use Rattle.mir_validate.proofs.PartTypes.{none_bind}
 use Rattle.mir_rules.specs.BodyRules.{moves_through_destructor, moves_needing_indirectly}
 use Rattle.mir_validate.proofs.TermCodes.{any_of_term, term_back, term_parts, term_own, term_operands_moved}
 use Rattle.mir_validate.proofs.inside.Inside.terminator_code.Goals as goal

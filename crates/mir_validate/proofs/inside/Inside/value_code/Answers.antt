@@ -1,4 +1,4 @@
-use Rattle.std.proofs.Common.{Some, true, false, sym, ap, ◌<◌, ◌≤◌, arith, ◌∙◌}
+use Rattle.std.proofs.Common.{Some, true, false, sym, ap, ◌∙◌}
 use Rattle.mir_syntax.specs.Tree.{trees_of, at_id}
 use Rattle.mir_validate.specs.Inside.{shapes, local_types, seen_tree}
 use Rattle.mir_validate.proofs.Values.{code_unfit, code_fits, code_tuple}

@@ -1,4 +1,4 @@
-use Rattle.std.proofs.Common.{refl, sym, ap, ◌∙◌}
+use Rattle.std.proofs.Common.{refl, sym}
 use Rattle.mir_syntax.proofs.Places.{variant-none, variant-struct, variant-fields}
 use Rattle.mir_syntax.proofs.InTable.{variant-in-table}
 use Rattle.mir_validate.proofs.inside.Inside.variant_fields.Goals as goal
