@@ -1,0 +1,5 @@
+pub mod Noting
+pub mod PathBytes
+pub mod TypeSteps
+pub mod FirstPlaces
+pub mod Growing

@@ -1,0 +1,4 @@
+pub mod Paths
+pub mod Faults
+pub mod Types
+pub mod Index
