@@ -3,3 +3,4 @@ pub mod PathBytes
 pub mod TypeSteps
 pub mod FirstPlaces
 pub mod Growing
+pub mod Making

@@ -2,3 +2,4 @@ pub mod Paths
 pub mod Faults
 pub mod Types
 pub mod Index
+pub mod Definitions

@@ -6,7 +6,9 @@
 //! (`proofs/Faults.antt`).
 #![tactic(auto)]
 
+mod draft;
 mod faults;
+mod fields;
 mod index;
 mod paths;
 mod types;
