@@ -14,10 +14,10 @@ use Rattle.mir_resolve.specs.Index.{texts_of, is_below, IsIndexed}
 
 -- ---- places
 
-abbrev place_if : Bool → ℕ → Option ℕ
+abbrev pub place_if : Bool → ℕ → Option ℕ
 place_if b n = cond b (Some n) None
 
-place-snoc : (k : ℕ) (xs : List (List ℕ)) (t u : List ℕ) → place_from k (xs ++ t ∷ []) u ≡ or_else (place_from k xs u) (place_if (bytes_eq t u) (k + length xs))
+pub place-snoc : (k : ℕ) (xs : List (List ℕ)) (t u : List ℕ) → place_from k (xs ++ t ∷ []) u ≡ or_else (place_from k xs u) (place_if (bytes_eq t u) (k + length xs))
 place-snoc k [] t u = let z : k ≡ k + 0 = omega arith in ap (place_if (bytes_eq t u)) z
 place-snoc k (x ∷ xs) t u =
     let z : suc k + length xs ≡ k + suc (length xs) = omega arith in
@@ -33,7 +33,7 @@ record Stands (k : ℕ) (xs : List (List ℕ)) (t : List ℕ) (n : ℕ) : Type 0
   inside : at < length xs
   there : get_or xs at [] ≡ t
 
-same-text : (x t : List ℕ) → bytes_eq x t ≡ true → x ≡ t
+pub same-text : (x t : List ℕ) → bytes_eq x t ≡ true → x ≡ t
 same-text x t e = (bytes_eq-Decides x t).0 e
 
 stands-next : (k : ℕ) (x : List ℕ) (xs : List (List ℕ)) (t : List ℕ) (n : ℕ) → Stands (suc k) xs t n → Stands k (x ∷ xs) t n

@@ -4,3 +4,7 @@ pub mod TypeSteps
 pub mod FirstPlaces
 pub mod Growing
 pub mod Making
+pub mod NoneTwice
+pub mod Listed
+pub mod PartNotes
+pub mod FaultOrder

@@ -6,8 +6,8 @@ use Rattle.mir_syntax.specs.declared.types.Ty.{Ty}
 use Rattle.mir_syntax.specs.declared.types.TyId.{TyId}
 use Rattle.mir_syntax.specs.declared.types.Field.{Field}
 use Rattle.mir_syntax.specs.Tree.{Tree, at_id, trees_of, Extends}
-use Rattle.mir_syntax.specs.Crate.{TypedField, field_of}
-use Rattle.mir_syntax.specs.Ids.{field_below}
+use Rattle.mir_syntax.specs.Crate.{TypedField, field_of, TypedVariant, variant_of}
+use Rattle.mir_syntax.specs.Ids.{field_below, variant_below}
 use Rattle.mir_syntax.proofs.Growth.{map-same, all-weaker, lt-more, length-extends, at_id-extends}
 
 -- a part that lies in a table means the same in a larger one, and lies there too
@@ -60,4 +60,12 @@ pub fields_keep : Keeps field_of field_below
 fields_keep = record {
   same = λ old new e f h. let lt : f.ty.0 < length old = search rules in ap (λ t. let r : TypedField = record { name = f.name; ty = t } in r) (at_id-extends old new f.ty e lt);
   wider = λ n m le f h. lt-more n m f.ty.0 le h;
+}
+
+pub variants_keep : Keeps variant_of variant_below
+variants_keep = record {
+  same = λ old new e v h.
+    ap (λ fields. let r : TypedVariant = record { name = v.name; form = v.form; fields = fields } in r)
+    (map-same (field_below (length old)) (field_of (trees_of new)) (field_of (trees_of old)) (fields_keep.same old new e) v.fields h);
+  wider = λ n m le v h. all-weaker (field_below n) (field_below m) (fields_keep.wider n m le) v.fields h;
 }

@@ -1,12 +1,13 @@
 -- What is read of definitions, over the strings of a file and the paths of its structs and enums.
-use Rattle.std.specs.Prelude.{◌≡◌, ℕ, Bool, List, [], map, Option}
+use Rattle.std.specs.Prelude.{◌≡◌, ℕ, Bool, List, []}
 use Rattle.mir_text.specs.GrammarTypes.{TypeRule}
 use Rattle.mir_text.specs.Names.{Strings, is_known, Names}
-use Rattle.mir_text.specs.NameFaults.{Fault, on_line, unless}
+use Rattle.mir_text.specs.NameFaults.{on_line, unless, fields_codes}
 use Rattle.mir_tree.specs.declared.ty.TypeText.{TypeText}
 use Rattle.mir_tree.specs.declared.item.FieldText.{FieldText}
 use Rattle.mir_tree.specs.declared.item.VariantText.{VariantText}
 use Rattle.mir_tree.specs.Types.{type_rule}
+use Rattle.mir_tree.specs.Rules.{fields_rule}
 use Rattle.mir_resolve.specs.declared.draft.Draft.{Draft}
 use Rattle.mir_resolve.specs.Types.{Grown}
 use Rattle.mir_resolve.specs.Faults.{noted}
@@ -30,3 +31,6 @@ field_codes strings paths f = text_codes strings paths f.ty
 pub record Went (old new : Draft) (line : ℕ) (codes : List ℕ) : Type 0 where
   pub grown : Grown old.program new.program
   pub notes : new.notes ≡ noted old.notes (on_line line codes)
+
+abbrev pub variant_codes : Strings → List (List ℕ) → VariantText → List ℕ
+variant_codes strings paths v = fields_codes (before_defs strings paths) (fields_rule v.fields)

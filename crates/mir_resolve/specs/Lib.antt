@@ -3,3 +3,4 @@ pub mod Faults
 pub mod Types
 pub mod Index
 pub mod Definitions
+pub mod Once

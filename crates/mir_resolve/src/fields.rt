@@ -19,7 +19,7 @@ use mir_syntax::{Field, List, Name, OutOfMemory, Program, TyId};
 use mir_tree::{FieldText, TypeText};
 use std::alloc::Global;
 
-fn copy_name(alloc: Global, bytes: &[u8]) -> Result<Name, OutOfMemory>
+pub fn copy_name(alloc: Global, bytes: &[u8]) -> Result<Name, OutOfMemory>
     ensures { IfOk result (λ name. name ≡ bytes.now) }
 {
     let mut name = List::with_capacity(alloc, bytes.len())?;

@@ -6,9 +6,11 @@
 //! (`proofs/Faults.antt`).
 #![tactic(auto)]
 
+mod definitions;
 mod draft;
 mod faults;
 mod fields;
 mod index;
+mod once;
 mod paths;
 mod types;
