@@ -1,10 +1,9 @@
 -- The first fault doesn't depend on the order in which faults are noted.
-use Rattle.std.proofs.Common.{◌≡◌, ℕ, ◌<◌, ◌≤◌, ◌⊎◌, inl, inr, Bool, true, false, cond, ◌&&◌, ◌||◌, nat_lt, nat_eq, List, [], ◌∷◌, ◌++◌, Option, Some, None, refl, sym, ap, ap₂, ◌∙◌, arith}
+use Rattle.std.proofs.Common.{◌≡◌, ℕ, ◌<◌, ◌≤◌, ◌⊎◌, inl, inr, true, false, cond, ◌&&◌, ◌||◌, nat_lt, nat_eq, List, [], ◌∷◌, Option, Some, None, refl, sym, ap, ap₂, ◌∙◌, arith}
 use Rattle.std.proofs.lemmas.Bool.{cases_lt}
 use Rattle.std.proofs.lemmas.Bool.Decides.{nat_tests}
 use Rattle.mir_text.specs.NameFaults.{Fault, comes_first, earlier, first_fault}
 use Rattle.mir_resolve.specs.Faults.{noted}
-use Rattle.mir_resolve.proofs.Noting.{noted-append}
 
 -- ---- two faults
 
@@ -42,14 +41,18 @@ data Order (a b : Fault) : Type 0 where
 ordered : (a b : Fault) → Order a b
 ordered a b =
     elim (cases_lt a.0 b.0) [
-      inl lt ↦ first (inl lt)
-    | inr ge ↦ elim (cases_lt b.0 a.0) [
-        inl gt ↦ later (inl gt)
-      | inr le ↦ let line : a.0 ≡ b.0 = omega arith in elim (cases_lt a.1 b.1) [
-          inl lt ↦ first (inr (line, lt))
-        | inr ge ↦ elim (cases_lt b.1 a.1) [
-            inl gt ↦ let back : b.0 ≡ a.0 = omega arith in later (inr (back, gt))
-          | inr le ↦ let code : a.1 ≡ b.1 = omega arith in same (ap₂ (λ m n. let f : Fault = (m, n) in f) line code) ] ] ] ]
+      | inl lt ↦ first (inl lt)
+      | inr ge ↦ elim (cases_lt b.0 a.0) [
+        | inl gt ↦ later (inl gt)
+        | inr le ↦ let line : a.0 ≡ b.0 = omega arith in elim (cases_lt a.1 b.1) [
+          | inl lt ↦ first (inr (line, lt))
+          | inr ge ↦ elim (cases_lt b.1 a.1) [
+            | inl gt ↦ let back : b.0 ≡ a.0 = omega arith in later (inr (back, gt))
+            | inr le ↦ let code : a.1 ≡ b.1 = omega arith in same (ap₂ (λ m n. let f : Fault = (m, n) in f) line code)
+          ]
+        ]
+      ]
+    ]
 
 before-then : (a b c : Fault) → Before a b → Before b c → Before a c
 before-then a b c (inl x) (inl y) = inl (omega arith)
@@ -73,24 +76,29 @@ itself a = ap (λ t. cond t a a) (not-same a a refl refl)
 
 least-comm : (a b : Fault) → least a b ≡ least b a
 least-comm a b = elim (ordered a b) [
-    first h ↦ stays a b h ∙ sym (yields b a h)
+  | first h ↦ stays a b h ∙ sym (yields b a h)
   | same e ↦ ap (least a) (sym e) ∙ ap (λ x. least x a) e
-  | later h ↦ yields a b h ∙ sym (stays b a h) ]
+  | later h ↦ yields a b h ∙ sym (stays b a h)
+]
 
 least-assoc : (a b c : Fault) → least a (least b c) ≡ least (least a b) c
 least-assoc a b c = elim (ordered a b) [
-    first h ↦ elim (ordered b c) [
-        first k ↦ ap (least a) (stays b c k) ∙ stays a b h ∙ sym (ap (λ x. least x c) (stays a b h) ∙ stays a c (before-then a b c h k))
-      | same e ↦ ap (λ x. least a (least b x)) (sym e) ∙ ap (least a) (itself b) ∙ ap₂ least (sym (stays a b h)) e
-      | later k ↦ ap (least a) (yields b c k) ∙ ap (λ x. least x c) (sym (stays a b h)) ]
+  | first h ↦ elim (ordered b c) [
+    | first k ↦ ap (least a) (stays b c k) ∙ stays a b h ∙ sym (ap (λ x. least x c) (stays a b h) ∙ stays a c (before-then a b c h k))
+    | same e ↦ ap (λ x. least a (least b x)) (sym e) ∙ ap (least a) (itself b) ∙ ap₂ least (sym (stays a b h)) e
+    | later k ↦ ap (least a) (yields b c k) ∙ ap (λ x. least x c) (sym (stays a b h))
+  ]
   | same e ↦ elim (ordered b c) [
-        first k ↦ ap (least a) (stays b c k) ∙ ap₂ least (sym (itself a)) refl ∙ ap (least (least a a)) (sym e) ∙ ap (λ x. least x a) (itself a) ∙ itself a ∙ sym (ap (λ x. least (least a x) c) (sym e) ∙ ap (λ x. least x c) (itself a) ∙ ap (λ x. least x c) e ∙ stays b c k ∙ sym e)
-      | same d ↦ ap (λ x. least a (least b x)) (sym d) ∙ ap (least a) (itself b) ∙ ap (λ x. x) (sym (ap (least (least a b)) (sym d) ∙ ap (λ x. least x b) (ap (least a) (sym e) ∙ itself a)))
-      | later k ↦ ap (least a) (yields b c k) ∙ ap (λ x. least x c) (sym (ap (least a) (sym e) ∙ itself a)) ]
+    | first k ↦ ap (least a) (stays b c k) ∙ ap₂ least (sym (itself a)) refl ∙ ap (least (least a a)) (sym e) ∙ ap (λ x. least x a) (itself a) ∙ itself a ∙ sym (ap (λ x. least (least a x) c) (sym e) ∙ ap (λ x. least x c) (itself a) ∙ ap (λ x. least x c) e ∙ stays b c k ∙ sym e)
+    | same d ↦ ap (λ x. least a (least b x)) (sym d) ∙ ap (least a) (itself b) ∙ ap (λ x. x) (sym (ap (least (least a b)) (sym d) ∙ ap (λ x. least x b) (ap (least a) (sym e) ∙ itself a)))
+    | later k ↦ ap (least a) (yields b c k) ∙ ap (λ x. least x c) (sym (ap (least a) (sym e) ∙ itself a))
+  ]
   | later h ↦ elim (ordered b c) [
-        first k ↦ ap (least a) (stays b c k) ∙ yields a b h ∙ sym (ap (λ x. least x c) (yields a b h) ∙ stays b c k)
-      | same e ↦ ap (λ x. least a (least b x)) (sym e) ∙ ap (least a) (itself b) ∙ yields a b h ∙ sym (ap₂ least (yields a b h) (sym e) ∙ itself b)
-      | later k ↦ ap (least a) (yields b c k) ∙ yields a c (before-then c b a k h) ∙ sym (ap (λ x. least x c) (yields a b h) ∙ yields b c k) ] ]
+    | first k ↦ ap (least a) (stays b c k) ∙ yields a b h ∙ sym (ap (λ x. least x c) (yields a b h) ∙ stays b c k)
+    | same e ↦ ap (λ x. least a (least b x)) (sym e) ∙ ap (least a) (itself b) ∙ yields a b h ∙ sym (ap₂ least (yields a b h) (sym e) ∙ itself b)
+    | later k ↦ ap (least a) (yields b c k) ∙ yields a c (before-then c b a k h) ∙ sym (ap (λ x. least x c) (yields a b h) ∙ yields b c k)
+  ]
+]
 
 -- ---- many
 
@@ -103,9 +111,10 @@ unfolding noted
 noted-some k [] = refl
 noted-some k (f ∷ fs) =
     noted-some (least f k) fs
-    ∙ elim (first_fault fs) as (λ p. Some (earlier (least f k) p) ≡ Some (least k (earlier f p)))
-    [ None ↦ ap (λ x. Some x) (least-comm f k)
-    | Some m ↦ ap (λ x. Some x) (ap (λ x. least x m) (least-comm f k) ∙ sym (least-assoc k f m)) ]
+    ∙ elim (first_fault fs) as (λ p. Some (earlier (least f k) p) ≡ Some (least k (earlier f p))) [
+      | None ↦ ap (λ x. Some x) (least-comm f k)
+      | Some m ↦ ap (λ x. Some x) (ap (λ x. least x m) (least-comm f k) ∙ sym (least-assoc k f m))
+    ]
 
 -- what is kept after all faults is the first of them
 pub noted_first : (fs : List Fault) → noted None fs ≡ first_fault fs

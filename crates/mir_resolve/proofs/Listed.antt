@@ -1,7 +1,7 @@
 -- The items and the types of lists with commas, as the tree has them.
-use Rattle.std.proofs.Common.{◌≡◌, ℕ, ◌&&◌, Bool, true, false, List, [], ◌∷◌, map, refl, sym, ap, ap₂, ◌∙◌}
+use Rattle.std.proofs.Common.{◌≡◌, ℕ, ◌&&◌, Bool, true, false, List, [], ◌∷◌, map, refl, ap, ◌∙◌}
 use Rattle.std.specs.List.{list_all}
-use Rattle.mir_text.specs.Grammar.{Items, items_of}
+use Rattle.mir_text.specs.Grammar.{items_of}
 use Rattle.mir_text.specs.GrammarTypes.{TypeRule, types_in}
 use Rattle.mir_text.specs.Names.{Strings, is_known, are_known}
 use Rattle.mir_tree.specs.declared.ty.TypeText.{TypeText}

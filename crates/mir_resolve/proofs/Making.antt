@@ -4,9 +4,10 @@ use Rattle.std.proofs.lemmas.List.{map-append, take_all}
 use Rattle.std.specs.List.{list_all}
 use Rattle.mir_syntax.specs.declared.types.Ty.{Ty}
 use Rattle.mir_syntax.specs.declared.types.TyId.{TyId}
-use Rattle.mir_syntax.specs.declared.types.Field.{Field}
 use Rattle.mir_syntax.specs.Tree.{Tree, at_id, trees_of, Extends}
 use Rattle.mir_syntax.specs.Crate.{TypedField, field_of, TypedVariant, variant_of}
+use Rattle.mir_syntax.specs.Table.{all_below}
+use Rattle.mir_resolve.specs.Definitions.{id_below}
 use Rattle.mir_syntax.specs.Ids.{field_below, variant_below}
 use Rattle.mir_syntax.proofs.Growth.{map-same, all-weaker, lt-more, length-extends, at_id-extends}
 
@@ -65,7 +66,21 @@ fields_keep = record {
 pub variants_keep : Keeps variant_of variant_below
 variants_keep = record {
   same = λ old new e v h.
-    ap (λ fields. let r : TypedVariant = record { name = v.name; form = v.form; fields = fields } in r)
-    (map-same (field_below (length old)) (field_of (trees_of new)) (field_of (trees_of old)) (fields_keep.same old new e) v.fields h);
+      ap (λ fields. let r : TypedVariant = record { name = v.name; form = v.form; fields = fields } in r)
+      (map-same (field_below (length old)) (field_of (trees_of new)) (field_of (trees_of old)) (fields_keep.same old new e) v.fields h);
   wider = λ n m le v h. all-weaker (field_below n) (field_below m) (fields_keep.wider n m le) v.fields h;
 }
+
+pub ids_keep : Keeps at_id id_below
+ids_keep = record {
+  same = λ old new e id h. let lt : id.0 < length old = search rules in at_id-extends old new id e lt;
+  wider = λ n m le id h. lt-more n m id.0 le h;
+}
+
+-- the ids of a list lie in a table
+pub ids_all : (n : ℕ) (ids : List TyId) → IsTrue (list_all (id_below n) ids) → IsTrue (all_below n ids)
+ids_all n [] h = refl
+ids_all n (id ∷ ids) h =
+    let both : IsTrue (nat_lt id.0 n) × IsTrue (list_all (id_below n) ids) = search rules in
+    let rest = ids_all n ids both.1 in
+    search rules

@@ -28,7 +28,7 @@ stands-first x xs t = some-cond (bytes_eq x t) 0 (place_from 1 xs t) ∙ ap (λ 
 
 pub seen_new : (seen : List (List ℕ)) (x : List ℕ) → SameTexts (seen ++ x ∷ []) (x ∷ seen)
 seen_new seen x = record {
-  same = λ t. ap is_some (place-snoc 0 seen x t) ∙ some-else (place_in seen t) (bytes_eq x t) (0 + length seen) ∙ sym (stands-first x seen t)
+  same = λ t. ap is_some (place-snoc 0 seen x t) ∙ some-else (place_in seen t) (bytes_eq x t) (0 + length seen) ∙ sym (stands-first x seen t);
 }
 
 stands-already : (b : Bool) (s : Bool) → (b ≡ true → s ≡ true) → s ≡ (b || s)
@@ -37,7 +37,7 @@ stands-already false s h = refl
 
 pub seen_again : (seen : List (List ℕ)) (x : List ℕ) (n : ℕ) → place_in seen x ≡ Some n → SameTexts seen (x ∷ seen)
 seen_again seen x n some = record {
-  same = λ t. stands-already (bytes_eq x t) (stands_in seen t) (λ e. ap (stands_in seen) (sym (same-text x t e)) ∙ ap is_some some) ∙ sym (stands-first x seen t)
+  same = λ t. stands-already (bytes_eq x t) (stands_in seen t) (λ e. ap (stands_in seen) (sym (same-text x t e)) ∙ ap is_some some) ∙ sym (stands-first x seen t);
 }
 
 same-first : (x : List ℕ) (xs ys : List (List ℕ)) → SameTexts xs ys → SameTexts (x ∷ xs) (x ∷ ys)

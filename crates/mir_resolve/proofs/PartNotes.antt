@@ -1,8 +1,7 @@
 -- The codes of fields, variants and items, noted part by part.
-use Rattle.std.proofs.Common.{◌≡◌, ℕ, Bool, List, [], ◌∷◌, ◌++◌, map, Option, refl, sym, ap, ap₂, ◌∙◌}
-use Rattle.std.specs.List.{list_all}
+use Rattle.std.proofs.Common.{◌≡◌, ℕ, Bool, List, [], ◌++◌, map, Option, refl, sym, ap, ap₂, ◌∙◌}
 use Rattle.mir_text.specs.GrammarItems as m
-use Rattle.mir_text.specs.Names.{Strings, string_at, is_known, are_known}
+use Rattle.mir_text.specs.Names.{Strings, string_at}
 use Rattle.mir_text.specs.NameFaults.{Fault, on_line, unless, concat, each, type_codes, none_twice, fields_codes, variants_codes}
 use Rattle.mir_tree.specs.declared.Items.{Items}
 use Rattle.mir_tree.specs.declared.item.FieldText.{FieldText}

@@ -1,7 +1,10 @@
 -- What is read of definitions, over the strings of a file and the paths of its structs and enums.
-use Rattle.std.specs.Prelude.{◌≡◌, ℕ, Bool, List, []}
+use Rattle.std.specs.Prelude.{◌≡◌, ℕ, Bool, nat_lt, List, [], map}
 use Rattle.mir_text.specs.GrammarTypes.{TypeRule}
-use Rattle.mir_text.specs.Names.{Strings, is_known, Names}
+use Rattle.mir_syntax.specs.declared.types.TyId.{TyId}
+use Rattle.mir_syntax.specs.Crate.{TypedOutside}
+use Rattle.mir_text.specs.GrammarTypes.{PathRule, TypeRule, TypesRule, types_in}
+use Rattle.mir_text.specs.Names.{path_bytes, type_named, Strings, is_known, Names}
 use Rattle.mir_text.specs.NameFaults.{on_line, unless, fields_codes}
 use Rattle.mir_tree.specs.declared.ty.TypeText.{TypeText}
 use Rattle.mir_tree.specs.declared.item.FieldText.{FieldText}
@@ -34,3 +37,11 @@ pub record Went (old new : Draft) (line : ℕ) (codes : List ℕ) : Type 0 where
 
 abbrev pub variant_codes : Strings → List (List ℕ) → VariantText → List ℕ
 variant_codes strings paths v = fields_codes (before_defs strings paths) (fields_rule v.fields)
+
+abbrev pub id_below : ℕ → TyId → Bool
+id_below n id = nat_lt id.0 n
+
+-- an outside function that a rule declares
+abbrev pub outside_named : Strings → List (List ℕ) → PathRule → TypesRule → TypeRule → TypedOutside
+outside_named strings paths path args ty =
+    record { path = path_bytes strings path; args = map (type_named strings paths) (types_in args); result = type_named strings paths ty }

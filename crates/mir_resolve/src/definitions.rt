@@ -21,17 +21,38 @@ use mir_syntax::{Def, Field, Form, List, Name, OutOfMemory, Variant};
 use mir_tree::{FieldText, FieldsText, Items, PathText, TypeText, VariantText};
 use std::alloc::Global;
 
-fn tupled(alloc: Global, strings: &Names, paths: &PathIndex, draft: &mut Draft, line: u32, types: &Items<TypeText>) -> Result<List<Field>, OutOfMemory>
+fn tupled(
+    alloc: Global,
+    strings: &Names,
+    paths: &PathIndex,
+    draft: &mut Draft,
+    line: u32,
+    types: &Items<TypeText>,
+) -> Result<List<Field>, OutOfMemory>
     ensures fields { IfOk result (λ fields. map (field_of (trees_of draft.new.program.types)) fields ≡ n.fields_named strings.now paths.now (m.tupled (types_rule types.now))) }
     ensures inside { IfOk result (λ fields. IsTrue (list_all (field_below (length draft.new.program.types)) fields)) }
     ensures went { OnOk result (Went draft.old draft.new line (fields_codes (before_defs strings.now paths.now) (m.tupled (types_rule types.now)))) }
 {
-    let (fields, known) = tuple_fields(alloc, strings, paths, &mut draft.program, &mut draft.scratch, types.items.as_slice())?;
+    let (fields, known) = tuple_fields(
+        alloc,
+        strings,
+        paths,
+        &mut draft.program,
+        &mut draft.scratch,
+        types.items.as_slice(),
+    )?;
     draft.notes.note_unless(known, line, 12);
     Ok(fields)
 }
 
-fn labelled(alloc: Global, strings: &Names, paths: &PathIndex, draft: &mut Draft, line: u32, texts: &Items<FieldText>) -> Result<List<Field>, OutOfMemory>
+fn labelled(
+    alloc: Global,
+    strings: &Names,
+    paths: &PathIndex,
+    draft: &mut Draft,
+    line: u32,
+    texts: &Items<FieldText>,
+) -> Result<List<Field>, OutOfMemory>
     ensures fields { IfOk result (λ fields. map (field_of (trees_of draft.new.program.types)) fields ≡ n.fields_named strings.now paths.now (m.labelled (items_rule field_rule texts.now))) }
     ensures inside { IfOk result (λ fields. IsTrue (list_all (field_below (length draft.new.program.types)) fields)) }
     ensures went { OnOk result (Went draft.old draft.new line (fields_codes (before_defs strings.now paths.now) (m.labelled (items_rule field_rule texts.now)))) }
@@ -43,7 +64,14 @@ fn labelled(alloc: Global, strings: &Names, paths: &PathIndex, draft: &mut Draft
 }
 
 /// The fields of a struct or a variant. S10 is noted where a name stands twice, and S12 where the path of a type isn't known.
-pub fn read_fields(alloc: Global, strings: &Names, paths: &PathIndex, draft: &mut Draft, line: u32, fields: &FieldsText) -> Result<List<Field>, OutOfMemory>
+pub fn read_fields(
+    alloc: Global,
+    strings: &Names,
+    paths: &PathIndex,
+    draft: &mut Draft,
+    line: u32,
+    fields: &FieldsText,
+) -> Result<List<Field>, OutOfMemory>
     ensures fields { IfOk result (λ r. map (field_of (trees_of draft.new.program.types)) r ≡ n.fields_named strings.now paths.now (fields_rule fields.now)) }
     ensures inside { IfOk result (λ r. IsTrue (list_all (field_below (length draft.new.program.types)) r)) }
     ensures went { OnOk result (Went draft.old draft.new line (fields_codes (before_defs strings.now paths.now) (fields_rule fields.now))) }
@@ -66,7 +94,15 @@ fn form(fields: &FieldsText) -> Form
 }
 
 /// A variant of an enum, or the one variant of a struct, whose name is empty.
-pub fn read_variant(alloc: Global, strings: &Names, paths: &PathIndex, draft: &mut Draft, line: u32, name: Name, fields: &FieldsText) -> Result<Variant, OutOfMemory>
+pub fn read_variant(
+    alloc: Global,
+    strings: &Names,
+    paths: &PathIndex,
+    draft: &mut Draft,
+    line: u32,
+    name: Name,
+    fields: &FieldsText,
+) -> Result<Variant, OutOfMemory>
     ensures variant { IfOk result (λ v. variant_of (trees_of draft.new.program.types) v ≡ n.variant_of strings.now paths.now name (fields_rule fields.now)) }
     ensures inside { IfOk result (λ v. IsTrue (variant_below (length draft.new.program.types) v)) }
     ensures went { OnOk result (Went draft.old draft.new line (fields_codes (before_defs strings.now paths.now) (fields_rule fields.now))) }
@@ -76,7 +112,14 @@ pub fn read_variant(alloc: Global, strings: &Names, paths: &PathIndex, draft: &m
     Ok(Variant { name, form, fields })
 }
 
-fn read_variants(alloc: Global, strings: &Names, paths: &PathIndex, draft: &mut Draft, line: u32, texts: &[VariantText]) -> Result<List<Variant>, OutOfMemory>
+fn read_variants(
+    alloc: Global,
+    strings: &Names,
+    paths: &PathIndex,
+    draft: &mut Draft,
+    line: u32,
+    texts: &[VariantText],
+) -> Result<List<Variant>, OutOfMemory>
     ensures variants { IfOk result (λ variants. map (variant_of (trees_of draft.new.program.types)) variants ≡ map (λ v. n.variant_named strings.now paths.now (variant_rule v)) texts.now) }
     ensures inside { IfOk result (λ variants. IsTrue (list_all (variant_below (length draft.new.program.types)) variants)) }
     ensures went { OnOk result (Went draft.old draft.new line (each (variant_codes strings.now paths.now) texts.now)) }
@@ -92,7 +135,13 @@ fn read_variants(alloc: Global, strings: &Names, paths: &PathIndex, draft: &mut 
     Ok(variants)
 }
 
-fn copy_path(alloc: Global, buffer: &mut List<u8>, strings: &Names, path: &PathText) -> Result<Name, OutOfMemory>
+/// The bytes of a path.
+pub fn copy_path(
+    alloc: Global,
+    buffer: &mut List<u8>,
+    strings: &Names,
+    path: &PathText,
+) -> Result<Name, OutOfMemory>
     ensures { IfOk result (λ name. name ≡ n.path_bytes strings.now (path_rule path.now)) }
 {
     put_path(buffer, strings, path)?;
@@ -101,7 +150,15 @@ fn copy_path(alloc: Global, buffer: &mut List<u8>, strings: &Names, path: &PathT
 }
 
 /// A struct. Faults are noted as for its fields.
-pub fn read_struct(alloc: Global, strings: &Names, paths: &PathIndex, draft: &mut Draft, line: u32, path: &PathText, fields: &FieldsText) -> Result<Def, OutOfMemory>
+pub fn read_struct(
+    alloc: Global,
+    strings: &Names,
+    paths: &PathIndex,
+    draft: &mut Draft,
+    line: u32,
+    path: &PathText,
+    fields: &FieldsText,
+) -> Result<Def, OutOfMemory>
     ensures def { IfOk result (λ d. def_of (trees_of draft.new.program.types) d ≡ n.def_named strings.now paths.now (n.struct (path_rule path.now) (fields_rule fields.now))) }
     ensures inside { IfOk result (λ d. IsTrue (def_below (length draft.new.program.types) d)) }
     ensures went { OnOk result (Went draft.old draft.new line (other_codes (before_defs strings.now paths.now) (m.struct (path_rule path.now) (fields_rule fields.now)))) }
@@ -118,7 +175,15 @@ pub fn read_struct(alloc: Global, strings: &Names, paths: &PathIndex, draft: &mu
 }
 
 /// An enum. S10 is noted where the name of a variant stands twice, and faults of each variant's fields.
-pub fn read_enum(alloc: Global, strings: &Names, paths: &PathIndex, draft: &mut Draft, line: u32, path: &PathText, texts: &Items<VariantText>) -> Result<Def, OutOfMemory>
+pub fn read_enum(
+    alloc: Global,
+    strings: &Names,
+    paths: &PathIndex,
+    draft: &mut Draft,
+    line: u32,
+    path: &PathText,
+    texts: &Items<VariantText>,
+) -> Result<Def, OutOfMemory>
     ensures def { IfOk result (λ d. def_of (trees_of draft.new.program.types) d ≡ n.def_named strings.now paths.now (n.enum (path_rule path.now) (items_rule variant_rule texts.now))) }
     ensures inside { IfOk result (λ d. IsTrue (def_below (length draft.new.program.types) d)) }
     ensures went { OnOk result (Went draft.old draft.new line (other_codes (before_defs strings.now paths.now) (m.enum (path_rule path.now) (items_rule variant_rule texts.now)))) }

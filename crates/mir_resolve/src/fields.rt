@@ -27,7 +27,7 @@ pub fn copy_name(alloc: Global, bytes: &[u8]) -> Result<Name, OutOfMemory>
     Ok(name)
 }
 
-fn both(a: bool, b: bool) -> bool
+pub fn both(a: bool, b: bool) -> bool
     ensures { result ≡ (a && b) }
 {
     a && b
@@ -35,7 +35,14 @@ fn both(a: bool, b: bool) -> bool
 
 /// The fields of a tuple struct or variant, which have no names, and whether each path in their types is known.
 #[tactic(auto, using(crate::proofs::Growing::grown_then, crate::proofs::Growing::grown_same))]
-pub fn tuple_fields(alloc: Global, strings: &Names, paths: &PathIndex, program: &mut Program, scratch: &mut Scratch, types: &[TypeText]) -> Result<(List<Field>, bool), OutOfMemory>
+pub fn tuple_fields(
+    alloc: Global,
+    strings: &Names,
+    paths: &PathIndex,
+    program: &mut Program,
+    scratch: &mut Scratch,
+    types: &[TypeText],
+) -> Result<(List<Field>, bool), OutOfMemory>
     ensures fields { IfOk result (λ r. map (field_of (trees_of program.new.types)) r.0 ≡ map (λ u. part_named strings.now paths.now (type_rule u)) types.now) }
     ensures known { IfOk result (λ r. r.1 ≡ list_all (is_known_text strings.now paths.now) types.now) }
     ensures inside { IfOk result (λ r. IsTrue (list_all (field_below (length program.new.types)) r.0)) }
@@ -57,19 +64,40 @@ pub fn tuple_fields(alloc: Global, strings: &Names, paths: &PathIndex, program: 
 }
 
 /// Reads a type, and notes S12 where a path in it isn't known.
-pub fn read_noted(alloc: Global, strings: &Names, paths: &PathIndex, draft: &mut Draft, line: u32, text: &TypeText) -> Result<TyId, OutOfMemory>
+pub fn read_noted(
+    alloc: Global,
+    strings: &Names,
+    paths: &PathIndex,
+    draft: &mut Draft,
+    line: u32,
+    text: &TypeText,
+) -> Result<TyId, OutOfMemory>
     ensures stands { IfOk result (λ id. at_id (trees_of draft.new.program.types) id ≡ type_named strings.now paths.now (type_rule text.now)) }
     ensures inside { IfOk result (λ id. id.0 < length draft.new.program.types) }
     ensures went { OnOk result (Went draft.old draft.new line (text_codes strings.now paths.now text.now)) }
 {
-    let read = read_type(alloc, strings, paths, &mut draft.program, &mut draft.scratch, text)?;
+    let read = read_type(
+        alloc,
+        strings,
+        paths,
+        &mut draft.program,
+        &mut draft.scratch,
+        text,
+    )?;
     draft.notes.note_unless(read.known, line, 12);
     Ok(read.id)
 }
 
 /// The fields in braces, with S12 noted where the path of a type isn't known.
 #[tactic(auto, using(crate::proofs::Growing::grown_then, crate::proofs::Growing::grown_same))]
-pub fn labelled_fields(alloc: Global, strings: &Names, paths: &PathIndex, draft: &mut Draft, line: u32, texts: &[FieldText]) -> Result<List<Field>, OutOfMemory>
+pub fn labelled_fields(
+    alloc: Global,
+    strings: &Names,
+    paths: &PathIndex,
+    draft: &mut Draft,
+    line: u32,
+    texts: &[FieldText],
+) -> Result<List<Field>, OutOfMemory>
     ensures fields { IfOk result (λ fields. map (field_of (trees_of draft.new.program.types)) fields ≡ map (λ f. field_named strings.now paths.now (field_rule f)) texts.now) }
     ensures inside { IfOk result (λ fields. IsTrue (list_all (field_below (length draft.new.program.types)) fields)) }
     ensures went { OnOk result (Went draft.old draft.new line (each (field_codes strings.now paths.now) texts.now)) }

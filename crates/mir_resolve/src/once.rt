@@ -3,6 +3,7 @@ ghost use Rattle.mir_text.specs.Names.{string_at};
 ghost use Rattle.mir_text.specs.NameFaults.{stands_in, none_twice};
 ghost use Rattle.mir_resolve.specs.Once.{SameTexts};
 
+use crate::fields::both;
 use crate::paths::string_of;
 use mir_names::{NameFault, Names};
 use mir_syntax::OutOfMemory;
@@ -24,14 +25,12 @@ fn is_new(seen: &mut Names, text: &[u8]) -> Result<bool, OutOfMemory>
     }
 }
 
-fn both(a: bool, b: bool) -> bool
-    ensures { result ≡ (a && b) }
-{
-    a && b
-}
-
 /// Whether no name of a field stands twice.
-pub fn fields_once(alloc: Global, strings: &Names, fields: &[FieldText]) -> Result<bool, OutOfMemory>
+pub fn fields_once(
+    alloc: Global,
+    strings: &Names,
+    fields: &[FieldText],
+) -> Result<bool, OutOfMemory>
     ensures { IfOk result (λ once. once ≡ none_twice [] (map (λ f. string_at strings.now f.name) fields.now)) }
 {
     let mut seen = Names::new(alloc);
@@ -46,7 +45,11 @@ pub fn fields_once(alloc: Global, strings: &Names, fields: &[FieldText]) -> Resu
 }
 
 /// Whether no name of a variant stands twice.
-pub fn variants_once(alloc: Global, strings: &Names, variants: &[VariantText]) -> Result<bool, OutOfMemory>
+pub fn variants_once(
+    alloc: Global,
+    strings: &Names,
+    variants: &[VariantText],
+) -> Result<bool, OutOfMemory>
     ensures { IfOk result (λ once. once ≡ none_twice [] (map (λ v. string_at strings.now v.name) variants.now)) }
 {
     let mut seen = Names::new(alloc);

@@ -1,4 +1,4 @@
-use Rattle.std.proofs.Common.{◌≡◌, [], ◌∙◌, map, ap, sym}
+use Rattle.std.proofs.Common.{[], ◌∙◌, map, ap, sym}
 use Rattle.mir_text.specs.Names.{string_at, field_named}
 use Rattle.mir_text.specs.NameFaults.{on_line, each, none_twice}
 use Rattle.mir_tree.specs.Rules.{field_rule}
@@ -23,7 +23,7 @@ returns-clause-went c =
     record {
       grown = went.grown;
       notes = labelled_noted strings paths c.args.line c.args.draft.now.notes c.note_unless.new.self c.labelled_fields.new.draft.notes c.in_ok-once.once c.args.texts.now
-        (went.notes ∙ ap (λ l. noted c.note_unless.new.self (on_line c.args.line (each (field_codes strings paths) l))) c.as_slice-2.ensures)
-        c.note_unless.ensures
-        (c.in_ok-once.ensures ∙ ap (λ l. none_twice [] (map (λ f. string_at strings f.name) l)) c.as_slice.ensures);
+          (went.notes ∙ ap (λ l. noted c.note_unless.new.self (on_line c.args.line (each (field_codes strings paths) l))) c.as_slice-2.ensures)
+          c.note_unless.ensures
+          (c.in_ok-once.ensures ∙ ap (λ l. none_twice [] (map (λ f. string_at strings f.name) l)) c.as_slice.ensures);
     }

@@ -1,4 +1,4 @@
-use Rattle.std.proofs.Common.{◌≡◌, ℕ, List, true, [], ◌∙◌, map, ap, ap₂, sym}
+use Rattle.std.proofs.Common.{ℕ, List, true, [], ◌∙◌, map, ap, ap₂, sym}
 use Rattle.mir_syntax.specs.Crate.{TypedVariant, TypedDef}
 use Rattle.mir_text.specs.Names.{string_at, variant_named}
 use Rattle.mir_text.specs.NameFaults.{on_line, each, none_twice}
@@ -26,7 +26,7 @@ returns-clause-went c =
     record {
       grown = went.grown;
       notes = variants_noted strings paths c.args.line c.args.draft.now.notes c.note_unless.new.self c.read_variants.new.draft.notes c.in_ok-once.once c.args.texts.now
-        (went.notes ∙ ap (λ l. noted c.note_unless.new.self (on_line c.args.line (each (variant_codes strings paths) l))) c.as_slice-2.ensures)
-        c.note_unless.ensures
-        (c.in_ok-once.ensures ∙ ap (λ l. none_twice [] (map (λ v. string_at strings v.name) l)) c.as_slice.ensures);
+          (went.notes ∙ ap (λ l. noted c.note_unless.new.self (on_line c.args.line (each (variant_codes strings paths) l))) c.as_slice-2.ensures)
+          c.note_unless.ensures
+          (c.in_ok-once.ensures ∙ ap (λ l. none_twice [] (map (λ v. string_at strings v.name) l)) c.as_slice.ensures);
     }

@@ -1,5 +1,5 @@
-use Rattle.std.proofs.Common.{◌≡◌, ℕ, List, ◌∷◌, ◌∙◌, ◌++◌, map, IsTrue, rules, ap, ap₂, sym}
-use Rattle.mir_syntax.specs.Tree.{Tree, trees_of}
+use Rattle.std.proofs.Common.{◌≡◌, ℕ, List, ◌∷◌, ◌∙◌, ◌++◌, map, ap, sym}
+use Rattle.mir_syntax.specs.Tree.{trees_of}
 use Rattle.mir_syntax.specs.Crate.{TypedVariant, variant_of}
 use Rattle.mir_syntax.specs.Ids.{variant_below}
 use Rattle.mir_text.specs.Names.{variant_named}
@@ -28,13 +28,13 @@ variants-preserved c =
     let went = c.in_ok-variant.ensures.went in
     record {
       told = rw c.in_ok-push.ensures.ok
-        (made_step variant_of variant_below variants_keep old new went.grown.types xs x (f item) (map f (later_of left)) _ c.variants.invariant.inside
-        (ap (λ l. map (variant_of (trees_of old)) xs ++ map f l) (sym first) ∙ c.variants.invariant.told)
-        (c.in_ok-variant.ensures.variant ∙ ap (λ b. named_variant c.args.strings.now c.args.paths.now b (fields_rule item.fields)) (c.in_ok-name.ensures ∙ c.string_of.ensures)));
+          (made_step variant_of variant_below variants_keep old new went.grown.types xs x (f item) (map f (later_of left)) _ c.variants.invariant.inside
+          (ap (λ l. map (variant_of (trees_of old)) xs ++ map f l) (sym first) ∙ c.variants.invariant.told)
+          (c.in_ok-variant.ensures.variant ∙ ap (λ b. named_variant c.args.strings.now c.args.paths.now b (fields_rule item.fields)) (c.in_ok-name.ensures ∙ c.string_of.ensures)));
       notes = notes_step codes item (later_of left) c.args.line c.variants.draft.notes c.read_variant.new.draft.notes _
-        (ap (λ l. noted c.variants.draft.notes (on_line c.args.line (each codes l))) (sym first) ∙ c.variants.invariant.notes) went.notes;
+          (ap (λ l. noted c.variants.draft.notes (on_line c.args.line (each codes l))) (sym first) ∙ c.variants.invariant.notes) went.notes;
       inside = rw c.in_ok-push.ensures.ok
-        (inside_step variant_of variant_below variants_keep old new went.grown.types xs x c.variants.invariant.inside c.in_ok-variant.ensures.inside);
+          (inside_step variant_of variant_below variants_keep old new went.grown.types xs x c.variants.invariant.inside c.in_ok-variant.ensures.inside);
       grown = grown_then c.variants.invariant.grown went.grown;
     }
 

@@ -1,4 +1,4 @@
-use Rattle.std.proofs.Common.{◌≡◌, ◌∙◌, map, ap, sym}
+use Rattle.std.proofs.Common.{◌∙◌, map, ap, sym}
 use Rattle.std.specs.List.{list_all}
 use Rattle.mir_text.specs.Names.{part_named}
 use Rattle.mir_text.specs.NameFaults.{on_line, unless}
@@ -21,7 +21,7 @@ returns-clause-went c =
     record {
       grown = c.in_ok-fields.ensures.grown;
       notes = c.note_unless.ensures
-        ∙ ap (λ k. noted c.args.draft.now.notes (on_line c.args.line (unless k 12)))
+          ∙ ap (λ k. noted c.args.draft.now.notes (on_line c.args.line (unless k 12)))
           (c.in_ok-fields.ensures.known ∙ ap (list_all (is_known_text c.args.strings.now c.args.paths.now)) c.as_slice.ensures
           ∙ sym (known_each c.args.strings.now c.args.paths.now types.items types.trailing));
     }

@@ -1,4 +1,4 @@
-use Rattle.std.proofs.Common.{◌≡◌, ℕ, List, ◌∷◌, ◌∙◌, ◌++◌, map, IsTrue, rules, ap, ap₂, sym}
+use Rattle.std.proofs.Common.{◌≡◌, ℕ, List, ◌∷◌, ◌∙◌, ◌++◌, map, rules, ap, ap₂, sym}
 use Rattle.mir_syntax.specs.declared.types.Field.{Field}
 use Rattle.mir_syntax.specs.Tree.{Tree, trees_of}
 use Rattle.mir_syntax.specs.Crate.{TypedField, field_of}
@@ -29,13 +29,13 @@ fields-preserved c =
     let went = c.in_ok-ty.ensures.went in
     record {
       told = rw c.in_ok-push.ensures.ok
-        (made_step field_of field_below fields_keep old new went.grown.types xs x (f item) (map f (later_of left)) _ c.fields.invariant.inside
-        (ap (λ l. map (field_of (trees_of old)) xs ++ map f l) (sym first) ∙ c.fields.invariant.told)
-        (ap₂ make (c.in_ok-name.ensures ∙ c.string_of.ensures) c.in_ok-ty.ensures.stands));
+          (made_step field_of field_below fields_keep old new went.grown.types xs x (f item) (map f (later_of left)) _ c.fields.invariant.inside
+          (ap (λ l. map (field_of (trees_of old)) xs ++ map f l) (sym first) ∙ c.fields.invariant.told)
+          (ap₂ make (c.in_ok-name.ensures ∙ c.string_of.ensures) c.in_ok-ty.ensures.stands));
       notes = notes_step codes item (later_of left) c.args.line c.fields.draft.notes c.read_noted.new.draft.notes _
-        (ap (λ l. noted c.fields.draft.notes (on_line c.args.line (each codes l))) (sym first) ∙ c.fields.invariant.notes) went.notes;
+          (ap (λ l. noted c.fields.draft.notes (on_line c.args.line (each codes l))) (sym first) ∙ c.fields.invariant.notes) went.notes;
       inside = rw c.in_ok-push.ensures.ok
-        (inside_step field_of field_below fields_keep old new went.grown.types xs x c.fields.invariant.inside (search (rules, c.in_ok-ty.ensures.inside)));
+          (inside_step field_of field_below fields_keep old new went.grown.types xs x c.fields.invariant.inside (search (rules, c.in_ok-ty.ensures.inside)));
       grown = grown_then c.fields.invariant.grown went.grown;
     }
 

@@ -1,4 +1,4 @@
-use Rattle.std.proofs.Common.{◌≡◌, ℕ, Bool, ◌&&◌, List, ◌∷◌, ◌∙◌, ◌++◌, map, IsTrue, rules, ap, ap₂, sym}
+use Rattle.std.proofs.Common.{◌≡◌, ℕ, Bool, ◌&&◌, List, ◌∷◌, ◌∙◌, ◌++◌, map, rules, ap, ap₂, sym}
 use Rattle.std.specs.List.{list_all}
 use Rattle.mir_syntax.specs.declared.types.Field.{Field}
 use Rattle.mir_syntax.specs.Tree.{Tree, trees_of}
@@ -26,12 +26,12 @@ types-preserved c =
     let known : TypeText → Bool = is_known_text c.args.strings.now c.args.paths.now in
     record {
       told = rw c.in_ok-push.ensures.ok
-        (made_step field_of field_below fields_keep old new c.in_ok-read.ensures.grown.types xs x (f item) (map f (later_of left)) _ c.types.invariant.inside
-        (ap (λ l. map (field_of (trees_of old)) xs ++ map f l) (sym first) ∙ c.types.invariant.told)
-        (ap₂ make c.new.ensures c.in_ok-read.ensures.stands));
+          (made_step field_of field_below fields_keep old new c.in_ok-read.ensures.grown.types xs x (f item) (map f (later_of left)) _ c.types.invariant.inside
+          (ap (λ l. map (field_of (trees_of old)) xs ++ map f l) (sym first) ∙ c.types.invariant.told)
+          (ap₂ make c.new.ensures c.in_ok-read.ensures.stands));
       known = rw (c.both-known.ensures, c.in_ok-read.ensures.known)
-        (and_step c.types.known (known item) (list_all known (later_of left)) _ (ap (λ l. c.types.known && list_all known l) (sym first) ∙ c.types.invariant.known));
+          (and_step c.types.known (known item) (list_all known (later_of left)) _ (ap (λ l. c.types.known && list_all known l) (sym first) ∙ c.types.invariant.known));
       inside = rw c.in_ok-push.ensures.ok
-        (inside_step field_of field_below fields_keep old new c.in_ok-read.ensures.grown.types xs x c.types.invariant.inside (search (rules, c.in_ok-read.ensures.inside)));
+          (inside_step field_of field_below fields_keep old new c.in_ok-read.ensures.grown.types xs x c.types.invariant.inside (search (rules, c.in_ok-read.ensures.inside)));
       grown = grown_then c.types.invariant.grown c.in_ok-read.ensures.grown;
     }

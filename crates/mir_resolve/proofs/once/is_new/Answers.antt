@@ -1,4 +1,3 @@
-use Rattle.std.proofs.Common.{◌≡◌, ◌∙◌, ap, sym, not, is_some, rules}
 use Rattle.mir_resolve.proofs.NoneTwice.{seen_new, seen_again}
 use Rattle.mir_resolve.proofs.once.is_new.Goals as goal
 
