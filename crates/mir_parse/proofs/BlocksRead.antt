@@ -1,5 +1,5 @@
 -- Parsing blocks is the grammar's rule, both ways, and each part has the line of its first symbol.
-use Rattle.std.proofs.Common.{◌≡◌, ℕ, zero, suc, ◌+◌, ◌-◌, ◌<◌, ◌≤◌, true, false, List, [], ◌∷◌, ◌++◌, map, length, get_or, drop, Result, Ok, Err, IfOk, refl, sym, ap, ap₂, subst, ◌∙◌, arith, append_assoc, append-nil}
+use Rattle.std.proofs.Common.{◌≡◌, ℕ, zero, suc, ◌+◌, ◌-◌, ◌<◌, List, [], ◌∷◌, ◌++◌, map, length, get_or, drop, Result, Ok, Err, IfOk, refl, sym, ap, ap₂, ◌∙◌, arith, append_assoc, append-nil}
 use Rattle.std.proofs.lemmas.List.{get_or-drop, drop-drop}
 use Rattle.mir_text.specs.declared.symbol.Symbol.{Symbol}
 use Rattle.mir_text.specs.declared.symbol.Symbol.TheVariants as s
@@ -13,15 +13,14 @@ use Rattle.mir_tree.specs.declared.Lined.{Lined}
 use Rattle.mir_tree.specs.declared.body.StmtText.{StmtText}
 use Rattle.mir_tree.specs.declared.body.TermText.{TermText}
 use Rattle.mir_tree.specs.declared.body.BlockText.{BlockText}
-use Rattle.mir_tree.specs.Bodies.{stmt_rule, term_rule, lined, lined_block}
+use Rattle.mir_tree.specs.Bodies.{stmt_rule, lined, lined_block}
 use Rattle.mir_tree.specs.Rules.{block_rule}
 use Rattle.mir_parse.specs.declared.fault.ParseRefused.{ParseRefused}
 use Rattle.mir_parse.specs.declared.line.LineText.{LineText}
-use Rattle.mir_parse.specs.declared.line.LineText.TheVariants as l
 use Rattle.mir_parse.specs.LineRules.{LineRule, stmt, term, line_put, LineGood}
 use Rattle.mir_parse.specs.Parser.{Found, and_then, Gives}
 use Rattle.mir_parse.specs.Signs.{open_brace, close_brace, colon, semicolon, block}
-use Rattle.mir_parse.specs.Lines.{line, line_end, within, ended_line, line_of, Stmts, line_goes_on, lines_from, lines_at, block_at}
+use Rattle.mir_parse.specs.Lines.{line, line_end, within, ended_line, line_of, Stmts, line_goes_on, lines_from, block_at}
 use Rattle.mir_parse.proofs.TermsRead.{term_text, term-back}
 use Rattle.mir_parse.proofs.LinesRead.{stmt_text, stmt-back, line_text, line-complete, line-sound, IsLine}
 use Rattle.mir_parse.proofs.Sizes.{ended_size, some_ended}

@@ -1,34 +1,28 @@
 -- Parsing statements and terminators is the grammar's rule, both ways.
-use Rattle.std.proofs.Common.{◌≡◌, ℕ, ◌≤◌, true, false, List, [], ◌∷◌, Ok, refl, sym, ap, ap₂, subst, ◌∙◌}
+use Rattle.std.proofs.Common.{◌≡◌, ℕ, List, [], ◌∷◌, Ok, refl, sym, ap, ap₂, subst, ◌∙◌}
 use Rattle.mir_text.specs.declared.symbol.Symbol.{Symbol}
 use Rattle.mir_text.specs.declared.symbol.Symbol.TheVariants as s
 use Rattle.mir_text.specs.Grammar.{Items as ItemsRule, items_put, AllItems}
 use Rattle.mir_text.specs.GrammarTypes.{PathRule, name, name_in, path_put}
 use Rattle.mir_text.specs.GrammarPlaces.{PlaceRule, local, deref, field, variant_field, place_put, OperandRule, copy, move, bare, const, operand_put}
-use Rattle.mir_text.specs.GrammarStatements.{BuildRule, plain, tupled, labelled, RvalueRule, «use», cast, binary, overflow, unary, reference, discriminant, nothing, tuple_of, build, parts_put, cast_put, rvalue_put, StmtRule, assign, nop, live, dead, set, stmt_put}
-use Rattle.mir_text.specs.GrammarTerms.{UnwindRule, goes_put, TermRule, goto, returns, never, switch, call, drop, assert, term_put}
-use Rattle.mir_text.specs.Nesting.{PlaceGood, OperandGood, PartsGood, RvalueGood, StmtGood, TermGood}
-use Rattle.mir_tree.specs.declared.Items.{Items}
+use Rattle.mir_text.specs.GrammarStatements.{BuildRule, plain, tupled, labelled, RvalueRule, «use», cast, binary, overflow, unary, reference, discriminant, nothing, tuple_of, build, parts_put, cast_put, rvalue_put, StmtRule, assign, nop, live, dead, set}
+use Rattle.mir_text.specs.GrammarTerms.{UnwindRule, goes_put, goto, returns, never, switch, call, drop, assert}
+use Rattle.mir_text.specs.Nesting.{PlaceGood, OperandGood, PartsGood, RvalueGood}
 use Rattle.mir_tree.specs.declared.ty.PathText.{PathText}
 use Rattle.mir_tree.specs.declared.operand.PlaceText.{PlaceText}
-use Rattle.mir_tree.specs.declared.operand.OperandText.{OperandText}
-use Rattle.mir_tree.specs.declared.rvalue.BuildText.{BuildText}
-use Rattle.mir_tree.specs.declared.rvalue.BuildText.TheVariants as u
 use Rattle.mir_tree.specs.declared.rvalue.RvalueText.TheVariants as r
 use Rattle.mir_tree.specs.declared.body.StmtText.{StmtText}
 use Rattle.mir_tree.specs.declared.body.StmtText.TheVariants as st
 use Rattle.mir_tree.specs.declared.body.TermText.{TermText}
 use Rattle.mir_tree.specs.declared.body.TermText.TheVariants as m
 use Rattle.mir_tree.specs.Types.{path_text}
-use Rattle.mir_tree.specs.Bodies.{stmt_rule, term_rule}
+use Rattle.mir_tree.specs.Bodies.{stmt_rule}
 use Rattle.mir_parse.specs.declared.line.LineText.{LineText}
 use Rattle.mir_parse.specs.declared.line.LineText.TheVariants as l
 use Rattle.mir_parse.specs.LineRules.{LineRule, stmt, term, line_put, line_rule, LineGood}
 use Rattle.mir_parse.specs.Promises.{Semicolon}
 use Rattle.mir_parse.specs.Parser.{and_then}
 use Rattle.mir_parse.specs.Signs.{close, open_paren, equals, local as local_at}
-use Rattle.mir_parse.specs.Paths.{path}
-use Rattle.mir_parse.specs.Operands.{operands_at}
 use Rattle.mir_parse.specs.Rvalues.{place_single, parts, rvalue}
 use Rattle.mir_parse.specs.Lines.{after_args, built, build_or_call, assigned, assignment, local_single, set_end, term_or_assignment, line}
 use Rattle.mir_parse.proofs.PathsRead.{IsPath, path-complete, path-sound}

@@ -1,12 +1,12 @@
 -- Parsing rvalues is the grammar's rule, both ways.
-use Rattle.std.proofs.Common.{◌≡◌, ℕ, suc, ◌≤◌, Bool, true, false, List, [], ◌∷◌, ◌++◌, Ok, refl, sym, ap, ap₂, subst, ◌∙◌, arith}
+use Rattle.std.proofs.Common.{◌≡◌, ℕ, ◌≤◌, Bool, true, false, List, [], ◌∷◌, Ok, refl, sym, ap, ap₂, subst, ◌∙◌, arith}
 use Rattle.mir_text.specs.declared.symbol.Symbol.{Symbol}
 use Rattle.mir_text.specs.declared.symbol.Symbol.TheVariants as s
 use Rattle.mir_text.specs.Grammar.{Items, items_put, AllItems}
 use Rattle.mir_text.specs.GrammarTypes.{PathRule, name, name_in, path_put, TypeRule, mut_put, type_put}
 use Rattle.mir_text.specs.GrammarPlaces.{PlaceRule, local, deref, field, variant_field, field_put, place_put, OperandRule, copy, move, bare, const, operand_put}
-use Rattle.mir_text.specs.GrammarStatements.{NamedRule, named_put, BuildRule, plain, tupled, labelled, RvalueRule, «use», cast, binary, overflow, unary, reference, discriminant, nothing, tuple_of, build, pair_put, parts_put, cast_put, rvalue_put}
-use Rattle.mir_text.specs.Nesting.{type_depth, place_depth, PlaceGood, OperandGood, NamedGood, FirstGood, PartsGood, RvalueGood}
+use Rattle.mir_text.specs.GrammarStatements.{named_put, BuildRule, plain, tupled, labelled, RvalueRule, «use», cast, binary, overflow, unary, reference, discriminant, nothing, tuple_of, build, pair_put, parts_put, cast_put, rvalue_put}
+use Rattle.mir_text.specs.Nesting.{type_depth, PlaceGood, OperandGood, FirstGood, PartsGood, RvalueGood}
 use Rattle.mir_tree.specs.declared.ty.TypeText.{TypeText}
 use Rattle.mir_tree.specs.declared.operand.PlaceText.{PlaceText}
 use Rattle.mir_tree.specs.declared.operand.ProjText.TheVariants as p
@@ -26,7 +26,6 @@ use Rattle.mir_parse.specs.Parser.{and_then}
 use Rattle.mir_parse.specs.Signs.{close, open_paren, comma, this_name}
 use Rattle.mir_parse.specs.Types.{type_text_at, mut_at}
 use Rattle.mir_parse.specs.Places.{with_proj, base_at, field_after}
-use Rattle.mir_parse.specs.Operands.{operand}
 use Rattle.mir_parse.specs.Rvalues.{parts, build as build_at, single, pair, place_single, cast_end, cast_or_use, use_at, tuple_more, tuple, tuple_of as tuple_from, after_first, opened, rvalue}
 use Rattle.mir_parse.proofs.PathsRead.{path-complete, path-sound}
 use Rattle.mir_parse.proofs.TypesRead.{type-complete, type-sound, type_rule-back, mut-put}

@@ -1,5 +1,5 @@
 -- Parsing the parts of terminators is the grammar's rule, both ways.
-use Rattle.std.proofs.Common.{◌≡◌, ℕ, zero, suc, ◌<◌, Bool, true, false, List, [], ◌∷◌, ◌++◌, map, length, Ok, refl, sym, ap, ap₂, subst, ◌∙◌, arith, append_assoc, append-nil}
+use Rattle.std.proofs.Common.{◌≡◌, ℕ, zero, suc, ◌<◌, Bool, true, false, List, [], ◌∷◌, ◌++◌, map, length, Ok, refl, sym, ap, ap₂, ◌∙◌, arith, append_assoc, append-nil}
 use Rattle.mir_text.specs.declared.symbol.Symbol.{Symbol}
 use Rattle.mir_text.specs.declared.symbol.Symbol.TheVariants as s
 use Rattle.mir_text.specs.Symbols.{success_name}
@@ -13,15 +13,13 @@ use Rattle.mir_tree.specs.declared.body.UnwindText.TheVariants as u
 use Rattle.mir_tree.specs.declared.body.ArmText.{ArmText}
 use Rattle.mir_tree.specs.declared.body.TermText.{TermText}
 use Rattle.mir_tree.specs.declared.body.TermText.TheVariants as m
-use Rattle.mir_tree.specs.Types.{path_rule, path_text}
+use Rattle.mir_tree.specs.Types.{path_text}
 use Rattle.mir_tree.specs.Lists.{items_rule}
-use Rattle.mir_tree.specs.Bodies.{place_rule, operand_rule, unwind_rule, arm_rule, term_rule}
+use Rattle.mir_tree.specs.Bodies.{operand_rule, unwind_rule, arm_rule, term_rule}
 use Rattle.mir_tree.proofs.TypesBack.{path-back}
-use Rattle.mir_parse.specs.Parser.{and_then}
 use Rattle.mir_parse.specs.Signs.{comma, open_paren, close, open_bracket, close_bracket, colon, arrow, returns as returns_at, otherwise, unwind, this_name, block, string}
-use Rattle.mir_parse.specs.Operands.{operand}
 use Rattle.mir_parse.specs.Rvalues.{single, place_single}
-use Rattle.mir_parse.specs.Terms.{action, goes_end, return_target, success_target, goto_end, Turns, each_goes_on, each_from, arm_end, arms_turn, arms_at, otherwise_end, switch_end, drop_end, expected_at, values_turn, values_at, condition, asserted, assert_end}
+use Rattle.mir_parse.specs.Terms.{action, goes_end, return_target, success_target, goto_end, Turns, each_goes_on, each_from, arm_end, arms_turn, otherwise_end, switch_end, drop_end, expected_at, values_turn, condition, asserted, assert_end}
 use Rattle.mir_parse.proofs.PlacesRead.{place_text, place-back, place-complete}
 use Rattle.mir_parse.proofs.OperandsRead.{operand_text, operand-back, operand_grows, operand-complete, operand-sound}
 use Rattle.mir_parse.proofs.RvaluesRead.{single-sound, place_single-sound}

@@ -1,5 +1,5 @@
 -- Parsing rvalues.
-use Rattle.std.specs.Prelude.{ℕ, List, ◌∷◌, Ok, Err}
+use Rattle.std.specs.Prelude.{◌∷◌, Ok, Err}
 use Rattle.mir_text.specs.declared.symbol.Symbol.TheVariants as s
 use Rattle.mir_tree.specs.declared.ty.TypeText.{TypeText}
 use Rattle.mir_tree.specs.declared.operand.PlaceText.{PlaceText}

@@ -3,7 +3,6 @@ use Rattle.std.specs.Prelude.{ℕ, zero, suc, Bool, true, false, List, [], ◌�
 use Rattle.mir_text.specs.declared.symbol.Symbol.{Symbol}
 use Rattle.mir_text.specs.declared.symbol.Symbol.TheVariants as s
 use Rattle.mir_tree.specs.declared.operand.OperandText.{OperandText}
-use Rattle.mir_tree.specs.declared.operand.PlaceText.{PlaceText}
 use Rattle.mir_tree.specs.declared.body.UnwindText.{UnwindText}
 use Rattle.mir_tree.specs.declared.body.UnwindText.TheVariants as u
 use Rattle.mir_tree.specs.declared.body.ArmText.{ArmText}

@@ -6,6 +6,7 @@
 //! `specs/` follow the code step by step, and say which fault comes; `proofs/` joins them to the grammar.
 #![tactic(auto)]
 
+mod block;
 mod fault;
 mod line;
 mod list;
@@ -17,6 +18,7 @@ mod sign;
 mod term;
 mod ty;
 
+pub use block::parse_block;
 pub use fault::{ParseRefused, SyntaxFault, fault_at, refuse, refuse_with};
 pub use line::{LineText, in_part, parse_line};
 pub use list::{Turn, after_item_brace, after_item_paren, closing_brace, closing_paren};
