@@ -5,3 +5,9 @@ pub mod Signs
 pub mod Lists
 pub mod Paths
 pub mod Types
+pub mod Places
+pub mod Operands
+pub mod Rvalues
+pub mod Terms
+pub mod Lines
+pub mod LineRules

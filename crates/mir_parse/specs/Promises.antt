@@ -30,3 +30,12 @@ starts_colons (x ∷ ts) = false
 -- what may follow a path, and a type that ends in one: anything but `::`
 abbrev pub NoColons : List Symbol → Type 0
 NoColons rest = starts_colons rest ≡ false
+
+abbrev pub starts_semicolon : List Symbol → Bool
+starts_semicolon [] = false
+starts_semicolon (s.Semicolon ∷ ts) = true
+starts_semicolon (x ∷ ts) = false
+
+-- what follows an rvalue, a statement and a terminator
+abbrev pub Semicolon : List Symbol → Type 0
+Semicolon rest = starts_semicolon rest ≡ true

@@ -6,15 +6,26 @@
 //! `specs/` follow the code step by step, and say which fault comes; `proofs/` joins them to the grammar.
 #![tactic(auto)]
 
+mod block;
 mod fault;
+mod line;
 mod list;
+mod operand;
 mod path;
+mod place;
+mod rvalue;
 mod sign;
+mod term;
 mod ty;
 
+pub use block::parse_block;
 pub use fault::{ParseRefused, SyntaxFault, fault_at, refuse, refuse_with};
+pub use line::{LineText, in_part, parse_line};
 pub use list::{Turn, after_item_brace, after_item_paren, closing_brace, closing_paren};
+pub use operand::{parse_operand, parse_value};
 pub use path::parse_path;
+pub use place::parse_place;
+pub use rvalue::parse_rvalue;
 pub use sign::{
     read_arrow, read_block_number, read_close, read_close_brace, read_close_bracket, read_colon,
     read_comma, read_equals, read_local, read_name, read_open_brace, read_open_bracket,
