@@ -1,0 +1,83 @@
+-- Lists that end where no item begins are read by the grammar's rule, both ways. What an item is read as may depend on where it stands.
+use Rattle.std.proofs.Common.{◌≡◌, ℕ, zero, suc, ◌<◌, ◌≤◌, Bool, true, false, List, [], ◌∷◌, ◌++◌, length, Ok, refl, sym, ap, ◌∙◌, arith, append_assoc, append-nil}
+use Rattle.mir_text.specs.declared.symbol.Symbol.{Symbol}
+use Rattle.mir_text.specs.Grammar.{Put, each_put, AllOf}
+use Rattle.mir_parse.specs.Parser.{Parse}
+use Rattle.mir_parse.proofs.Laws.{in_steps, ok_same, on}
+use Rattle.mir_items.specs.Each.{each_from, each_at}
+
+-- a rule stands at the front of symbols, and its tree there was found
+pub record IsReadAt {R A : Type 0} (put : Put R) (of : R → List Symbol → A) (Good : R → Type 0) (ts : List Symbol) (x : A) (rest : List Symbol) : Type 0 where
+  pub rule : R
+  pub reads : of rule ts ≡ x
+  pub yields : ts ≡ put rule rest
+  pub good : Good rule
+
+-- what is read of the items of a list before the rest
+abbrev pub each_text : {R A : Type 0} → Put R → (R → List Symbol → A) → List R → List Symbol → List A
+each_text put of [] rest = []
+each_text put of (r ∷ rs) rest = of r (put r (each_put put rs rest)) ∷ each_text put of rs rest
+
+-- an item's parser reads what its rule puts, and nothing else
+pub record EachLaws {R A : Type 0} (begins : List Symbol → Bool) (item : Parse A) (put : Put R) (of : R → List Symbol → A) (Good : R → Type 0) : Type 0 where
+  pub begin : (r : R) (rest : List Symbol) → begins (put r rest) ≡ true
+  pub complete : (r : R) (rest : List Symbol) → Good r → item (put r rest) ≡ Ok (of r (put r rest), rest)
+  pub sound : (ts : List Symbol) (x : A) (rest : List Symbol) → item ts ≡ Ok (x, rest) → IsReadAt put of Good ts x rest
+  pub grows : (r : R) (rest : List Symbol) → length rest < length (put r rest)
+
+module _ {R A : Type 0} (begins : List Symbol → Bool) (item : Parse A) (put : Put R) (of : R → List Symbol → A) (Good : R → Type 0) (laws : EachLaws begins item put of Good) where
+  few : (rs : List R) (rest : List Symbol) → length rs ≤ length (each_put put rs rest)
+  few [] rest = omega arith
+  few (r ∷ rs) rest = omega (arith, few rs rest, laws.grows r (each_put put rs rest))
+
+  each_from-complete : (rs : List R) (n : ℕ) (before : List A) (rest : List Symbol) → AllOf Good rs → length rs < n → begins rest ≡ false
+      → each_from begins item n before (each_put put rs rest) ≡ Ok (before ++ each_text put of rs rest, rest)
+  unfolding each_from
+  each_from-complete rs zero before rest good h ends = absurd (omega arith)
+  each_from-complete [] (suc n) before rest good h ends = rw (ends, append-nil before) refl
+  each_from-complete (r ∷ rs) (suc n) before rest good h ends =
+      let over = each_put put rs rest in
+      let x = of r (put r over) in
+      rw (
+        laws.begin r over,
+        laws.complete r over good.0,
+        each_from-complete rs n (before ++ x ∷ []) rest good.1 (omega arith) ends,
+        append_assoc before (x ∷ []) (each_text put of rs rest),
+      ) refl
+
+  pub each-complete : (rs : List R) (rest : List Symbol) → AllOf Good rs → begins rest ≡ false → each_at begins item (each_put put rs rest) ≡ Ok (each_text put of rs rest, rest)
+  each-complete rs rest good ends = each_from-complete rs (suc (length (each_put put rs rest))) [] rest good (omega (arith, few rs rest)) ends
+
+  -- items were read behind others, and none begins with the rest
+  pub record AreEach (ts : List Symbol) (before us : List A) (rest : List Symbol) : Type 0 where
+    pub rules : List R
+    pub reads : before ++ each_text put of rules rest ≡ us
+    pub yields : ts ≡ each_put put rules rest
+    pub good : AllOf Good rules
+    pub ends : begins rest ≡ false
+
+  one-more : (ts past : List Symbol) (before us : List A) (rest : List Symbol) (x : A) → IsReadAt put of Good ts x past → AreEach past (before ++ x ∷ []) us rest → AreEach ts before us rest
+  one-more ts past before us rest x first others =
+      let front : ts ≡ put first.rule (each_put put others.rules rest) = first.yields ∙ ap (put first.rule) others.yields in
+      record {
+        rules = first.rule ∷ others.rules;
+        reads =
+            ap (λ y. before ++ y ∷ each_text put of others.rules rest) (ap (of first.rule) (sym front) ∙ first.reads)
+            ∙ sym (append_assoc before (x ∷ []) (each_text put of others.rules rest))
+            ∙ others.reads;
+        yields = front;
+        good = (first.good, others.good);
+        ends = others.ends;
+      }
+
+  pub each_from-sound : (n : ℕ) (ts : List Symbol) (before us : List A) (rest : List Symbol) → each_from begins item n before ts ≡ Ok (us, rest) → AreEach ts before us rest
+  unfolding each_from
+  each_from-sound zero ts before us rest h = absurd cc
+  each_from-sound (suc n) ts before us rest h = on (begins ts)
+      (λ e. in_steps _ _ (us, rest) (rw e at h) (λ x past found went.
+      one-more ts past before us rest x (laws.sound ts x past found) (each_from-sound n past (before ++ x ∷ []) us rest went)))
+      (λ e. let same = ok_same _ _ (rw e at h) in
+      record { rules = []; reads = append-nil before ∙ ap (λ q. q.0) same; yields = ap (λ q. q.1) same; good = tt; ends = ap begins (sym (ap (λ q. q.1) same)) ∙ e })
+
+  pub each-sound : (ts : List Symbol) (us : List A) (rest : List Symbol) → each_at begins item ts ≡ Ok (us, rest) → AreEach ts [] us rest
+  each-sound ts us rest h = each_from-sound (suc (length ts)) ts [] us rest h

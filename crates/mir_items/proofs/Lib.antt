@@ -1,0 +1,11 @@
+pub mod Sizes
+pub mod EachRead
+pub mod ListsAt
+pub mod FieldsRead
+pub mod AttrsRead
+pub mod DeclsRead
+pub mod DeclsSound
+pub mod ArgsRead
+pub mod OthersRead
+pub mod HeadsRead
+pub mod HeadsSound

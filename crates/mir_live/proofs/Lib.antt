@@ -1,0 +1,17 @@
+pub mod Among
+pub mod Keeps
+pub mod Alone
+pub mod Alive
+pub mod Agree
+pub mod Pairs
+pub mod Items
+pub mod Slots
+pub mod Paths
+pub mod Runs
+pub mod Paired
+pub mod Steps
+pub mod Others
+pub mod Follow
+pub mod Starts
+pub mod Prune
+pub mod PruneRefines

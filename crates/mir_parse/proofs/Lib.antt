@@ -1,0 +1,10 @@
+pub mod Laws
+pub mod PathsRead
+pub mod TypesRead
+pub mod PlacesRead
+pub mod OperandsRead
+pub mod RvaluesRead
+pub mod Sizes
+pub mod TermsRead
+pub mod LinesRead
+pub mod BlocksRead

@@ -1,0 +1,13 @@
+pub mod Faults
+pub mod Parser
+pub mod Promises
+pub mod Signs
+pub mod Lists
+pub mod Paths
+pub mod Types
+pub mod Places
+pub mod Operands
+pub mod Rvalues
+pub mod Terms
+pub mod Lines
+pub mod LineRules

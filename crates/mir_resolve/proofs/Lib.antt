@@ -1,0 +1,10 @@
+pub mod Noting
+pub mod PathBytes
+pub mod TypeSteps
+pub mod FirstPlaces
+pub mod Growing
+pub mod Making
+pub mod NoneTwice
+pub mod Listed
+pub mod PartNotes
+pub mod FaultOrder

@@ -1,0 +1,10 @@
+pub mod Seeing
+pub mod Operators
+pub mod PartTypes
+pub mod Values
+pub mod PathSteps
+pub mod TermCodes
+pub mod HeadersOf
+pub mod Faulty
+pub mod FormedParts
+pub mod Located

@@ -1,0 +1,26 @@
+use Rattle.std.proofs.Common.{true, false, sym, ◌∙◌}
+use Rattle.mir_syntax.specs.Tree.{trees_of}
+use Rattle.mir_validate.specs.Inside.{shapes, local_types}
+use Rattle.mir_validate.proofs.TermCodes.{switch_unfit, switch_arms}
+use Rattle.mir_validate.proofs.inside.Inside.switch_code.Goals as goal
+
+pub returns-in_default : goal.returns-in_default
+returns-in_default c =
+    let p = c.args.self.now.program.now in
+    let trees = trees_of p.types in
+    let locals = local_types p c.args.self.now.body.now in
+    switch_unfit (shapes p) locals c.args.operand.now c.args.arms.now c.requires.typed c.in_default.ensures
+
+pub returns-then-are_wrong : goal.returns-then-are_wrong
+returns-then-are_wrong c =
+    let p = c.args.self.now.program.now in
+    let trees = trees_of p.types in
+    let locals = local_types p c.args.self.now.body.now in
+    switch_arms (shapes p) locals c.args.operand.now c.args.arms.now c.in-Some.scalar true c.in-Some.ensures (sym c.if-are_wrong.true ∙ c.are_wrong.ensures)
+
+pub returns-else-are_wrong : goal.returns-else-are_wrong
+returns-else-are_wrong c =
+    let p = c.args.self.now.program.now in
+    let trees = trees_of p.types in
+    let locals = local_types p c.args.self.now.body.now in
+    switch_arms (shapes p) locals c.args.operand.now c.args.arms.now c.in-Some.scalar false c.in-Some.ensures (sym c.if-are_wrong.false ∙ c.are_wrong.ensures)
