@@ -1,5 +1,5 @@
 -- Texts of builds: of operands that are taken apart, and of what a program doesn't have.
-use Rattle.std.proofs.Common.{◌≡◌, ℕ, suc, zero, ◌+◌, ◌-◌, ◌<◌, ◌≤◌, take, drop, List, [], ◌∷◌, ◌++◌, length, get_or, slice_get, Some, None, codes, refl, sym, ap, subst, ◌∙◌, arith}
+use Rattle.std.proofs.Common.{◌≡◌, ℕ, ◌-◌, ◌≤◌, take, drop, List, [], ◌∷◌, ◌++◌, length, get_or, slice_get, Some, None, codes, sym, ap, subst, ◌∙◌, arith}
 use Rattle.std.proofs.lemmas.List.{take_all}
 use Rattle.mir_syntax.specs.declared.types.Def.{Def}
 use Rattle.mir_syntax.specs.declared.types.Variant.{Variant}
@@ -7,7 +7,7 @@ use Rattle.mir_syntax.specs.declared.body.Operand.{Operand}
 use Rattle.mir_syntax.specs.declared.program.Program.{Program}
 use Rattle.mir_syntax.specs.Tree.{Tree, trees_of}
 use Rattle.mir_syntax.specs.Crate.{Crate, def_of, variant_of}
-use Rattle.mir_text.specs.TypeText.{piece, more_items, no_def, def_at}
+use Rattle.mir_text.specs.TypeText.{piece, more_items, def_at}
 use Rattle.mir_text.specs.PlaceText.{no_variant, variant_at, operand_text}
 use Rattle.mir_text.specs.StatementText.{variant_path, build_text, tuple_text}
 use Rattle.mir_print.specs.Seen.{crate_in}

@@ -20,13 +20,13 @@ use Rattle.mir_syntax.specs.declared.body.Operand.{Operand}
 use Rattle.mir_syntax.specs.declared.body.Function.{Function}
 use Rattle.mir_syntax.specs.declared.program.Program.{Program}
 use Rattle.mir_syntax.specs.Tree.{Tree, scalar, empty, named, tuple_of, node, at_id, at_ids, trees_of}
-use Rattle.mir_syntax.specs.Shapes.{Shape, shapes_of, fields_tree, field_id, field_ty_of, fields_of, proj_ty, ◌>>=◌}
-use Rattle.mir_syntax.specs.Crate.{TypedField, TypedVariant, TypedDef, TypedOutside, TypedStmt, TypedBlock, TypedFunction, Crate, field_of, def_of, variant_of, outside_of, function_of, crate_of}
+use Rattle.mir_syntax.specs.Shapes.{Shape, shapes_of, fields_tree, field_id, field_ty_of, fields_of, proj_ty}
+use Rattle.mir_syntax.specs.Crate.{TypedField, TypedDef, TypedOutside, TypedStmt, TypedBlock, TypedFunction, Crate, field_of, def_of, variant_of, outside_of, function_of, crate_of}
 use Rattle.mir_syntax.specs.Table.{all_below}
 use Rattle.mir_syntax.proofs.Trees.{length-trees_of}
 use Rattle.mir_syntax.proofs.Places.{field-of-fields}
 use Rattle.mir_text.specs.TypeText.{piece, more_items, no_def, def_at, scalar_text, type_text, parts_text}
-use Rattle.mir_text.specs.PlaceText.{local_ty, no_variant, variant_at, opening, openings, closing, closings, or_unit, type_after, variant_name, operand_text}
+use Rattle.mir_text.specs.PlaceText.{local_ty, no_variant, variant_at, opening, openings, closing, closings, type_after, variant_name, operand_text}
 use Rattle.mir_text.specs.StatementText.{variant_path, build_parts, build_text, more_named, stmt_line, stmts_text}
 use Rattle.mir_text.specs.TermText.{block_name, path_or_none, function_paths, outside_paths, arms_text, block_text, blocks_text}
 use Rattle.mir_text.specs.Text.{local_decl, let_line, lets_text, more_args, gap_text, function_text, functions_text, def_text, defs_text, outside_text, outsides_text, others_stand}

@@ -1,5 +1,5 @@
 -- Crates of the first form: functions of scalars and `()`, with assignments of operands to locals, gotos and returns.
-use Rattle.std.specs.Prelude.{ℕ, ◌≡◌, ◌<◌, ⊤, List, [], length, All}
+use Rattle.std.specs.Prelude.{◌≡◌, ◌<◌, ⊤, [], length, All}
 use Rattle.mir_syntax.specs.declared.body.Place.{Place}
 use Rattle.mir_syntax.specs.declared.body.Operand.{Operand}
 use Rattle.mir_syntax.specs.declared.body.Operand.TheVariants as operand

@@ -1,4 +1,4 @@
-use Rattle.std.proofs.Common.{map, arith, refl, true, false, ◌+◌}
+use Rattle.std.proofs.Common.{map, arith, refl, ◌+◌}
 use Rattle.mir_print.specs.Seen.{crate_in}
 use Rattle.mir_syntax.specs.Tree.{at_id, trees_of}
 use Rattle.mir_text.specs.TermText.{blocks_text}

@@ -1,4 +1,4 @@
-use Rattle.std.proofs.Common.{map, arith, true, false}
+use Rattle.std.proofs.Common.{map, arith}
 use Rattle.mir_print.specs.Seen.{crate_in}
 use Rattle.mir_syntax.specs.Tree.{at_id, trees_of}
 use Rattle.mir_print.proofs.Texts.{named_more, named_done}

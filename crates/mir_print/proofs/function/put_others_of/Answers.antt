@@ -1,5 +1,5 @@
 use Rattle.std.proofs.lemmas.List.{drop-map}
-use Rattle.std.proofs.Common.{map, drop, arith, suc, ◌+◌, ◌≡◌}
+use Rattle.std.proofs.Common.{arith, suc, ◌+◌, ◌≡◌}
 use Rattle.mir_syntax.specs.Tree.{at_id, trees_of}
 use Rattle.mir_print.proofs.function.put_others_of.Goals as goal
 

@@ -1,4 +1,4 @@
-use Rattle.std.proofs.Common.{refl, true, false, sym, ◌∙◌}
+use Rattle.std.proofs.Common.{refl, sym, ◌∙◌}
 use Rattle.mir_print.proofs.Texts.{no_defs_stand, defs_stand}
 use Rattle.mir_print.proofs.program.has_others.Goals as goal
 

@@ -1,4 +1,4 @@
-use Rattle.std.proofs.Common.{map, arith, true, false}
+use Rattle.std.proofs.Common.{map, arith, true}
 use Rattle.mir_print.specs.Seen.{crate_in}
 use Rattle.mir_syntax.specs.Tree.{trees_of}
 use Rattle.mir_text.specs.Text.{functions_text}

@@ -1,8 +1,4 @@
-use Rattle.std.proofs.Common.{map}
-use Rattle.mir_syntax.specs.Tree.{at_id, trees_of}
-use Rattle.mir_syntax.specs.Crate.{stmt_of}
 use Rattle.mir_text.specs.StatementText.{stmt_text}
-use Rattle.mir_print.specs.Seen.{crate_in}
 use Rattle.mir_print.proofs.Printing.{goes_then}
 use Rattle.mir_print.proofs.stmt.put_stmt.Goals as goal
 

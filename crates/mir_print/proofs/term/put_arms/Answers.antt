@@ -1,4 +1,4 @@
-use Rattle.std.proofs.Common.{arith, true, false}
+use Rattle.std.proofs.Common.{arith}
 use Rattle.mir_text.specs.TermText.{arms_text}
 use Rattle.mir_print.proofs.Texts.{remains_next, remains_none, first_arm, no_arms}
 use Rattle.mir_print.proofs.term.put_arms.Goals as goal

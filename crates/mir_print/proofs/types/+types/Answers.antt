@@ -1,4 +1,4 @@
-use Rattle.std.proofs.Common.{arith, true, false}
+use Rattle.std.proofs.Common.{arith}
 use Rattle.mir_print.specs.Seen.{crate_in}
 use Rattle.mir_syntax.specs.Tree.{at_ids, trees_of}
 use Rattle.mir_text.specs.TypeText.{type_text, parts_text, rest_text}
