@@ -1,3 +1,4 @@
 pub mod Cleaning
 pub mod FirstForms
 pub mod Answering
+pub mod Refined

@@ -2,7 +2,8 @@
 //!
 //! `run_quiet` does what the words ask for. What it answers is `Answers` (`specs/Answer.antt`): a relation of words and input to a status,
 //! the bytes that are written and the notes. Its contract says that this is told where no object fails and memory suffices, which
-//! statuses a failure may give, and that what is written is then a front of the answer or nothing.
+//! statuses a failure may give, and that what is written is then a front of the answer or nothing. At status 0 it is the text of a crate that
+//! refines the one that was read (`Refines` of `mir_semantics`).
 #![tactic(auto)]
 
 mod load;

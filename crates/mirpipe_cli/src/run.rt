@@ -4,6 +4,7 @@ ghost use Rattle.std.specs.Str.{bytes_eq};
 ghost use Rattle.pipe_io.specs.Causes.{Rose, AppendsFront};
 ghost use Rattle.mir_syntax.specs.Crate.{Crate};
 ghost use Rattle.mir_text.specs.Text.{text};
+ghost use Rattle.mir_semantics.specs.Refines.{Refines};
 ghost use Rattle.mirpipe_cli.specs.Answer.{misfit, cleaned, IsRead, Told, Answers};
 
 use crate::load::{Refusal, load};
@@ -83,9 +84,9 @@ pub fn run_quiet<S: Source, K: Sink, N: Sink>(
         → (told : Told) × Answers (map string_bytes words.now) input told × (result ≡ told.status) × Appends (K.written out.old) (K.written out.new) told.out
         × ((Rose (N.faults notes.old) (N.faults notes.new) → ⊥) → Appends (N.written notes.old) (N.written notes.new) told.notes) }
 
-    // What is written.
+    // What is written: the text of a crate that refines the one that was read.
     ensures printed { (input : List ℕ) → S.left source.old ≡ Some input → result ≡ 0
-        → (C : Crate) × IsRead input C × Appends (K.written out.old) (K.written out.new) (text (cleaned C)) }
+        → (C : Crate) × IsRead input C × Appends (K.written out.old) (K.written out.new) (text (cleaned C)) × Refines (cleaned C) C }
     ensures front { (input : List ℕ) → S.left source.old ≡ Some input → result ≡ 4
         → (C : Crate) × IsRead input C × AppendsFront (K.written out.old) (K.written out.new) (text (cleaned C)) }
     ensures nothing { result ≢ 0 → result ≢ 4 → Appends (K.written out.old) (K.written out.new) [] }

@@ -5,6 +5,7 @@ use Rattle.mir_syntax.specs.Crate.{crate_of}
 use Rattle.mir_text.specs.Text.{text}
 use Rattle.mirpipe_cli.specs.Answer.{misfit, printed, not_first, word_fault}
 use Rattle.mirpipe_cli.proofs.Answering.{appends_none, answers_word, answers_printed, answers_not_first}
+use Rattle.mirpipe_cli.proofs.Refined.{cleaned_refines}
 use Rattle.mirpipe_cli.proofs.run.run_quiet.Goals as goal
 
 pub returns-in-Some-clause-told : goal.returns-in-Some-clause-told
@@ -25,8 +26,12 @@ returns-in-Ok-print_program-clause-told g c = λ input left calm quiet other.
 pub returns-in-Ok-print_program-clause-printed : goal.returns-in-Ok-print_program-clause-printed
 returns-in-Ok-print_program-clause-printed g c = λ input left done.
     let read = c.in-Ok.ensures.read input left in
-    let whole : Appends (g.K.Sink.written c.args.out.now) (g.K.Sink.written c.print_program.new.sink) (text (crate_of c.in-Ok.program)) = search rules in
-    (read.0, read.1, subst (λ k. Appends (g.K.Sink.written c.args.out.now) (g.K.Sink.written c.print_program.new.sink) (text k)) read.2 whole)
+    let whole : Appends (g.K.Sink.written c.args.out.now) (g.K.Sink.written c.print_program.new.sink) (text (crate_of c.in-Ok.program)) = search rules in (
+      read.0,
+      read.1,
+      subst (λ k. Appends (g.K.Sink.written c.args.out.now) (g.K.Sink.written c.print_program.new.sink) (text k)) read.2 whole,
+      cleaned_refines input read.0 read.1,
+    )
 
 pub returns-in-Ok-clause-front : goal.returns-in-Ok-clause-front
 returns-in-Ok-clause-front g c = λ input left stopped.
