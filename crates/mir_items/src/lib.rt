@@ -13,8 +13,6 @@ mod field;
 mod function;
 mod item;
 mod line;
-#[cfg(test)]
-mod tests;
 mod variant;
 
 pub use arg::read_args;

@@ -21,6 +21,4 @@ mod index;
 mod laws;
 mod once;
 mod paths;
-#[cfg(test)]
-mod tests;
 mod types;
