@@ -16,6 +16,8 @@ mod place;
 mod rvalue;
 mod sign;
 mod term;
+#[cfg(test)]
+mod tests;
 mod ty;
 
 pub use block::parse_block;
