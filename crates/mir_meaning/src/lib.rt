@@ -7,29 +7,10 @@
 //! - `place`: a place of a frame is resolved from left to right, with no copy (`walk`).
 #![tactic(auto)]
 
-mod blank;
-mod control;
 mod datum;
-mod drops;
-mod exec;
-mod flat;
-mod here;
-mod machine;
 mod memory;
-mod operand;
 mod part;
 mod path;
 mod place;
 mod pointer;
 mod put;
-mod run;
-mod rvalue;
-mod stop;
-mod terms;
-#[cfg(test)]
-mod tests;
-mod value;
-
-pub use flat::flat;
-pub use run::{Called, EntryCall, Outcome, RunResult, State, Stepped, run, step};
-pub use value::Value;

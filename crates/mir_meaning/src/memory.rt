@@ -109,9 +109,4 @@ impl Memory {
         self.stores.push(Store { frame, slots })?;
         Ok(())
     }
-
-    /// The newest frame ends; its locals are given back.
-    pub fn close(&mut self) {
-        let _ended = self.stores.pop();
-    }
 }

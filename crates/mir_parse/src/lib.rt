@@ -16,8 +16,6 @@ mod place;
 mod rvalue;
 mod sign;
 mod term;
-#[cfg(test)]
-mod tests;
 mod ty;
 
 pub use block::parse_block;

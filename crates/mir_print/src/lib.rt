@@ -20,8 +20,6 @@ mod program;
 mod rvalue;
 mod stmt;
 mod term;
-#[cfg(test)]
-mod tests;
 mod types;
 
 pub use program::{print_function, print_program, text_len};
