@@ -50,7 +50,7 @@ all_below-more n m le (id ∷ ids) h =
 
 -- ---- what holds of a table holds of a longer one
 
-rvalue-more : (n m : ℕ) → n ≤ m → (r : Rvalue) → IsTrue (rvalue_below n r) → IsTrue (rvalue_below m r)
+pub rvalue-more : (n m : ℕ) → n ≤ m → (r : Rvalue) → IsTrue (rvalue_below n r) → IsTrue (rvalue_below m r)
 rvalue-more n m le (rvalue.Cast a ty) h = lt-more n m ty.0 le h
 rvalue-more n m le (rvalue.Use a) h = refl
 rvalue-more n m le (rvalue.Binary op a b) h = refl
@@ -62,13 +62,13 @@ rvalue-more n m le (rvalue.Discriminant p) h = refl
 rvalue-more n m le (rvalue.Tuple parts) h = refl
 rvalue-more n m le (rvalue.Build d v parts) h = refl
 
-stmt-more : (n m : ℕ) → n ≤ m → (s : Stmt) → IsTrue (stmt_below n s) → IsTrue (stmt_below m s)
+pub stmt-more : (n m : ℕ) → n ≤ m → (s : Stmt) → IsTrue (stmt_below n s) → IsTrue (stmt_below m s)
 stmt-more n m le (stmt.Assign p r) h = rvalue-more n m le r h
 stmt-more n m le (stmt.StorageLive x) h = refl
 stmt-more n m le (stmt.StorageDead x) h = refl
 stmt-more n m le (stmt.SetDiscriminant p k) h = refl
 
-block-more : (n m : ℕ) → n ≤ m → (b : Block) → IsTrue (block_below n b) → IsTrue (block_below m b)
+pub block-more : (n m : ℕ) → n ≤ m → (b : Block) → IsTrue (block_below n b) → IsTrue (block_below m b)
 block-more n m le b h = all-weaker (stmt_below n) (stmt_below m) (stmt-more n m le) b.stmts h
 
 pub body-more : (n m : ℕ) → n ≤ m → (b : Body) → IsTrue (body_below n b) → IsTrue (body_below m b)
@@ -78,34 +78,34 @@ body-more n m le b h =
     let blocks = all-weaker (block_below n) (block_below m) (block-more n m le) b.blocks both.1 in
     search rules
 
-field-more : (n m : ℕ) → n ≤ m → (f : Field) → IsTrue (field_below n f) → IsTrue (field_below m f)
+pub field-more : (n m : ℕ) → n ≤ m → (f : Field) → IsTrue (field_below n f) → IsTrue (field_below m f)
 field-more n m le f h = lt-more n m f.ty.0 le h
 
-variant-more : (n m : ℕ) → n ≤ m → (v : Variant) → IsTrue (variant_below n v) → IsTrue (variant_below m v)
+pub variant-more : (n m : ℕ) → n ≤ m → (v : Variant) → IsTrue (variant_below n v) → IsTrue (variant_below m v)
 variant-more n m le v h = all-weaker (field_below n) (field_below m) (field-more n m le) v.fields h
 
-def-more : (n m : ℕ) → n ≤ m → (d : Def) → IsTrue (def_below n d) → IsTrue (def_below m d)
+pub def-more : (n m : ℕ) → n ≤ m → (d : Def) → IsTrue (def_below n d) → IsTrue (def_below m d)
 def-more n m le d h = all-weaker (variant_below n) (variant_below m) (variant-more n m le) d.variants h
 
-outside-more : (n m : ℕ) → n ≤ m → (o : Outside) → IsTrue (outside_below n o) → IsTrue (outside_below m o)
+pub outside-more : (n m : ℕ) → n ≤ m → (o : Outside) → IsTrue (outside_below n o) → IsTrue (outside_below m o)
 outside-more n m le o h =
     let both : IsTrue (all_below n o.args) × IsTrue (nat_lt o.result.0 n) = search rules in
     let args = all_below-more n m le o.args both.0 in
     let result = lt-more n m o.result.0 le both.1 in
     search rules
 
-function-more : (n m : ℕ) → n ≤ m → (f : Function) → IsTrue (function_below n f) → IsTrue (function_below m f)
+pub function-more : (n m : ℕ) → n ≤ m → (f : Function) → IsTrue (function_below n f) → IsTrue (function_below m f)
 function-more n m le f h = body-more n m le f.body h
 
 -- ---- ids that lie in a table stand for the same in a longer one
 
-ids-front : (trees later : List Tree) (ids : List TyId) → IsTrue (all_below (length trees) ids) → map (at_id (trees ++ later)) ids ≡ map (at_id trees) ids
+pub ids-front : (trees later : List Tree) (ids : List TyId) → IsTrue (all_below (length trees) ids) → map (at_id (trees ++ later)) ids ≡ map (at_id trees) ids
 ids-front trees later [] h = refl
 ids-front trees later (id ∷ ids) h =
     let both : (id.0 < length trees) × IsTrue (all_below (length trees) ids) = search rules in
     ap₂ (λ t ts. t ∷ ts) (at_id-front trees later id both.0) (ids-front trees later ids both.1)
 
-rvalue-front : (trees later : List Tree) (r : Rvalue) → IsTrue (rvalue_below (length trees) r) → rvalue_of (trees ++ later) r ≡ rvalue_of trees r
+pub rvalue-front : (trees later : List Tree) (r : Rvalue) → IsTrue (rvalue_below (length trees) r) → rvalue_of (trees ++ later) r ≡ rvalue_of trees r
 rvalue-front trees later (rvalue.Cast a ty) h = ap (λ t. cast a t) (at_id-front trees later ty (search rules))
 rvalue-front trees later (rvalue.Use a) h = refl
 rvalue-front trees later (rvalue.Binary op a b) h = refl
@@ -117,13 +117,13 @@ rvalue-front trees later (rvalue.Discriminant p) h = refl
 rvalue-front trees later (rvalue.Tuple parts) h = refl
 rvalue-front trees later (rvalue.Build d v parts) h = refl
 
-stmt-front : (trees later : List Tree) (s : Stmt) → IsTrue (stmt_below (length trees) s) → stmt_of (trees ++ later) s ≡ stmt_of trees s
+pub stmt-front : (trees later : List Tree) (s : Stmt) → IsTrue (stmt_below (length trees) s) → stmt_of (trees ++ later) s ≡ stmt_of trees s
 stmt-front trees later (stmt.Assign p r) h = ap (λ x. assign p x) (rvalue-front trees later r h)
 stmt-front trees later (stmt.StorageLive x) h = refl
 stmt-front trees later (stmt.StorageDead x) h = refl
 stmt-front trees later (stmt.SetDiscriminant p k) h = refl
 
-block-front : (trees later : List Tree) (b : Block) → IsTrue (block_below (length trees) b) → block_of (trees ++ later) b ≡ block_of trees b
+pub block-front : (trees later : List Tree) (b : Block) → IsTrue (block_below (length trees) b) → block_of (trees ++ later) b ≡ block_of trees b
 block-front trees later b h =
     let make : List TypedStmt → TypedBlock = λ stmts. record { stmts = stmts; term = b.term } in
     ap make (map-same (stmt_below (length trees)) (stmt_of (trees ++ later)) (stmt_of trees) (stmt-front trees later) b.stmts h)
@@ -135,27 +135,27 @@ body-front trees later b h =
     ap₂ make (ids-front trees later b.locals both.0)
     (map-same (block_below (length trees)) (block_of (trees ++ later)) (block_of trees) (block-front trees later) b.blocks both.1)
 
-function-front : (trees later : List Tree) (f : Function) → IsTrue (function_below (length trees) f) → function_of (trees ++ later) f ≡ function_of trees f
+pub function-front : (trees later : List Tree) (f : Function) → IsTrue (function_below (length trees) f) → function_of (trees ++ later) f ≡ function_of trees f
 function-front trees later f h =
     let make : TypedBody → TypedFunction = λ body. record { path = f.path; inlining = f.inline; is_drop = f.is_drop; body = body } in
     ap make (body-front trees later f.body h)
 
-field-front : (trees later : List Tree) (f : Field) → IsTrue (field_below (length trees) f) → field_of (trees ++ later) f ≡ field_of trees f
+pub field-front : (trees later : List Tree) (f : Field) → IsTrue (field_below (length trees) f) → field_of (trees ++ later) f ≡ field_of trees f
 field-front trees later f h =
     let make : Tree → TypedField = λ ty. record { name = f.name; ty = ty } in
     ap make (at_id-front trees later f.ty (search rules))
 
-variant-front : (trees later : List Tree) (v : Variant) → IsTrue (variant_below (length trees) v) → variant_of (trees ++ later) v ≡ variant_of trees v
+pub variant-front : (trees later : List Tree) (v : Variant) → IsTrue (variant_below (length trees) v) → variant_of (trees ++ later) v ≡ variant_of trees v
 variant-front trees later v h =
     let make : List TypedField → TypedVariant = λ fields. record { name = v.name; form = v.form; fields = fields } in
     ap make (map-same (field_below (length trees)) (field_of (trees ++ later)) (field_of trees) (field-front trees later) v.fields h)
 
-def-front : (trees later : List Tree) (d : Def) → IsTrue (def_below (length trees) d) → def_of (trees ++ later) d ≡ def_of trees d
+pub def-front : (trees later : List Tree) (d : Def) → IsTrue (def_below (length trees) d) → def_of (trees ++ later) d ≡ def_of trees d
 def-front trees later d h =
     let make : List TypedVariant → TypedDef = λ variants. record { path = d.path; is_enum = d.is_enum; variants = variants } in
     ap make (map-same (variant_below (length trees)) (variant_of (trees ++ later)) (variant_of trees) (variant-front trees later) d.variants h)
 
-outside-front : (trees later : List Tree) (o : Outside) → IsTrue (outside_below (length trees) o) → outside_of (trees ++ later) o ≡ outside_of trees o
+pub outside-front : (trees later : List Tree) (o : Outside) → IsTrue (outside_below (length trees) o) → outside_of (trees ++ later) o ≡ outside_of trees o
 outside-front trees later o h =
     let both : IsTrue (all_below (length trees) o.args) × (o.result.0 < length trees) = search rules in
     let make : List Tree → Tree → TypedOutside = λ args result. record { path = o.path; args = args; result = result } in

@@ -248,7 +248,7 @@ other-variant D trees (RefMut a) k name = refl
 other-variant D trees (Named d) k name = absurd (name d refl)
 
 -- what stands after a downcast of a program's type: nothing, or the tuple of a variant's fields
-variant-is : (p : Program) (t : Tree) (k : ℕ)
+pub variant-is : (p : Program) (t : Tree) (k : ℕ)
     → (variant_ty (shapes_of (crate_of p)) t k ≡ None) ⊎ ((ts : List Tree) × (variant_ty (shapes_of (crate_of p)) t k ≡ Some (tuple_of ts)))
 variant-is p (scalar s) k = inl refl
 variant-is p empty k = inl refl

@@ -30,8 +30,8 @@ fn split_field<'a>(projs: &'a [Proj]) -> Option<(u32, &'a [Proj])>
 }
 
 impl Program {
-    /// The type of an id; an id that is not in the table has none.
-    fn ty_at(&self, id: TyId) -> Option<&Ty>
+    /// The type of an id. `None` exactly where the id is not in the table.
+    pub fn ty_at(&self, id: TyId) -> Option<&Ty>
         ensures stands { MatchOption result
             (at_id (trees_of self.now.types) id ≡ scalar scalar_ty.Bool)
             (λ ty. at_id (trees_of self.now.types) id ≡ node (trees_of self.now.types) ty.now) }
@@ -40,8 +40,8 @@ impl Program {
         self.types.get(id.0 as usize)
     }
 
-    /// The fields of a struct; an enum has none of its own.
-    fn struct_fields(&self, def: u32) -> Option<&[Field]>
+    /// The fields of a struct. `None` exactly where no such definition is, or it is an enum, which has none of its own.
+    pub fn struct_fields(&self, def: u32) -> Option<&[Field]>
         ensures fields { option_map (fields_tree (trees_of self.now.types)) (option_copied result) ≡ fields_of (shapes_of (crate_of self.now)) (named def) }
         ensures in_table { IdsInTable self.now → IfSome result (λ fields. IsTrue (list_all (field_below (length self.now.types)) fields.now)) }
     {
@@ -55,8 +55,8 @@ impl Program {
         }
     }
 
-    /// The fields of a variant of an enum.
-    fn variant_fields(&self, id: TyId, variant: u32) -> Option<&[Field]>
+    /// The fields of a variant of an enum. `None` exactly where the type is no enum, or has no such variant.
+    pub fn variant_fields(&self, id: TyId, variant: u32) -> Option<&[Field]>
         ensures fields { option_map (fields_tree (trees_of self.now.types)) (option_copied result) ≡ variant_ty (shapes_of (crate_of self.now)) (at_id (trees_of self.now.types) id) variant }
         ensures in_table { IdsInTable self.now → IfSome result (λ fields. IsTrue (list_all (field_below (length self.now.types)) fields.now)) }
     {
@@ -71,8 +71,8 @@ impl Program {
         Some(variant.fields.as_slice())
     }
 
-    /// The type of a field of a tuple or a struct.
-    fn field_ty(&self, id: TyId, index: u32) -> Option<TyId>
+    /// The type of a field of a tuple or a struct. `None` exactly where the type has no such field.
+    pub fn field_ty(&self, id: TyId, index: u32) -> Option<TyId>
         ensures ty { option_map (at_id (trees_of self.now.types)) result
             ≡ proj_ty (shapes_of (crate_of self.now)) (at_id (trees_of self.now.types) id) (Proj.Field index) }
         ensures in_table { IdsInTable self.now → IfSome result (λ id. id.0 < length self.now.types) }
@@ -84,8 +84,8 @@ impl Program {
         }
     }
 
-    /// What a reference points to.
-    fn pointee(&self, id: TyId) -> Option<TyId>
+    /// What a reference points to. `None` exactly where the type is no reference.
+    pub fn pointee(&self, id: TyId) -> Option<TyId>
         ensures ty { option_map (at_id (trees_of self.now.types)) result
             ≡ proj_ty (shapes_of (crate_of self.now)) (at_id (trees_of self.now.types) id) Proj.Deref }
         ensures in_table { IdsInTable self.now → IfSome result (λ id. id.0 < length self.now.types) }
@@ -98,7 +98,8 @@ impl Program {
     }
 
     /// The type after the first projection, and after the field behind it where it is a downcast; and the projections that are left.
-    fn project<'a>(&self, id: TyId, first: Proj, rest: &'a [Proj]) -> Option<(TyId, &'a [Proj])>
+    /// `None` where the projection doesn't fit, or a downcast has no field behind it.
+    pub fn project<'a>(&self, id: TyId, first: Proj, rest: &'a [Proj]) -> Option<(TyId, &'a [Proj])>
         ensures path { MatchOption result
             (whole_path_ty (shapes_of (crate_of self.now)) (at_id (trees_of self.now.types) id) (first ∷ rest.now) ≡ None)
             (λ on. whole_path_ty (shapes_of (crate_of self.now)) (at_id (trees_of self.now.types) id) (first ∷ rest.now)
