@@ -1,3 +1,7 @@
+use Rattle.mir_round_trip.proofs.Types.{type_spelt}
+use Rattle.mir_round_trip.proofs.Atoms.{name_spelt}
+use Rattle.mir_round_trip.proofs.Literals.{open_sign}
+use Rattle.mir_round_trip.proofs.Spelling.{after}
 use Rattle.mir_text.specs.Symbols.{grammar_names}
 use Rattle.mir_round_trip.proofs.strings_are_kept.Goals as goal
 use Rattle.mir_round_trip.proofs.Numbering.{strings_back}
