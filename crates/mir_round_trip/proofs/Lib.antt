@@ -4,3 +4,6 @@ pub mod Literals
 pub mod Atoms
 pub mod Paths
 pub mod Types
+pub mod Meaning
+pub mod Places
+pub mod PlacesBack

@@ -1,3 +1,6 @@
+use Rattle.mir_round_trip.proofs.PlacesBack.{place_back}
+use Rattle.mir_round_trip.proofs.Places.{place_spelt}
+use Rattle.mir_round_trip.proofs.Meaning.{names_at}
 use Rattle.mir_round_trip.proofs.Types.{type_spelt}
 use Rattle.mir_round_trip.proofs.Atoms.{name_spelt}
 use Rattle.mir_round_trip.proofs.Literals.{open_sign}
