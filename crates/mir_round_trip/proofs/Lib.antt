@@ -7,3 +7,4 @@ pub mod Types
 pub mod Meaning
 pub mod Places
 pub mod PlacesBack
+pub mod Operands

@@ -64,10 +64,23 @@ Path c t (Downcast k ∷ Field n ∷ ps) =
     × (proj_ty (plain_shapes c) (type_after c t (Downcast k)) (Field n) ≡ Some (field_type c t k n)) × Proper c (field_type c t k n) × Path c (field_type c t k n) ps
 Path c t ps = ⊥
 
+-- how deep the rule of a place nests, so many being there before its projections
+abbrev pub path_depth : Crate → Tree → ℕ → List Proj → ℕ
+path_depth c t n [] = n
+path_depth c t n (Deref ∷ ps) = path_depth c (type_after c t Deref) (suc n) ps
+path_depth c t n (Field m ∷ ps) = path_depth c (type_after c t (Field m)) (suc (max n (tree_depth (type_after c t (Field m))))) ps
+path_depth c t n (Downcast k ∷ Field m ∷ ps) = path_depth c (field_type c t k m) (suc (max (suc n) (tree_depth (field_type c t k m)))) ps
+path_depth c t n ps = n
+
+-- how deep the rule of a place nests
+unfoldable pub depth_at : Crate → List Tree → Place → ℕ
+depth_at c locals q = path_depth c (local_ty locals q.local) 1 q.proj
+
 pub record IsPlace (c : Crate) (locals : List Tree) (q : Place) : Type 0 where
   pub there : q.local < length locals
   pub small : q.local < 2 ^ 32
   pub path : Path c (local_ty locals q.local) q.proj
+  pub depth : depth_at c locals q ≤ 65
 
 -- ---- its text
 

@@ -14,12 +14,12 @@ use Rattle.mir_text.specs.GrammarTypes.{TypeRule}
 use Rattle.mir_text.specs.Names.{Strings, Names, string_at, is_known}
 use Rattle.mir_text.specs.NamedBodies.{Declared, declared_ty, variant_of_ty, place_ty_of, downcast_ty, variant_at_place, or_zero, local_in, projs_named, place_named}
 use Rattle.mir_text.specs.NameFaults.{unless, type_codes, place_codes}
-use Rattle.mir_text.specs.Nesting.{type_depth, place_depth, Small}
+use Rattle.mir_text.specs.Nesting.{type_depth, place_depth, Small, PlaceGood}
 use Rattle.mir_text.specs.PlaceText.{local_ty, type_after, variant_name, variant_at}
 use Rattle.mir_round_trip.proofs.Paths.{Back}
 use Rattle.mir_round_trip.proofs.Types.{type_rule, Proper, type_known, tree_depth, depth_kept}
 use Rattle.mir_round_trip.proofs.Meaning.{plain_shapes, names_at, Kept, no-codes, met}
-use Rattle.mir_round_trip.proofs.Places.{field_type, walk, place_rule, IsVariant, variant-text, Path, IsPlace}
+use Rattle.mir_round_trip.proofs.Places.{field_type, walk, place_rule, IsVariant, variant-text, Path, path_depth, depth_at, IsPlace}
 
 -- what a rule of a place means
 pub record IsAt (c : Crate) (strings : Strings) (L : Declared) (q : PlaceRule) (t : Tree) (x : ℕ) (ps : List Proj) : Type 0 where
@@ -143,17 +143,6 @@ place_faultless c strings L locals set q h = let e = place-ends c strings L loca
 
 -- ---- how deep it nests
 
-abbrev pub path_depth : Crate → Tree → ℕ → List Proj → ℕ
-path_depth c t n [] = n
-path_depth c t n (Deref ∷ ps) = path_depth c (type_after c t Deref) (suc n) ps
-path_depth c t n (Field m ∷ ps) = path_depth c (type_after c t (Field m)) (suc (max n (tree_depth (type_after c t (Field m))))) ps
-path_depth c t n (Downcast k ∷ Field m ∷ ps) = path_depth c (field_type c t k m) (suc (max (suc n) (tree_depth (field_type c t k m)))) ps
-path_depth c t n ps = n
-
--- how deep the rule of a place nests
-unfoldable pub depth_at : Crate → List Tree → Place → ℕ
-depth_at c locals q = path_depth c (local_ty locals q.local) 1 q.proj
-
 walk-depth : (c : Crate) (strings : Strings) (q : PlaceRule) (t : Tree) (ps : List Proj) → place_depth (walk c strings q t ps) ≡ path_depth c t (place_depth q) ps
 walk-depth c strings q t [] = refl
 walk-depth c strings q t (Deref ∷ ps) = walk-depth c strings (p.deref q) (type_after c t Deref) ps
@@ -183,3 +172,6 @@ walk-small c strings q t ps h k = absurd h
 pub small_place : (c : Crate) (strings : Strings) (locals : List Tree) (q : Place) → IsPlace c locals q → Small (place_rule c strings locals q)
 unfolding place_rule
 small_place c strings locals q h = walk-small c strings (p.local q.local) (local_ty locals q.local) q.proj h.path tt
+
+pub place_good : (c : Crate) (strings : Strings) (locals : List Tree) (q : Place) → IsPlace c locals q → PlaceGood 65 (place_rule c strings locals q)
+place_good c strings locals q h = (subst (λ n. n ≤ 65) (sym (depth_of_place c strings locals q)) h.depth, small_place c strings locals q h)

@@ -1,3 +1,4 @@
+use Rattle.mir_round_trip.proofs.Operands.{operand_back}
 use Rattle.mir_round_trip.proofs.PlacesBack.{place_back}
 use Rattle.mir_round_trip.proofs.Places.{place_spelt}
 use Rattle.mir_round_trip.proofs.Meaning.{names_at}
