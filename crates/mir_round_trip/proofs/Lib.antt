@@ -8,3 +8,5 @@ pub mod Meaning
 pub mod Places
 pub mod PlacesBack
 pub mod Operands
+pub mod Lists
+pub mod Builds
