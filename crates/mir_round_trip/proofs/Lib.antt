@@ -10,3 +10,4 @@ pub mod PlacesBack
 pub mod Operands
 pub mod Lists
 pub mod Builds
+pub mod BuildsBack

@@ -28,19 +28,19 @@ items_rule rule (x ∷ xs) = join_item (rule x) (items_rule rule xs)
 
 -- what follows an item
 abbrev pub tail_put : {R : Type 0} → Put R → Symbol → Put (Items R)
-tail_put put close end rest = close ∷ rest
-tail_put put close (last q) rest = s.Comma ∷ items_put put close (last q) rest
-tail_put put close (more q qs) rest = s.Comma ∷ items_put put close (more q qs) rest
+tail_put put closing end rest = closing ∷ rest
+tail_put put closing (last q) rest = s.Comma ∷ items_put put closing (last q) rest
+tail_put put closing (more q qs) rest = s.Comma ∷ items_put put closing (more q qs) rest
 
-pub join-put : {R : Type 0} (put : Put R) (close : Symbol) (r : R) (rs : Items R) (rest : List Symbol) → items_put put close (join_item r rs) rest ≡ put r (tail_put put close rs rest)
-join-put put close r end rest = refl
-join-put put close r (last q) rest = refl
-join-put put close r (more q qs) rest = refl
+pub join-put : {R : Type 0} (put : Put R) (closing : Symbol) (r : R) (rs : Items R) (rest : List Symbol) → items_put put closing (join_item r rs) rest ≡ put r (tail_put put closing rs rest)
+join-put put closing r end rest = refl
+join-put put closing r (last q) rest = refl
+join-put put closing r (more q qs) rest = refl
 
-pub join-tail : {R : Type 0} (put : Put R) (close : Symbol) (r : R) (rs : Items R) (rest : List Symbol) → tail_put put close (join_item r rs) rest ≡ s.Comma ∷ put r (tail_put put close rs rest)
-join-tail put close r end rest = refl
-join-tail put close r (last q) rest = refl
-join-tail put close r (more q qs) rest = refl
+pub join-tail : {R : Type 0} (put : Put R) (closing : Symbol) (r : R) (rs : Items R) (rest : List Symbol) → tail_put put closing (join_item r rs) rest ≡ s.Comma ∷ put r (tail_put put closing rs rest)
+join-tail put closing r end rest = refl
+join-tail put closing r (last q) rest = refl
+join-tail put closing r (more q qs) rest = refl
 
 -- ---- its text
 
@@ -58,27 +58,27 @@ names_onto names (x ∷ xs) ms = names x ++ names_onto names xs ms
 abbrev pub Spells : {A R : Type 0} → (A → List ℕ) → Put R → (Strings → A → R) → (A → List (List ℕ)) → A → Type 0
 Spells text put rule names x = Spelt (text x) (λ strings. put (rule strings x)) (names x)
 
-pub more_spelt : {A R : Type 0} (text : A → List ℕ) (put : Put R) (rule : Strings → A → R) (names : A → List (List ℕ)) (close : Symbol) (v : List ℕ) (g : Puts) (ms : List (List ℕ))
-    → Front v → Spelt v (λ strings rest. close ∷ g strings rest) ms → (xs : List A) → AllOf (Spells text put rule names) xs
-    → Spelt (more_items text xs ++ v) (λ strings rest. tail_put put close (items_rule (rule strings) xs) (g strings rest)) (names_onto names xs ms)
+pub more_spelt : {A R : Type 0} (text : A → List ℕ) (put : Put R) (rule : Strings → A → R) (names : A → List (List ℕ)) (closing : Symbol) (v : List ℕ) (g : Puts) (ms : List (List ℕ))
+    → Front v → Spelt v (λ strings rest. closing ∷ g strings rest) ms → (xs : List A) → AllOf (Spells text put rule names) xs
+    → Spelt (more_items text xs ++ v) (λ strings rest. tail_put put closing (items_rule (rule strings) xs) (g strings rest)) (names_onto names xs ms)
 unfolding more_items piece
-more_spelt text put rule names close v g ms front b [] h = b
-more_spelt text put rule names close v g ms front b (x ∷ xs) h =
-    let others = more_spelt text put rule names close v g ms front b xs h.1 in
+more_spelt text put rule names closing v g ms front b [] h = b
+more_spelt text put rule names closing v g ms front b (x ∷ xs) h =
+    let others = more_spelt text put rule names closing v g ms front b xs h.1 in
     let is : codes ", " ++ (text x ++ (more_items text xs ++ v)) ≡ (codes ", " ++ (text x ++ more_items text xs)) ++ v = ap (λ l. codes ", " ++ l) (sym (append_assoc (text x) (more_items text xs) v)) in
-    subst (λ l. Spelt l (λ strings rest. tail_put put close (items_rule (rule strings) (x ∷ xs)) (g strings rest)) (names_onto names (x ∷ xs) ms)) is
-    (put_as (λ strings ground rest. sym (join-tail put close (rule strings x) (items_rule (rule strings) xs) (g strings rest)))
+    subst (λ l. Spelt l (λ strings rest. tail_put put closing (items_rule (rule strings) (x ∷ xs)) (g strings rest)) (names_onto names (x ∷ xs) ms)) is
+    (put_as (λ strings ground rest. sym (join-tail put closing (rule strings x) (items_rule (rule strings) xs) (g strings rest)))
       (after comma_space (and_then h.0 (more-front text v xs front) others)))
 
-pub comma_spelt : {A R : Type 0} (text : A → List ℕ) (put : Put R) (rule : Strings → A → R) (names : A → List (List ℕ)) (close : Symbol) (v : List ℕ) (g : Puts) (ms : List (List ℕ))
-    → Front v → Spelt v (λ strings rest. close ∷ g strings rest) ms → (xs : List A) → AllOf (Spells text put rule names) xs
-    → Spelt (comma_list text xs ++ v) (λ strings rest. items_put put close (items_rule (rule strings) xs) (g strings rest)) (names_onto names xs ms)
+pub comma_spelt : {A R : Type 0} (text : A → List ℕ) (put : Put R) (rule : Strings → A → R) (names : A → List (List ℕ)) (closing : Symbol) (v : List ℕ) (g : Puts) (ms : List (List ℕ))
+    → Front v → Spelt v (λ strings rest. closing ∷ g strings rest) ms → (xs : List A) → AllOf (Spells text put rule names) xs
+    → Spelt (comma_list text xs ++ v) (λ strings rest. items_put put closing (items_rule (rule strings) xs) (g strings rest)) (names_onto names xs ms)
 unfolding comma_list
-comma_spelt text put rule names close v g ms front b [] h = b
-comma_spelt text put rule names close v g ms front b (x ∷ xs) h =
-    let others = more_spelt text put rule names close v g ms front b xs h.1 in
-    subst (λ l. Spelt l (λ strings rest. items_put put close (items_rule (rule strings) (x ∷ xs)) (g strings rest)) (names_onto names (x ∷ xs) ms)) (sym (append_assoc (text x) (more_items text xs) v))
-    (put_as (λ strings ground rest. sym (join-put put close (rule strings x) (items_rule (rule strings) xs) (g strings rest)))
+comma_spelt text put rule names closing v g ms front b [] h = b
+comma_spelt text put rule names closing v g ms front b (x ∷ xs) h =
+    let others = more_spelt text put rule names closing v g ms front b xs h.1 in
+    subst (λ l. Spelt l (λ strings rest. items_put put closing (items_rule (rule strings) (x ∷ xs)) (g strings rest)) (names_onto names (x ∷ xs) ms)) (sym (append_assoc (text x) (more_items text xs) v))
+    (put_as (λ strings ground rest. sym (join-put put closing (rule strings x) (items_rule (rule strings) xs) (g strings rest)))
       (and_then h.0 (more-front text v xs front) others))
 
 -- ---- back
