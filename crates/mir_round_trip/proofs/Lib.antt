@@ -11,3 +11,4 @@ pub mod Operands
 pub mod Lists
 pub mod Builds
 pub mod BuildsBack
+pub mod Rvalues

@@ -5,7 +5,7 @@ use Rattle.mir_text.specs.declared.symbol.Symbol.TheVariants as s
 use Rattle.mir_text.specs.Bytes.{suffix_at}
 use Rattle.mir_text.specs.Words.{word_place}
 use Rattle.mir_text.specs.Pieces.{open_paren, close_paren, open_brace, close_brace, open_bracket, close_bracket, comma, semicolon, colon, colons, dot, ampersand, star, exclamation, equals, hash, arrow, Piece, blank, line, word, mark, text_of, Stand}
-use Rattle.mir_text.specs.Symbols.{word_token, block_digits}
+use Rattle.mir_text.specs.Symbols.{word_token, block_digits, number_in, int_to_int_name, success_name, inline_name, always_name, never_name}
 use Rattle.mir_text.proofs.Cut.{if_stand, stands}
 use Rattle.mir_round_trip.specs.Known.{known_symbols}
 use Rattle.mir_round_trip.proofs.Spelling.{Puts, Grounded, KnownAs, Sign}
@@ -185,4 +185,43 @@ struct_word = sign (word 115 (codes "truct") ∷ blank 32 ∷ []) (λ rest. s.St
 pub extern_word : Sign (codes "extern fn ") (λ rest. s.Extern ∷ s.Fn ∷ rest)
 unfolding word_token block_digits word_place
 extern_word = sign (word 101 (codes "xtern") ∷ blank 32 ∷ word 102 (codes "n") ∷ blank 32 ∷ []) (λ rest. s.Extern ∷ s.Fn ∷ rest) (λ left. stands (word 101 (codes "xtern") ∷ blank 32 ∷ word 102 (codes "n") ∷ blank 32 ∷ []) left refl) (λ strings ground rest. refl)
+
+-- ---- with a name that the grammar looks for
+
+pub cast_end : Sign (codes " (IntToInt)") (λ rest. s.Open ∷ int_to_int_name ∷ s.Close ∷ rest)
+unfolding word_token block_digits word_place
+cast_end =
+    sign (blank 32 ∷ mark open_paren ∷ word 73 (codes "ntToInt") ∷ mark close_paren ∷ []) (λ rest. s.Open ∷ int_to_int_name ∷ s.Close ∷ rest)
+    (λ left. stands (blank 32 ∷ mark open_paren ∷ word 73 (codes "ntToInt") ∷ mark close_paren ∷ []) left refl)
+    (λ strings ground rest. ap (λ n. s.Open ∷ s.Name n ∷ s.Close ∷ known_symbols strings rest) ground.cast)
+
+pub success_arrow : Sign (codes ") -> [success: ") (λ rest. s.Close ∷ s.Arrow ∷ s.OpenBracket ∷ success_name ∷ s.Colon ∷ rest)
+unfolding word_token block_digits word_place
+success_arrow =
+    sign (mark close_paren ∷ blank 32 ∷ mark arrow ∷ blank 32 ∷ mark open_bracket ∷ word 115 (codes "uccess") ∷ mark colon ∷ blank 32 ∷ []) (λ rest. s.Close ∷ s.Arrow ∷ s.OpenBracket ∷ success_name ∷ s.Colon ∷ rest)
+    (λ left. stands (mark close_paren ∷ blank 32 ∷ mark arrow ∷ blank 32 ∷ mark open_bracket ∷ word 115 (codes "uccess") ∷ mark colon ∷ blank 32 ∷ []) left refl)
+    (λ strings ground rest. ap (λ n. s.Close ∷ s.Arrow ∷ s.OpenBracket ∷ s.Name n ∷ s.Colon ∷ known_symbols strings rest) ground.success)
+
+pub inline_hint : Sign (codes "#[inline]\n") (λ rest. s.Hash ∷ s.OpenBracket ∷ inline_name ∷ s.CloseBracket ∷ rest)
+unfolding word_token block_digits word_place
+inline_hint =
+    sign (mark hash ∷ mark open_bracket ∷ word 105 (codes "nline") ∷ mark close_bracket ∷ line ∷ []) (λ rest. s.Hash ∷ s.OpenBracket ∷ inline_name ∷ s.CloseBracket ∷ rest)
+    (λ left. stands (mark hash ∷ mark open_bracket ∷ word 105 (codes "nline") ∷ mark close_bracket ∷ line ∷ []) left refl)
+    (λ strings ground rest. ap (λ n. s.Hash ∷ s.OpenBracket ∷ s.Name n ∷ s.CloseBracket ∷ known_symbols strings rest) ground.inline)
+
+pub inline_always : Sign (codes "#[inline(always)]\n") (λ rest. s.Hash ∷ s.OpenBracket ∷ inline_name ∷ s.Open ∷ always_name ∷ s.Close ∷ s.CloseBracket ∷ rest)
+unfolding word_token block_digits word_place
+inline_always =
+    sign (mark hash ∷ mark open_bracket ∷ word 105 (codes "nline") ∷ mark open_paren ∷ word 97 (codes "lways") ∷ mark close_paren ∷ mark close_bracket ∷ line ∷ []) (λ rest. s.Hash ∷ s.OpenBracket ∷ inline_name ∷ s.Open ∷ always_name ∷ s.Close ∷ s.CloseBracket ∷ rest)
+    (λ left. stands (mark hash ∷ mark open_bracket ∷ word 105 (codes "nline") ∷ mark open_paren ∷ word 97 (codes "lways") ∷ mark close_paren ∷ mark close_bracket ∷ line ∷ []) left refl)
+    (λ strings ground rest. ap (λ n. s.Hash ∷ s.OpenBracket ∷ s.Name n ∷ s.Open ∷ s.Name (number_in strings (codes "always")) ∷ s.Close ∷ s.CloseBracket ∷ known_symbols strings rest) ground.inline
+      ∙ ap (λ n. s.Hash ∷ s.OpenBracket ∷ inline_name ∷ s.Open ∷ s.Name n ∷ s.Close ∷ s.CloseBracket ∷ known_symbols strings rest) ground.always)
+
+pub inline_never : Sign (codes "#[inline(never)]\n") (λ rest. s.Hash ∷ s.OpenBracket ∷ inline_name ∷ s.Open ∷ never_name ∷ s.Close ∷ s.CloseBracket ∷ rest)
+unfolding word_token block_digits word_place
+inline_never =
+    sign (mark hash ∷ mark open_bracket ∷ word 105 (codes "nline") ∷ mark open_paren ∷ word 110 (codes "ever") ∷ mark close_paren ∷ mark close_bracket ∷ line ∷ []) (λ rest. s.Hash ∷ s.OpenBracket ∷ inline_name ∷ s.Open ∷ never_name ∷ s.Close ∷ s.CloseBracket ∷ rest)
+    (λ left. stands (mark hash ∷ mark open_bracket ∷ word 105 (codes "nline") ∷ mark open_paren ∷ word 110 (codes "ever") ∷ mark close_paren ∷ mark close_bracket ∷ line ∷ []) left refl)
+    (λ strings ground rest. ap (λ n. s.Hash ∷ s.OpenBracket ∷ s.Name n ∷ s.Open ∷ s.Name (number_in strings (codes "never")) ∷ s.Close ∷ s.CloseBracket ∷ known_symbols strings rest) ground.inline
+      ∙ ap (λ n. s.Hash ∷ s.OpenBracket ∷ inline_name ∷ s.Open ∷ s.Name n ∷ s.Close ∷ s.CloseBracket ∷ known_symbols strings rest) ground.never)
 

@@ -1,3 +1,4 @@
+use Rattle.mir_round_trip.proofs.Rvalues.{rvalue_back}
 use Rattle.mir_round_trip.proofs.BuildsBack.{build-named}
 use Rattle.mir_round_trip.proofs.Builds.{build_spelt}
 use Rattle.mir_round_trip.proofs.Operands.{operand_back}
