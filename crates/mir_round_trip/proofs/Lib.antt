@@ -12,3 +12,5 @@ pub mod Lists
 pub mod Builds
 pub mod BuildsBack
 pub mod Rvalues
+pub mod Statements
+pub mod Terms

@@ -1,3 +1,5 @@
+use Rattle.mir_round_trip.proofs.Statements.{stmts_back}
+use Rattle.mir_round_trip.proofs.Terms.{term_spelt}
 use Rattle.mir_round_trip.proofs.Rvalues.{rvalue_back}
 use Rattle.mir_round_trip.proofs.BuildsBack.{build-named}
 use Rattle.mir_round_trip.proofs.Builds.{build_spelt}
