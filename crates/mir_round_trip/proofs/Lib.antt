@@ -14,3 +14,5 @@ pub mod BuildsBack
 pub mod Rvalues
 pub mod Statements
 pub mod Terms
+pub mod TermsBack
+pub mod Blocks
