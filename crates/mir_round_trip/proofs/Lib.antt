@@ -16,3 +16,4 @@ pub mod Statements
 pub mod Terms
 pub mod TermsBack
 pub mod Blocks
+pub mod Locals
