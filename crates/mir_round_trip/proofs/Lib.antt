@@ -17,3 +17,4 @@ pub mod Terms
 pub mod TermsBack
 pub mod Blocks
 pub mod Locals
+pub mod Functions
