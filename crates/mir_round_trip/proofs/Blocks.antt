@@ -83,11 +83,11 @@ blocks_spelt c locals n k (b ∷ bs) h small =
 
 -- ---- back
 
-all-left : {A : Type 0} (P : A → Type 0) (xs ys : List A) → AllOf P (xs ++ ys) → AllOf P xs
+pub all-left : {A : Type 0} (P : A → Type 0) (xs ys : List A) → AllOf P (xs ++ ys) → AllOf P xs
 all-left P [] ys h = tt
 all-left P (x ∷ xs) ys h = (h.0, all-left P xs ys h.1)
 
-all-right : {A : Type 0} (P : A → Type 0) (xs ys : List A) → AllOf P (xs ++ ys) → AllOf P ys
+pub all-right : {A : Type 0} (P : A → Type 0) (xs ys : List A) → AllOf P (xs ++ ys) → AllOf P ys
 all-right P [] ys h = h
 all-right P (x ∷ xs) ys h = all-right P xs ys h.1
 

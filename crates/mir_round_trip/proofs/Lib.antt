@@ -18,3 +18,4 @@ pub mod TermsBack
 pub mod Blocks
 pub mod Locals
 pub mod Functions
+pub mod FunctionsBack
