@@ -19,3 +19,4 @@ pub mod Blocks
 pub mod Locals
 pub mod Functions
 pub mod FunctionsBack
+pub mod Definitions

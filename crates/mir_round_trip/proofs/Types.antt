@@ -100,17 +100,17 @@ scalar-spelt scalar_ty.Bool = bool-spelt
 scalar-spelt (scalar_ty.Int n) = int-spelt n
 
 -- what follows a type of a tuple
-abbrev parts_put : TypesRule → List Symbol → List Symbol
-parts_put t.end rest = s.Close ∷ rest
-parts_put (t.last u) rest = s.Comma ∷ types_put (t.last u) rest
-parts_put (t.more u us) rest = s.Comma ∷ types_put (t.more u us) rest
+abbrev pub following_put : TypesRule → List Symbol → List Symbol
+following_put t.end rest = s.Close ∷ rest
+following_put (t.last u) rest = s.Comma ∷ types_put (t.last u) rest
+following_put (t.more u us) rest = s.Comma ∷ types_put (t.more u us) rest
 
-join-parts : (u : TypeRule) (us : TypesRule) (rest : List Symbol) → types_put (join_type u us) rest ≡ type_put u (parts_put us rest)
+pub join-parts : (u : TypeRule) (us : TypesRule) (rest : List Symbol) → types_put (join_type u us) rest ≡ type_put u (following_put us rest)
 join-parts u t.end rest = refl
 join-parts u (t.last v) rest = refl
 join-parts u (t.more v us) rest = refl
 
-join-comma : (u : TypeRule) (us : TypesRule) (rest : List Symbol) → parts_put (join_type u us) rest ≡ s.Comma ∷ types_put (join_type u us) rest
+pub join-comma : (u : TypeRule) (us : TypesRule) (rest : List Symbol) → following_put (join_type u us) rest ≡ s.Comma ∷ types_put (join_type u us) rest
 join-comma u t.end rest = refl
 join-comma u (t.last v) rest = refl
 join-comma u (t.more v us) rest = refl
@@ -143,7 +143,7 @@ mutual
       (after comma_space (and_then (type_spelt c u h.0) (λ left clear. parts-clear c us left) (parts-spelt c us h.1)))
   rest-spelt c u h = absurd h
 
-  parts-spelt : (c : Crate) (us : Tree) → AreProper c us → Spelt (parts_text c us) (λ strings. parts_put (types_rule c strings us)) []
+  parts-spelt : (c : Crate) (us : Tree) → AreProper c us → Spelt (parts_text c us) (λ strings. following_put (types_rule c strings us)) []
   parts-spelt c empty h = alone close_sign
   parts-spelt c (more u us) h =
       put_as (λ strings ground rest. ap (λ l. s.Comma ∷ l) (sym (join-parts (type_rule c strings u) (types_rule c strings us) rest)) ∙ sym (join-comma (type_rule c strings u) (types_rule c strings us) rest))
