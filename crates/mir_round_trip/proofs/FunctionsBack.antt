@@ -251,7 +251,7 @@ function_faultless c strings kept f h lines =
 
 -- ---- good
 
-max-most : (a b n : ℕ) → a ≤ n → b ≤ n → max a b ≤ n
+pub max-most : (a b n : ℕ) → a ≤ n → b ≤ n → max a b ≤ n
 max-most a b n h k = grind arith
 
 lets-good : (c : Crate) (strings : Strings) (ds : List (ℕ × Tree)) → AllOf (IsDecl c) ds → DeclsGood (lets_rule c strings ds)

@@ -20,3 +20,4 @@ pub mod Locals
 pub mod Functions
 pub mod FunctionsBack
 pub mod Definitions
+pub mod DefinitionsBack
