@@ -15,9 +15,9 @@ use Rattle.mir_text.specs.Names.{Strings}
 use Rattle.mir_text.specs.NameFaults.{field_names, none_twice}
 use Rattle.mir_text.specs.TypeText.{piece, more_items, comma_list, type_text}
 use Rattle.mir_text.specs.Text.{field_ty_text, field_text, braced_text, fields_text, variant_text, variants_text, struct_text, shape_text, def_word, def_text, outside_text}
-use Rattle.mir_round_trip.proofs.Spelling.{Clear, Puts, Sign, Spelt, after, and_then, alone, none, bare, put_as, all-map}
+use Rattle.mir_round_trip.proofs.Spelling.{Clear, Puts, Sign, Spelt, after, and_then, alone, none, bare, put_as, all-map, Whole, whole_alone, whole_after, whole_then, whole_trim}
 use Rattle.mir_round_trip.proofs.Atoms.{IsName, name_spelt}
-use Rattle.mir_round_trip.proofs.Literals.{open_sign, close_sign, comma_space, colon_space, brace, close_brace_space, braces, result_arrow, end_of_line, empty_line, semicolon_sign, enum_word, struct_word, extern_word}
+use Rattle.mir_round_trip.proofs.Literals.{open_sign, close_sign, comma_space, colon_space, brace, close_brace_space, braces, arrow_spaces, end_of_line, empty_line, semicolon_sign, enum_word, struct_word, extern_word}
 use Rattle.mir_round_trip.proofs.Paths.{IsPath, path_rule, path_names, path_spelt}
 use Rattle.mir_round_trip.proofs.Types.{type_rule, types_rule, Proper, type_spelt, following_put, join-parts, join-comma}
 use Rattle.mir_round_trip.proofs.Lists.{Front, items_rule, join-put, more-front, names_onto, Spells, more_spelt}
@@ -207,23 +207,29 @@ fields-clear c form.Named [] u left = refl
 fields-clear c form.Named (f ∷ fs) u left = refl
 
 def-spelt : (c : Crate) (path : List ℕ) (b : Bool) (vs : List TypedVariant) → IsPath path → IsShape c b vs
-    → Spelt (def_word b ++ (path ++ (shape_text c b vs ++ codes "\n"))) (λ strings. item_put (shape_rule c strings path b vs)) (path_names path ++ shape_names b vs)
+    → Whole (def_word b ++ (path ++ (shape_text c b vs ++ codes "\n"))) (λ strings. item_put (shape_rule c strings path b vs)) (path_names path ++ shape_names b vs)
 unfolding def_word shape_text struct_text piece
-def-spelt c path true vs is h = after enum_word (and_then (path_spelt path is) (λ left clear. variants-clear c vs (codes "\n") left) (trim (and_then (variants-spelt c vs h.0) (λ left clear. refl) (alone empty_line))))
+def-spelt c path true vs is h = whole_after enum_word (whole_then (path_spelt path is) (λ left. variants-clear c vs (codes "\n") left) (whole_trim (whole_then (variants-spelt c vs h.0) (λ left. refl) (whole_alone empty_line))))
 def-spelt c path false [] is h = absurd h
 def-spelt c path false (v ∷ []) is h =
-    after struct_word (and_then (path_spelt path is) (λ left clear. fields-clear c v.form v.fields (codes "\n") left) (trim (and_then (struct-spelt c v.form v.fields h.1) (λ left clear. refl) (alone empty_line))))
+    whole_after struct_word (whole_then (path_spelt path is) (λ left. fields-clear c v.form v.fields (codes "\n") left) (whole_trim (whole_then (struct-spelt c v.form v.fields h.1) (λ left. refl) (whole_alone empty_line))))
 def-spelt c path false (v ∷ w ∷ vs) is h = absurd h
 
-pub def_spelt : (c : Crate) (d : TypedDef) → IsDefinition c d → Spelt (def_text c d) (λ strings. item_put (def_item c strings d)) (def_names d)
+pub def_spelt : (c : Crate) (d : TypedDef) → IsDefinition c d → Whole (def_text c d) (λ strings. item_put (def_item c strings d)) (def_names d)
 unfolding def_text def_item piece
 def_spelt c d h = def-spelt c d.path d.is_enum d.variants h.path h.shape
 
-pub outside_spelt : (c : Crate) (o : TypedOutside) → IsOutside c o → Spelt (outside_text c o) (λ strings. item_put (outside_item c strings o)) (path_names o.path)
+-- types up to the parenthesis that closes them
+arg-types : (c : Crate) (ts : List Tree) → AllOf (IsTy c) ts → Spelt (comma_list (type_text c) ts ++ codes ")") (λ strings. types_put (types_rule c strings (tuple_of ts))) []
+arg-types c ts h =
+    subst (λ l. Spelt (comma_list (type_text c) ts ++ codes ")") (λ strings. types_put (types_rule c strings (tuple_of l))) []) (map-same ts)
+    (types-spelt c (λ t. t) (codes ")") (λ strings rest. rest) (λ left clear. refl) (alone close_sign) ts h)
+
+pub outside_spelt : (c : Crate) (o : TypedOutside) → IsOutside c o → Whole (outside_text c o) (λ strings. item_put (outside_item c strings o)) (path_names o.path)
 unfolding outside_text outside_item piece
 outside_spelt c o h =
-    let v = codes ") -> " ++ (type_text c o.result ++ codes ";\n") in
-    let behind = after result_arrow (and_then (type_spelt c o.result h.result.proper) (λ left clear. refl) (alone end_of_line)) in
-    let args = types-spelt c (λ t. t) v (λ strings rest. s.Arrow ∷ type_put (type_rule c strings o.result) (s.Semicolon ∷ rest)) (λ left clear. refl) behind o.args h.args in
-    let list = subst (λ l. Spelt (comma_list (type_text c) o.args ++ v) (λ strings rest. types_put (types_rule c strings (tuple_of l)) (s.Arrow ∷ type_put (type_rule c strings o.result) (s.Semicolon ∷ rest))) []) (map-same o.args) args in
-    after extern_word (trim (and_then (path_spelt o.path h.path) (λ left clear. refl) (after open_sign list)))
+    let behind = whole_after arrow_spaces (whole_then (type_spelt c o.result h.result.proper) (λ left. refl) (whole_alone end_of_line)) in
+    let args = whole_then (arg-types c o.args h.args) (λ left. refl) behind in
+    let list = subst (λ l. Whole l (λ strings rest. types_put (types_rule c strings (tuple_of o.args)) (s.Arrow ∷ type_put (type_rule c strings o.result) (s.Semicolon ∷ rest))) [])
+        (append_assoc (comma_list (type_text c) o.args) (codes ")") (codes " -> " ++ (type_text c o.result ++ codes ";\n"))) args in
+    whole_after extern_word (whole_trim (whole_then (path_spelt o.path h.path) (λ left. refl) (whole_after open_sign list)))

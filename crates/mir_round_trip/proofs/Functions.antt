@@ -17,7 +17,7 @@ use Rattle.mir_text.specs.TypeText.{piece, more_items, comma_list, type_text}
 use Rattle.mir_text.specs.PlaceText.{local_text, local_ty}
 use Rattle.mir_text.specs.TermText.{blocks_text}
 use Rattle.mir_text.specs.Text.{local_decl, more_args, args_text, let_line, lets_text, args_of, others_of, body_text, inline_text, drop_text, header_text, function_text, gap_text, functions_text}
-use Rattle.mir_round_trip.proofs.Spelling.{Clear, Puts, Spelt, after, and_then, alone, none, bare, all-map}
+use Rattle.mir_round_trip.proofs.Spelling.{Clear, Puts, Spelt, after, and_then, alone, none, bare, all-map, Whole, whole_alone, whole_after, whole_then, whole_trim}
 use Rattle.mir_round_trip.proofs.Atoms.{local_spelt}
 use Rattle.mir_round_trip.proofs.Literals.{open_sign, colon_space, end_of_line, empty_line, let_mut, drop_word, fn_word, result_arrow, body_open, body_close, inline_hint, inline_always, inline_never}
 use Rattle.mir_round_trip.proofs.Paths.{IsPath, path_rule, path_names, path_spelt}
@@ -185,16 +185,16 @@ body-spelt c f h =
     and_then first (both-front (lets_text c (suc f.body.args) (others_of f.body)) (blocks_text c f.body.locals 0 f.body.blocks) (lets-front c (suc f.body.args) (others_of f.body)) (blocks-front c f))
     (and_then others (blocks-front c f) (blocks_spelt c f.body.locals (length f.body.blocks) 0 f.body.blocks h.blocks few))
 
-attr-spelt : (i : Inline) {u : List ℕ} {f : Puts} {ms : List (List ℕ)} → Spelt u f ms → Spelt (inline_text i ++ u) (λ strings rest. attr_put (attr_rule i) (f strings rest)) ms
+attr-spelt : (i : Inline) {u : List ℕ} {f : Puts} {ms : List (List ℕ)} → Whole u f ms → Whole (inline_text i ++ u) (λ strings rest. attr_put (attr_rule i) (f strings rest)) ms
 unfolding inline_text piece
 attr-spelt inlining.Plain a = a
-attr-spelt inlining.Hint a = after inline_hint a
-attr-spelt inlining.Always a = after inline_always a
-attr-spelt inlining.Never a = after inline_never a
+attr-spelt inlining.Hint a = whole_after inline_hint a
+attr-spelt inlining.Always a = whole_after inline_always a
+attr-spelt inlining.Never a = whole_after inline_never a
 
-drop-spelt : (d : Bool) {u : List ℕ} {f : Puts} {ms : List (List ℕ)} → Spelt u f ms → Spelt (drop_text d ++ u) (λ strings rest. drop_put d (f strings rest)) ms
+drop-spelt : (d : Bool) {u : List ℕ} {f : Puts} {ms : List (List ℕ)} → Whole u f ms → Whole (drop_text d ++ u) (λ strings rest. drop_put d (f strings rest)) ms
 unfolding drop_text piece
-drop-spelt true a = after drop_word a
+drop-spelt true a = whole_after drop_word a
 drop-spelt false a = a
 
 -- a body begins with a space
@@ -202,8 +202,8 @@ body-clear : (c : Crate) (f : TypedFunction) (left : List ℕ) → Clear ((body_
 unfolding body_text let_line piece
 body-clear c f left = refl
 
-pub function_spelt : (c : Crate) (f : TypedFunction) → IsFn c f → Spelt (function_text c f) (λ strings. fn_put (fn_rule c strings f)) (fn_names f)
+pub function_spelt : (c : Crate) (f : TypedFunction) → IsFn c f → Whole (function_text c f) (λ strings. fn_put (fn_rule c strings f)) (fn_names f)
 unfolding function_text fn_rule piece
 function_spelt c f h =
-    let whole = and_then (header-spelt c f h) (λ left clear. body-clear c f left) (trim (and_then (body-spelt c f h) (λ left clear. refl) (alone body_close))) in
+    let whole = whole_then (header-spelt c f h) (λ left. body-clear c f left) (whole_trim (whole_then (body-spelt c f h) (λ left. refl) (whole_alone body_close))) in
     attr-spelt f.inlining (drop-spelt f.is_drop whole)

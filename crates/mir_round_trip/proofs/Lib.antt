@@ -21,3 +21,4 @@ pub mod Functions
 pub mod FunctionsBack
 pub mod Definitions
 pub mod DefinitionsBack
+pub mod Crates

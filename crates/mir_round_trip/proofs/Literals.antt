@@ -162,6 +162,9 @@ pub fn_word : Sign (codes "fn ") (λ rest. s.Fn ∷ rest)
 unfolding word_token block_digits word_place
 fn_word = sign (word 102 (codes "n") ∷ blank 32 ∷ []) (λ rest. s.Fn ∷ rest) (λ left. stands (word 102 (codes "n") ∷ blank 32 ∷ []) left refl) (λ strings ground rest. refl)
 
+pub arrow_spaces : Sign (codes " -> ") (λ rest. s.Arrow ∷ rest)
+arrow_spaces = sign (blank 32 ∷ mark arrow ∷ blank 32 ∷ []) (λ rest. s.Arrow ∷ rest) (λ left. stands (blank 32 ∷ mark arrow ∷ blank 32 ∷ []) left refl) (λ strings ground rest. refl)
+
 pub result_arrow : Sign (codes ") -> ") (λ rest. s.Close ∷ s.Arrow ∷ rest)
 result_arrow = sign (mark close_paren ∷ blank 32 ∷ mark arrow ∷ blank 32 ∷ []) (λ rest. s.Close ∷ s.Arrow ∷ rest) (λ left. stands (mark close_paren ∷ blank 32 ∷ mark arrow ∷ blank 32 ∷ []) left refl) (λ strings ground rest. refl)
 

@@ -1,6 +1,7 @@
 -- Texts that pieces spell: the pieces stand together before a byte that is no name's, their symbols are known, and byte strings stand among
 -- them.
 use Rattle.std.proofs.Common.{◌≡◌, ℕ, Bool, true, false, List, [], ◌∷◌, ◌++◌, codes, refl, sym, ap, subst, ◌∙◌, arith, append_assoc, inl, inr}
+use Rattle.std.proofs.lemmas.List.{append-nil}
 use Rattle.mir_text.specs.declared.symbol.Symbol.{Symbol}
 use Rattle.mir_text.specs.declared.symbol.Symbol.TheVariants as s
 use Rattle.mir_text.specs.Bytes.{begins, is_name_byte}
@@ -120,3 +121,50 @@ put_as same a = record {
   known = λ strings ground rest. a.known strings ground rest ∙ same strings ground (known_symbols strings rest);
   holds = a.holds;
 }
+
+-- ---- lines
+
+-- a text that ends with a line feed, as an item does: anything may follow
+pub record Whole (text : List ℕ) (f : Puts) (names : List (List ℕ)) : Type 0 where
+  pub pieces : List Piece
+  pub whole : text_of pieces ≡ text
+  pub stands : (left : List ℕ) → Stand pieces left
+  pub known : KnownAs pieces f
+  pub holds : AllOf (Holds pieces) names
+
+pub whole_alone : {t : List ℕ} {f : List Symbol → List Symbol} → Sign t f → Whole t (λ strings. f) []
+whole_alone a = record { pieces = a.pieces; whole = a.whole; stands = a.stands; known = a.known; holds = tt }
+
+pub whole_none : Whole [] (λ strings rest. rest) []
+whole_none = record { pieces = []; whole = refl; stands = λ left. tt; known = λ strings ground rest. refl; holds = tt }
+
+pub whole_after : {t u : List ℕ} {f : List Symbol → List Symbol} {g : Puts} {ms : List (List ℕ)} → Sign t f → Whole u g ms → Whole (t ++ u) (λ strings rest. f (g strings rest)) ms
+whole_after {t = t} {u = u} {f = f} {g = g} {ms = ms} a b = record {
+  pieces = a.pieces ++ b.pieces;
+  whole = both-whole a.pieces b.pieces t u a.whole b.whole;
+  stands = λ left. stand-append a.pieces b.pieces left (a.stands (text_of b.pieces ++ left)) (b.stands left);
+  known = both-known a.pieces b.pieces (λ strings. f) g a.known b.known;
+  holds = all-map (holds-right a.pieces b.pieces) ms b.holds;
+}
+
+pub whole_then : {t u : List ℕ} {f g : Puts} {ns ms : List (List ℕ)} → Spelt t f ns → ((left : List ℕ) → Clear (u ++ left)) → Whole u g ms
+    → Whole (t ++ u) (λ strings rest. f strings (g strings rest)) (ns ++ ms)
+whole_then {t = t} {u = u} {f = f} {g = g} {ns = ns} {ms = ms} a front b = record {
+  pieces = a.pieces ++ b.pieces;
+  whole = both-whole a.pieces b.pieces t u a.whole b.whole;
+  stands = λ left. stand-append a.pieces b.pieces left (a.stands (text_of b.pieces ++ left) (subst (λ l. Clear (l ++ left)) (sym b.whole) (front left))) (b.stands left);
+  known = both-known a.pieces b.pieces f g a.known b.known;
+  holds = hold-both a.pieces b.pieces ns ms a.holds b.holds;
+}
+
+pub whole_both : {t u : List ℕ} {f g : Puts} {ns ms : List (List ℕ)} → Whole t f ns → Whole u g ms → Whole (t ++ u) (λ strings rest. f strings (g strings rest)) (ns ++ ms)
+whole_both {t = t} {u = u} {f = f} {g = g} {ns = ns} {ms = ms} a b = record {
+  pieces = a.pieces ++ b.pieces;
+  whole = both-whole a.pieces b.pieces t u a.whole b.whole;
+  stands = λ left. stand-append a.pieces b.pieces left (a.stands (text_of b.pieces ++ left)) (b.stands left);
+  known = both-known a.pieces b.pieces f g a.known b.known;
+  holds = hold-both a.pieces b.pieces ns ms a.holds b.holds;
+}
+
+pub whole_trim : {t : List ℕ} {f : Puts} {ns : List (List ℕ)} → Whole t f (ns ++ []) → Whole t f ns
+whole_trim {t = t} {f = f} {ns = ns} a = subst (Whole t f) (append-nil ns) a
