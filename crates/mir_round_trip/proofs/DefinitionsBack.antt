@@ -190,7 +190,7 @@ fields-faultless c strings kept form.Named fs h k =
     no-codes _ _ (met _ 10 (ap (none_twice []) (names-read c strings fs k) ∙ h.1))
     (each-item-none (λ f. type_codes (names_at c strings) f.1) (field_rule c strings) fs (field-types c strings kept fs h.0))
 
-variant-names : (c : Crate) (strings : Strings) (vs : List TypedVariant) → AllOf (Back strings) (names_onto variant_bytes vs []) → map (λ v. string_at strings (number_in strings v.name)) vs ≡ map (λ v. v.name) vs
+pub variant-names : (c : Crate) (strings : Strings) (vs : List TypedVariant) → AllOf (Back strings) (names_onto variant_bytes vs []) → map (λ v. string_at strings (number_in strings v.name)) vs ≡ map (λ v. v.name) vs
 variant-names c strings [] k = refl
 variant-names c strings (v ∷ vs) k =
     two-same (λ a b. a ∷ b) k.0 (variant-names c strings vs (all-right (Back strings) (variant_bytes v) (names_onto variant_bytes vs []) k))

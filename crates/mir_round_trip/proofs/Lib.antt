@@ -22,3 +22,4 @@ pub mod FunctionsBack
 pub mod Definitions
 pub mod DefinitionsBack
 pub mod Crates
+pub mod CratesBack
