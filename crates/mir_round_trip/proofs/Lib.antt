@@ -23,3 +23,4 @@ pub mod Definitions
 pub mod DefinitionsBack
 pub mod Crates
 pub mod CratesBack
+pub mod ReadBack

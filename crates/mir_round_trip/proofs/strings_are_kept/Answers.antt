@@ -1,3 +1,4 @@
+use Rattle.mir_round_trip.proofs.ReadBack.{read_back}
 use Rattle.mir_round_trip.proofs.CratesBack.{crate-back}
 use Rattle.mir_round_trip.proofs.Crates.{crate_kept}
 use Rattle.mir_round_trip.proofs.DefinitionsBack.{def_back}
