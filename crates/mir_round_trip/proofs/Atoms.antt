@@ -1,5 +1,6 @@
 -- Words, names, numbers, blocks and strings are spelt by one piece each.
-use Rattle.std.proofs.Common.{◌≡◌, ◌<◌, ◌^◌, ◌-◌, ℕ, suc, Bool, true, false, ◌==◌, List, [], ◌∷◌, ◌++◌, length, codes, refl, sym, ap, subst, ◌∙◌, arith, rules, append_assoc, inl, inr, is_some, decimal, nat_eq, nat_lt, if◌then◌else◌, Option, Some, None}
+use Rattle.mir_round_trip.specs.Names.{IsName, Clear}
+use Rattle.std.proofs.Common.{◌≡◌, ◌<◌, ◌^◌, ℕ, Bool, true, false, ◌==◌, List, [], ◌∷◌, ◌++◌, length, codes, refl, sym, ap, subst, ◌∙◌, arith, rules, append_assoc, inl, inr, is_some, decimal, nat_eq, nat_lt, None}
 use Rattle.std.proofs.lemmas.List.{append-nil}
 use Rattle.std.proofs.lemmas.Fmt.{decimal_is_IsNumeral_wide}
 use Rattle.std.proofs.lemmas.Str.Parse.{IsNumeralModel, numerals_by_value}
@@ -12,8 +13,7 @@ use Rattle.mir_syntax.specs.declared.types.IntTy.TheVariants as i
 use Rattle.mir_text.specs.declared.symbol.Symbol.{Symbol}
 use Rattle.mir_text.specs.declared.symbol.Symbol.TheVariants as s
 use Rattle.mir_text.specs.Bytes.{AreAll, begins, is_name_byte, suffix_text, suffix_at}
-use Rattle.mir_text.specs.Words.{word_place}
-use Rattle.mir_text.specs.Pieces.{minus, comma, Piece, blank, local, number, typed, text, word, mark, spelled, IsPiece, IsContent, Ends, text_of, Stand}
+use Rattle.mir_text.specs.Pieces.{minus, comma, Piece, blank, local, number, typed, text, word, mark, spelled, IsContent, Ends, text_of}
 use Rattle.mir_text.specs.Symbols.{number_in, Token, symbol, name, numbered, are_digits, word_token, block_digits, token_of}
 use Rattle.mir_text.specs.GrammarPlaces.{minus_put}
 use Rattle.mir_text.specs.TypeText.{piece, int_name, minus_text}
@@ -21,8 +21,8 @@ use Rattle.mir_text.specs.PlaceText.{local_text}
 use Rattle.mir_text.specs.TermText.{block_name}
 use Rattle.mir_text.proofs.Cut.{if_all, from_some}
 use Rattle.mir_text.proofs.PiecesStand.{apart-ends}
-use Rattle.mir_round_trip.specs.Known.{Carries, Holds, put_known, known_symbols}
-use Rattle.mir_round_trip.proofs.Spelling.{Clear, Grounded, KnownAs, Puts, Spelt}
+use Rattle.mir_round_trip.specs.Known.{Carries, put_known, known_symbols}
+use Rattle.mir_round_trip.proofs.Spelling.{KnownAs, Puts, Spelt}
 
 -- a byte of no name is no digit's, and begins no suffix
 pub clear-digit : (left : List ℕ) → Clear left → begins is_ascii_digit left ≡ false
@@ -54,14 +54,6 @@ word_spelt b bs x first others token = record {
 }
 
 -- ---- names
-
--- letters, digits and `_` that are no word of the language
-pub record IsName (bytes : List ℕ) : Type 0 where
-  pub piece : Piece
-  pub spells : spelled piece ≡ bytes
-  pub is : IsPiece piece
-  pub ends : (left : List ℕ) → Clear left → Ends piece left
-  pub token : token_of piece ≡ name bytes
 
 pub name_spelt : (bytes : List ℕ) → IsName bytes → Spelt bytes (λ strings rest. s.Name (number_in strings bytes) ∷ rest) (bytes ∷ [])
 name_spelt bytes is = record {

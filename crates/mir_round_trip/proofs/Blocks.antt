@@ -1,31 +1,29 @@
 -- Blocks: the rule that writes one, its text, and back.
-use Rattle.std.proofs.Common.{◌≡◌, ◌<◌, ◌≤◌, ◌+◌, ◌^◌, ℕ, zero, suc, Bool, true, false, ◌&&◌, ◌||◌, nat_eq, List, [], ◌∷◌, ◌++◌, map, length, codes, refl, sym, ap, subst, ◌∙◌, arith, append_assoc}
+use Rattle.mir_round_trip.specs.Bodies.{IsBlock, names_at, IsStmt}
+use Rattle.std.proofs.Common.{◌≡◌, ◌<◌, ◌≤◌, ◌+◌, ◌^◌, ℕ, zero, suc, Bool, true, false, ◌||◌, nat_eq, List, [], ◌∷◌, ◌++◌, map, length, codes, refl, ap, subst, arith}
 use Rattle.std.proofs.lemmas.Bool.Decides.{nat_tests}
 use Rattle.mir_syntax.specs.declared.body.Term.{Term}
 use Rattle.mir_syntax.specs.Tree.{Tree}
 use Rattle.mir_syntax.specs.Crate.{Crate, TypedStmt, TypedBlock}
-use Rattle.mir_text.specs.declared.symbol.Symbol.{Symbol}
 use Rattle.mir_text.specs.declared.symbol.Symbol.TheVariants as s
 use Rattle.mir_text.specs.Grammar.{AllOf, each_put}
-use Rattle.mir_text.specs.GrammarStatements.{StmtRule}
-use Rattle.mir_text.specs.GrammarTerms.{TermRule, term_put, ended_put, BlockRule, block_put}
+use Rattle.mir_text.specs.GrammarTerms.{term_put, ended_put, BlockRule, block_put}
 use Rattle.mir_text.specs.Names.{Strings}
 use Rattle.mir_text.specs.NamedBodies.{Declared, block_named}
-use Rattle.mir_text.specs.PartLines.{LinesFrom, first_line, past, each_lined, LinedBlock, block_lined, blocks_lined}
-use Rattle.mir_text.specs.NameFaults.{Fault, on_line, concat, each, is_among, stmt_codes, term_codes, stmt_faults, block_faults, in_order, blocks_in_order}
+use Rattle.mir_text.specs.PartLines.{LinesFrom, first_line, past, each_lined, block_lined, blocks_lined}
+use Rattle.mir_text.specs.NameFaults.{on_line, each, is_among, stmt_faults, block_faults, in_order, blocks_in_order}
 use Rattle.mir_text.specs.Nesting.{StmtGood, BlockGood}
 use Rattle.mir_text.specs.TypeText.{piece}
 use Rattle.mir_text.specs.TermText.{term_line, block_text, blocks_text}
-use Rattle.mir_round_trip.proofs.Spelling.{Clear, Spelt, after, and_then, alone, none, all-map}
+use Rattle.mir_round_trip.proofs.Spelling.{Spelt, after, and_then, alone, none, all-map}
 use Rattle.mir_round_trip.proofs.Atoms.{block_spelt}
 use Rattle.mir_round_trip.proofs.Literals.{eight_spaces, end_of_line, four_spaces, block_open, block_close, empty_line}
 use Rattle.mir_round_trip.proofs.Paths.{Back}
-use Rattle.mir_round_trip.proofs.Meaning.{names_at}
 use Rattle.mir_round_trip.proofs.PlacesBack.{Setting}
 use Rattle.mir_round_trip.proofs.Lists.{Front, all-of-map}
 use Rattle.mir_round_trip.proofs.Rvalues.{two-same}
-use Rattle.mir_round_trip.proofs.Statements.{stmt_rule, IsStmt, stmts_spelt, stmts_back, stmt_faultless, stmt_good}
-use Rattle.mir_round_trip.proofs.Terms.{term_rule, term_names, IsTerm, term_spelt}
+use Rattle.mir_round_trip.proofs.Statements.{stmt_rule, stmts_spelt, stmts_back, stmt_faultless, stmt_good}
+use Rattle.mir_round_trip.proofs.Terms.{term_rule, term_names, term_spelt}
 use Rattle.mir_round_trip.proofs.TermsBack.{term_back, HasLabels, term_faultless, term_good}
 
 -- ---- the rule
@@ -44,11 +42,6 @@ block_names b = term_names b.term
 abbrev pub blocks_names : List TypedBlock → List (List ℕ)
 blocks_names [] = []
 blocks_names (b ∷ bs) = block_names b ++ blocks_names bs
-
--- a block of so many
-pub record IsBlock (c : Crate) (locals : List Tree) (n : ℕ) (b : TypedBlock) : Type 0 where
-  pub stmts : AllOf (IsStmt c locals) b.stmts
-  pub term : IsTerm c locals n b.term
 
 -- ---- its text
 

@@ -1,37 +1,30 @@
 -- Builds of structs and variants: the rule that writes one, its text, and back.
-use Rattle.std.proofs.Common.{◌≡◌, ◌<◌, ◌≤◌, ℕ, zero, suc, Bool, true, false, ◌&&◌, List, [], ◌∷◌, ◌++◌, map, length, get_or, codes, refl, sym, ap, subst, ◌∙◌, arith, append_assoc, Option, Some, None, slice_get, bytes_eq}
-use Rattle.std.proofs.lemmas.Slice.Eq.{bytes_eq-Decides}
+use Rattle.mir_round_trip.specs.Names.{IsName, IsPath}
+use Rattle.mir_round_trip.specs.Bodies.{AreFields, IsOne, IsBuild, IsOperand}
+use Rattle.std.proofs.Common.{◌≡◌, ℕ, Bool, true, false, List, [], ◌∷◌, ◌++◌, codes, refl, sym, ap, subst, ◌∙◌, append_assoc}
 use Rattle.mir_syntax.specs.declared.types.Form.{Form}
 use Rattle.mir_syntax.specs.declared.types.Form.TheVariants as form
 use Rattle.mir_syntax.specs.declared.body.Operand.{Operand}
 use Rattle.mir_syntax.specs.Tree.{Tree}
-use Rattle.mir_syntax.specs.Crate.{TypedField, TypedVariant, TypedDef, Crate}
-use Rattle.mir_syntax.specs.Shapes.{◌>>=◌}
-use Rattle.mir_text.specs.declared.symbol.Symbol.{Symbol}
+use Rattle.mir_syntax.specs.Crate.{TypedField, Crate}
 use Rattle.mir_text.specs.declared.symbol.Symbol.TheVariants as s
-use Rattle.mir_text.specs.Words.{place_in}
 use Rattle.mir_text.specs.Symbols.{number_in}
-use Rattle.mir_text.specs.Grammar.{Put, AllItems, AllOf, items_put, items_of}
+use Rattle.mir_text.specs.Grammar.{AllOf, items_put}
 use Rattle.mir_text.specs.GrammarTypes.{PathRule, path_put}
-use Rattle.mir_text.specs.GrammarPlaces.{OperandRule, operand_put}
+use Rattle.mir_text.specs.GrammarPlaces.{operand_put}
 use Rattle.mir_text.specs.GrammarStatements as r
 use Rattle.mir_text.specs.GrammarStatements.{NamedRule, named_put, BuildRule, parts_put}
-use Rattle.mir_text.specs.Names.{Strings, Names, string_at, path_bytes, last_name, without_last}
-use Rattle.mir_text.specs.NamedBodies.{Declared, variant_in, operand_named, struct_at, enum_variant_at, or_else, built_by, parts_named}
-use Rattle.mir_text.specs.NameFaults.{unless, operand_codes, named_operand_codes, parts_codes, same_texts, field_names, has_form, variant_fits, variant_number, def_number, built_variant, build_codes}
-use Rattle.mir_text.specs.Nesting.{OperandGood, NamedGood, PartsGood}
-use Rattle.mir_text.specs.TypeText.{piece, more_items, comma_list, no_def, def_at}
-use Rattle.mir_text.specs.PlaceText.{no_variant, variant_at, operand_text}
+use Rattle.mir_text.specs.Names.{Strings}
+use Rattle.mir_text.specs.NameFaults.{field_names}
+use Rattle.mir_text.specs.TypeText.{piece, more_items, comma_list, def_at}
+use Rattle.mir_text.specs.PlaceText.{variant_at, operand_text}
 use Rattle.mir_text.specs.StatementText.{variant_path, more_named, named_text, build_parts, build_text}
-use Rattle.mir_round_trip.proofs.Spelling.{Clear, Puts, Spelt, after, and_then, alone, none, bare, put_as, all-map}
-use Rattle.mir_round_trip.proofs.Atoms.{IsName, name_spelt}
+use Rattle.mir_round_trip.proofs.Spelling.{Puts, Spelt, after, and_then, alone, none, bare, put_as, all-map}
+use Rattle.mir_round_trip.proofs.Atoms.{name_spelt}
 use Rattle.mir_round_trip.proofs.Literals.{open_sign, close_sign, colons_sign, colon_space, brace, close_brace_space, braces}
-use Rattle.mir_round_trip.proofs.Paths.{IsPath, path_rule, path_names, path_spelt, Back, path_back, with_last, last-name, without-last, last-bytes, put-last}
-use Rattle.mir_round_trip.proofs.Types.{crate_paths, IsDef}
-use Rattle.mir_round_trip.proofs.Meaning.{names_at, Kept, no-codes, met}
-use Rattle.mir_round_trip.proofs.PlacesBack.{Setting}
-use Rattle.mir_round_trip.proofs.Operands.{operand_rule, IsOperand, operand_spelt, operand_back, operand_faultless, operand_good}
-use Rattle.mir_round_trip.proofs.Lists.{Front, join_item, items_rule, tail_put, join-put, join-tail, more-front, names_onto, Spells, more_spelt, comma_spelt, items-map, all-back, items-all, each-item-none}
+use Rattle.mir_round_trip.proofs.Paths.{path_rule, path_spelt, with_last, put-last}
+use Rattle.mir_round_trip.proofs.Operands.{operand_rule, operand_spelt}
+use Rattle.mir_round_trip.proofs.Lists.{Front, items_rule, join-put, more-front, Spells, more_spelt, comma_spelt}
 
 -- ---- operands by name
 
@@ -62,29 +55,7 @@ built_path strings false path name = path_rule strings path
 
 -- ---- builds that a text writes
 
--- the names of fields in braces are names; without a form there are none
-abbrev pub AreFields : Form → List TypedField → Type 0
-AreFields form.Unit fields = fields ≡ []
-AreFields form.Tuple fields = Unit {0}
-AreFields form.Named fields = AllOf IsName (field_names fields)
-
--- a variant of an enum has a name that names it, and no struct has their path; a struct has one variant
-abbrev pub IsOne : Crate → ℕ → ℕ → Bool → Type 0
-IsOne c d k true =
-    IsName (variant_at c d k).name × (variant_in (variant_at c d k).name (def_at c d) ≡ Some k)
-    × ((strings : Strings) → (place_in (crate_paths c) ((def_at c d).path ++ (codes "::" ++ (variant_at c d k).name)) >>= struct_at (names_at c strings)) ≡ None)
-IsOne c d k false = k ≡ 0
-
-pub record IsBuild (c : Crate) (locals : List Tree) (d k : ℕ) (xs : List Operand) : Type 0 where
-  pub def : IsDef c d
-  pub one : k < length (def_at c d).variants
-  pub named : IsOne c d k (def_at c d).is_enum
-  pub fields : AreFields (variant_at c d k).form (variant_at c d k).fields
-  pub count : length xs ≡ length (variant_at c d k).fields
-  pub operands : AllOf (IsOperand c locals) xs
-
 -- ---- its text
-
 
 labelled-more : (c : Crate) (locals : List Tree) (fs : List TypedField) (xs : List Operand) (v : List ℕ) → more_items (labelled_text c locals) (side_by_side fs xs) ++ v ≡ more_named c locals fs xs ++ v
 unfolding more_items more_named piece
@@ -120,7 +91,7 @@ named-spelt c locals (f ∷ fs) (x ∷ xs) h k =
     let o = operand_text c locals x in
     let first : (f.name ++ (codes ": " ++ o)) ++ (m ++ v) ≡ f.name ++ (codes ": " ++ (o ++ (m ++ v))) = simp append_assoc in
     let is : codes " { " ++ ((f.name ++ (codes ": " ++ o)) ++ (m ++ v)) ≡ codes " { " ++ (f.name ++ (codes ": " ++ (o ++ (more_named c locals fs xs ++ v)))) =
-        ap (λ l. codes " { " ++ l) (first ∙ ap (λ l. f.name ++ (codes ": " ++ (o ++ l))) (labelled-more c locals fs xs v)) in
+    ap (λ l. codes " { " ++ l) (first ∙ ap (λ l. f.name ++ (codes ": " ++ (o ++ l))) (labelled-more c locals fs xs v)) in
     subst (λ l. Spelt l (λ strings. parts_put (parts_rule c strings locals form.Named (f ∷ fs) (x ∷ xs))) []) is
     (put_as (λ strings ground rest. ap (λ l. s.OpenBrace ∷ l) (sym (join-put named_put s.CloseBrace (named_rule c strings locals (f, x)) (items_rule (named_rule c strings locals) (side_by_side fs xs)) rest))) (bare b))
 
@@ -165,7 +136,7 @@ name-of-one c d k false h e = absurd cc
 
 pub build_spelt : (c : Crate) (locals : List Tree) (d k : ℕ) (xs : List Operand) → IsBuild c locals d k xs
     → Spelt (build_text c locals (def_at c d) (variant_at c d k) xs)
-      (λ strings rest. path_put (built_path strings (def_at c d).is_enum (def_at c d).path (variant_at c d k).name) (parts_put (parts_rule c strings locals (variant_at c d k).form (variant_at c d k).fields xs) rest)) []
+    (λ strings rest. path_put (built_path strings (def_at c d).is_enum (def_at c d).path (variant_at c d k).name) (parts_put (parts_rule c strings locals (variant_at c d k).form (variant_at c d k).fields xs) rest)) []
 unfolding build_text piece
 build_spelt c locals d k xs h =
     let v = variant_at c d k in

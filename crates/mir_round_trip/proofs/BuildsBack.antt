@@ -1,5 +1,5 @@
 -- What the rule of a build means: the build itself, with no fault.
-use Rattle.std.proofs.Common.{◌≡◌, ◌<◌, ◌≤◌, ℕ, zero, suc, Bool, true, false, ◌&&◌, List, [], ◌∷◌, ◌++◌, map, length, get_or, codes, refl, sym, ap, subst, ◌∙◌, arith, Option, Some, None, slice_get, bytes_eq, is_some}
+use Rattle.std.proofs.Common.{◌≡◌, ◌<◌, ℕ, zero, suc, Bool, true, false, List, [], ◌∷◌, ◌++◌, map, length, get_or, codes, refl, sym, ap, ◌∙◌, arith, Option, Some, None, slice_get, bytes_eq}
 use Rattle.std.proofs.lemmas.Slice.Eq.{bytes_eq-Decides}
 use Rattle.mir_syntax.specs.declared.types.Form.{Form}
 use Rattle.mir_syntax.specs.declared.types.Form.TheVariants as form
@@ -9,23 +9,22 @@ use Rattle.mir_syntax.specs.Crate.{TypedField, TypedVariant, TypedDef, Crate}
 use Rattle.mir_syntax.specs.Shapes.{◌>>=◌}
 use Rattle.mir_text.specs.Words.{place_in}
 use Rattle.mir_text.specs.Symbols.{number_in}
-use Rattle.mir_text.specs.Grammar.{AllItems, AllOf, items_of}
-use Rattle.mir_text.specs.GrammarTypes.{PathRule}
-use Rattle.mir_text.specs.GrammarStatements.{NamedRule, BuildRule}
-use Rattle.mir_text.specs.Names.{Strings, Names, string_at, path_bytes, last_name, without_last}
+use Rattle.mir_text.specs.Grammar.{AllOf, items_of}
+use Rattle.mir_text.specs.Names.{Strings, string_at, path_bytes, last_name, without_last}
 use Rattle.mir_text.specs.NamedBodies.{Declared, variant_in, operand_named, struct_at, enum_variant_at, or_else, built_by, parts_named}
 use Rattle.mir_text.specs.NameFaults.{operand_codes, named_operand_codes, parts_codes, same_texts, field_names, has_form, variant_fits, variant_number, def_number, built_variant, build_codes}
 use Rattle.mir_text.specs.Nesting.{OperandGood, NamedGood, PartsGood}
 use Rattle.mir_text.specs.TypeText.{no_def, def_at}
 use Rattle.mir_text.specs.PlaceText.{no_variant, variant_at}
+use Rattle.mir_round_trip.specs.Names.{crate_paths, IsDef}
+use Rattle.mir_round_trip.specs.Bodies.{names_at, IsOperand, AreFields, IsOne, IsBuild}
 use Rattle.mir_round_trip.proofs.Spelling.{all-map}
-use Rattle.mir_round_trip.proofs.Paths.{IsPath, path_rule, Back, path_back, with_last, last-name, without-last, last-bytes}
-use Rattle.mir_round_trip.proofs.Types.{crate_paths, IsDef}
-use Rattle.mir_round_trip.proofs.Meaning.{names_at, Kept, met}
+use Rattle.mir_round_trip.proofs.Paths.{path_rule, Back, path_back, with_last, last-name, without-last, last-bytes}
+use Rattle.mir_round_trip.proofs.Meaning.{Kept, met}
 use Rattle.mir_round_trip.proofs.PlacesBack.{Setting}
-use Rattle.mir_round_trip.proofs.Operands.{operand_rule, IsOperand, operand_back, operand_faultless, operand_good}
+use Rattle.mir_round_trip.proofs.Operands.{operand_rule, operand_back, operand_faultless, operand_good}
 use Rattle.mir_round_trip.proofs.Lists.{items_rule, items-map, all-back, items-all, each-item-none}
-use Rattle.mir_round_trip.proofs.Builds.{Labelled, side_by_side, named_rule, parts_rule, built_path, AreFields, IsOne, IsBuild}
+use Rattle.mir_round_trip.proofs.Builds.{side_by_side, named_rule, parts_rule, built_path}
 
 -- ---- what stands at a number
 
@@ -68,7 +67,7 @@ built-by : (c : Crate) (strings : Strings) → Kept c strings → (d k : ℕ) (b
 unfolding ◌>>=◌
 built-by c strings kept d k false def one e h =
     let found : (place_in (crate_paths c) (path_bytes strings (path_rule strings (def_at c d).path)) >>= struct_at (names_at c strings)) ≡ Some (d, 0) =
-        ap (λ o. o >>= struct_at (names_at c strings)) (def-found c strings kept d def) ∙ struct-found c strings d def e in
+    ap (λ o. o >>= struct_at (names_at c strings)) (def-found c strings kept d def) ∙ struct-found c strings d def e in
     first-found _ _ (d, k) (found ∙ ap (λ n. Some (d, n)) (sym h))
 built-by c strings kept d k true def one e h =
     let name = (variant_at c d k).name in
@@ -76,15 +75,15 @@ built-by c strings kept d k true def one e h =
     let rule = path_rule strings (def_at c d).path in
     let back : string_at strings n ≡ name = kept.variants d k def.there one e in
     let bytes : path_bytes strings (with_last rule n) ≡ (def_at c d).path ++ (codes "::" ++ name) =
-        last-bytes strings rule n ∙ ap (λ l. l ++ (codes "::" ++ string_at strings n)) (path_back strings (def_at c d).path def.path (kept.paths d def.there))
-        ∙ ap (λ l. (def_at c d).path ++ (codes "::" ++ l)) back in
+    last-bytes strings rule n ∙ ap (λ l. l ++ (codes "::" ++ string_at strings n)) (path_back strings (def_at c d).path def.path (kept.paths d def.there))
+    ∙ ap (λ l. (def_at c d).path ++ (codes "::" ++ l)) back in
     let no-struct : (place_in (crate_paths c) (path_bytes strings (with_last rule n)) >>= struct_at (names_at c strings)) ≡ None =
-        ap (λ l. place_in (crate_paths c) l >>= struct_at (names_at c strings)) bytes ∙ h.2 strings in
+    ap (λ l. place_in (crate_paths c) l >>= struct_at (names_at c strings)) bytes ∙ h.2 strings in
     let last : string_at strings (last_name (with_last rule n)) ≡ name = ap (string_at strings) (last-name rule n) ∙ back in
     let of-enum : (without_last (with_last rule n) >>= λ front. place_in (crate_paths c) (path_bytes strings front) >>= enum_variant_at (names_at c strings) (string_at strings (last_name (with_last rule n)))) ≡ Some (d, k) =
-        ap (λ o. o >>= λ front. place_in (crate_paths c) (path_bytes strings front) >>= enum_variant_at (names_at c strings) (string_at strings (last_name (with_last rule n)))) (without-last rule n)
-        ∙ ap (λ o. o >>= enum_variant_at (names_at c strings) (string_at strings (last_name (with_last rule n)))) (def-found c strings kept d def)
-        ∙ ap (λ l. enum_variant_at (names_at c strings) l d) last ∙ enum-found c strings d k name def h.1 in
+    ap (λ o. o >>= λ front. place_in (crate_paths c) (path_bytes strings front) >>= enum_variant_at (names_at c strings) (string_at strings (last_name (with_last rule n)))) (without-last rule n)
+    ∙ ap (λ o. o >>= enum_variant_at (names_at c strings) (string_at strings (last_name (with_last rule n)))) (def-found c strings kept d def)
+    ∙ ap (λ l. enum_variant_at (names_at c strings) l d) last ∙ enum-found c strings d k name def h.1 in
     second-found _ _ (d, k) no-struct of-enum
 
 pub build-named : (c : Crate) (strings : Strings) → Kept c strings → (locals : List Tree) (d k : ℕ) (xs : List Operand) → IsBuild c locals d k xs
@@ -154,10 +153,10 @@ build-faultless c strings kept locals d k xs h =
     let v = variant_at c d k in
     let parts = parts_rule c strings locals v.form v.fields xs in
     let there : built_variant (names_at c strings) (d, k) ≡ Some v =
-        ap (λ o. o >>= λ x. variant_number x.variants k) (def-there c.defs d h.def.there) ∙ variant-there (def_at c d).variants k h.one in
+    ap (λ o. o >>= λ x. variant_number x.variants k) (def-there c.defs d h.def.there) ∙ variant-there (def_at c d).variants k h.one in
     let fits : variant_fits (names_at c strings) parts (built_by (names_at c strings) (built_path strings (def_at c d).is_enum (def_at c d).path v.name) >>= built_variant (names_at c strings)) ≡ true =
-        ap (λ o. variant_fits (names_at c strings) parts (o >>= built_variant (names_at c strings))) (build-named c strings kept locals d k xs h)
-        ∙ ap (variant_fits (names_at c strings) parts) there ∙ form-fits c strings locals v.form v.fields xs h.count (kept.fields d k h.def.there h.one) in
+    ap (λ o. variant_fits (names_at c strings) parts (o >>= built_variant (names_at c strings))) (build-named c strings kept locals d k xs h)
+    ∙ ap (variant_fits (names_at c strings) parts) there ∙ form-fits c strings locals v.form v.fields xs h.count (kept.fields d k h.def.there h.one) in
     met _ 13 fits
 
 beside-all : (P : Operand → Type 0) (fs : List TypedField) (xs : List Operand) → AllOf P xs → AllOf (λ y. P y.1) (side_by_side fs xs)

@@ -1,5 +1,7 @@
 -- Crates: the rule of the file that a canonical text is, and its text.
-use Rattle.std.proofs.Common.{◌≡◌, ◌<◌, ℕ, zero, suc, Bool, true, false, List, [], ◌∷◌, ◌++◌, map, length, get_or, codes, refl, sym, ap, subst, ◌∙◌, arith, Option, Some, None}
+use Rattle.mir_round_trip.specs.Bodies.{IsFn}
+use Rattle.mir_round_trip.specs.Readable.{AreWritten, IsPart, IsFields, IsOption, IsShape, IsDefinition, IsOutside}
+use Rattle.std.proofs.Common.{◌≡◌, ◌<◌, ℕ, Bool, true, false, List, [], ◌∷◌, ◌++◌, map, length, get_or, refl, sym, ap, subst, ◌∙◌, Option, Some, None}
 use Rattle.std.proofs.lemmas.List.{append-nil}
 use Rattle.mir_syntax.specs.declared.types.Form.{Form}
 use Rattle.mir_syntax.specs.declared.types.Form.TheVariants as form
@@ -7,27 +9,27 @@ use Rattle.mir_syntax.specs.Crate.{TypedField, TypedVariant, TypedDef, TypedOuts
 use Rattle.mir_text.specs.declared.symbol.Symbol.{Symbol}
 use Rattle.mir_text.specs.Pieces.{Piece, text_of, Stand}
 use Rattle.mir_text.specs.Words.{place_in}
-use Rattle.mir_text.specs.Symbols.{grammar_names, number_in, symbols_of, strings_of, place_or}
+use Rattle.mir_text.specs.Symbols.{grammar_names, symbols_of, strings_of, place_or}
 use Rattle.mir_text.specs.Grammar.{Put, AllOf, each_put}
 use Rattle.mir_text.specs.GrammarItems as m
 use Rattle.mir_text.specs.GrammarItems.{ItemRule, item_put, FileRule, file_put}
 use Rattle.mir_text.specs.Names.{Strings, string_at}
 use Rattle.mir_text.specs.NameFaults.{field_names}
 use Rattle.mir_text.specs.TypeText.{piece, no_def, def_at}
-use Rattle.mir_text.specs.PlaceText.{no_variant, variant_at}
+use Rattle.mir_text.specs.PlaceText.{no_variant}
 use Rattle.mir_text.specs.TermText.{function_paths, outside_paths}
 use Rattle.mir_text.specs.Text.{gap_text, functions_text, defs_text, outsides_text, others_stand, text}
-use Rattle.mir_round_trip.specs.Known.{Holds, known_symbols}
+use Rattle.mir_round_trip.specs.Known.{known_symbols}
 use Rattle.mir_round_trip.proofs.Numbering.{strings-more, numbers_final, number-back, strings_back}
-use Rattle.mir_round_trip.proofs.Spelling.{Grounded, Puts, all-map, Whole, whole_alone, whole_none, whole_after, whole_both, whole_trim}
+use Rattle.mir_round_trip.proofs.Spelling.{Grounded, Puts, all-map, Whole, whole_none, whole_after, whole_both}
 use Rattle.mir_round_trip.proofs.Literals.{empty_line}
 use Rattle.mir_round_trip.proofs.Paths.{path_names, Back}
 use Rattle.mir_round_trip.proofs.Meaning.{Kept}
 use Rattle.mir_round_trip.proofs.Lists.{names_onto}
 use Rattle.mir_round_trip.proofs.Blocks.{all-left, all-right, blocks_names}
 use Rattle.mir_round_trip.proofs.TermsBack.{all-at}
-use Rattle.mir_round_trip.proofs.Functions.{fn_rule, fn_names, IsFn, function_spelt}
-use Rattle.mir_round_trip.proofs.Definitions.{def_item, outside_item, fields_names, variant_bytes, shape_names, def_names, IsPart, IsField, IsFields, IsOption, IsShape, IsDefinition, IsOutside, def_spelt, outside_spelt}
+use Rattle.mir_round_trip.proofs.Functions.{fn_rule, fn_names, function_spelt}
+use Rattle.mir_round_trip.proofs.Definitions.{def_item, outside_item, fields_names, variant_bytes, shape_names, def_names, def_spelt, outside_spelt}
 
 -- ---- the rule
 
@@ -73,12 +75,6 @@ each-append : {R : Type 0} (put : Put R) (rs qs : List R) (rest : List Symbol) �
 each-append put [] qs rest = refl
 each-append put (r ∷ rs) qs rest = ap (put r) (each-append put rs qs rest)
 
--- a crate whose parts a text writes
-pub record AreWritten (c : Crate) : Type 0 where
-  pub defs : AllOf (IsDefinition c) c.defs
-  pub outsides : AllOf (IsOutside c) c.outsides
-  pub functions : AllOf (IsFn c) c.functions
-
 abbrev file-puts : Crate → Puts
 file-puts c strings rest = each_put item_put (map (def_item c strings) c.defs) (each_put item_put (map (outside_item c strings) c.outsides) (each_put item_put (map (fn_item c strings) c.functions) rest))
 
@@ -90,7 +86,7 @@ file-puts-same : (c : Crate) (strings : Strings) (rest : List Symbol) → file-p
 unfolding file_rule
 file-puts-same c strings rest =
     sym (each-append item_put (map (def_item c strings) c.defs) (map (outside_item c strings) c.outsides ++ map (fn_item c strings) c.functions) rest
-      ∙ ap (each_put item_put (map (def_item c strings) c.defs)) (each-append item_put (map (outside_item c strings) c.outsides) (map (fn_item c strings) c.functions) rest))
+    ∙ ap (each_put item_put (map (def_item c strings) c.defs)) (each-append item_put (map (outside_item c strings) c.outsides) (map (fn_item c strings) c.functions) rest))
 
 -- ---- its byte strings
 
@@ -167,9 +163,13 @@ DefKept strings d = AllOf (Back strings) (path_names d.path) × AllOf (VariantKe
 
 defs-kept : (c : Crate) (strings : Strings) (ds : List TypedDef) → AllOf (IsDefinition c) ds → AllOf (λ d. AllOf (Back strings) (def_names d)) ds → AllOf (DefKept strings) ds
 defs-kept c strings [] h k = tt
-defs-kept c strings (d ∷ ds) h k =
-    ((all-left (Back strings) (path_names d.path) (shape_names d.is_enum d.variants) k.0,
-      shape-kept c strings d.is_enum d.variants h.0.shape (all-right (Back strings) (path_names d.path) (shape_names d.is_enum d.variants) k.0)), defs-kept c strings ds h.1 k.1)
+defs-kept c strings (d ∷ ds) h k = (
+  (
+    all-left (Back strings) (path_names d.path) (shape_names d.is_enum d.variants) k.0,
+    shape-kept c strings d.is_enum d.variants h.0.shape (all-right (Back strings) (path_names d.path) (shape_names d.is_enum d.variants) k.0),
+  ),
+  defs-kept c strings ds h.1 k.1,
+)
 
 functions-kept : (strings : Strings) (fs : List TypedFunction) → AllOf (λ f. AllOf (Back strings) (fn_names f)) fs → AllOf (λ path. AllOf (Back strings) (path_names path)) (function_paths fs)
 functions-kept strings [] h = tt

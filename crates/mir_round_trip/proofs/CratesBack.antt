@@ -1,34 +1,32 @@
 -- What the rule of a canonical text means: the crate itself, with no fault.
-use Rattle.std.proofs.Common.{◌≡◌, ◌<◌, ◌≤◌, ℕ, zero, suc, Bool, true, false, not, ◌&&◌, ◌||◌, List, [], ◌∷◌, ◌++◌, map, length, codes, refl, sym, ap, subst, ◌∙◌, arith, append_assoc, bytes_eq}
+use Rattle.std.proofs.Common.{◌≡◌, ℕ, Bool, true, false, List, [], ◌∷◌, ◌++◌, map, refl, sym, ap, ◌∙◌, append_assoc}
 use Rattle.std.proofs.lemmas.List.{append-nil}
 use Rattle.mir_syntax.specs.Crate.{TypedVariant, TypedDef, TypedOutside, TypedFunction, Crate}
 use Rattle.mir_syntax.specs.Shapes.{shapes_from}
-use Rattle.mir_text.specs.Pieces.{Piece}
-use Rattle.mir_text.specs.Symbols.{number_in, strings_of}
-use Rattle.mir_text.specs.Grammar.{Items, AllOf, items_of}
+use Rattle.mir_text.specs.Grammar.{Items, AllOf}
 use Rattle.mir_text.specs.GrammarItems as m
 use Rattle.mir_text.specs.GrammarTypes.{PathRule}
 use Rattle.mir_text.specs.GrammarItems.{FieldsRule, VariantRule, ItemRule, item_put, FileRule}
 use Rattle.mir_text.specs.Nesting.{ItemGood, FileGood}
-use Rattle.mir_text.specs.Names.{Strings, Names, names_of, string_at, path_bytes, DefRule, def_path, def_in, defs_in, def_paths, def_named, function_path_in, function_paths_in, outside_path_in, outside_paths_in}
-use Rattle.mir_text.specs.Naming.{outside_in, outsides_in, function_in, functions_in, function_named, crate_in, crate_named}
-use Rattle.mir_text.specs.PartLines.{LinesFrom, past, LinedItem, item_lined, file_lined}
-use Rattle.mir_text.specs.NameFaults.{Fault, concat, each, on_line, other_codes, item_faults, Defined, variant_paths, defined_by, clashes, any_clashes, path_faults, name_faults}
-use Rattle.mir_text.specs.Reads.{Derivation, Reads, faults_in, names_in, items_in}
+use Rattle.mir_text.specs.Names.{Strings, Names, names_of, path_bytes, def_path, def_in, defs_in, def_paths, def_named, function_path_in, function_paths_in, outside_path_in, outside_paths_in}
+use Rattle.mir_text.specs.Naming.{outside_in, outsides_in, function_in, functions_in, crate_in, crate_named}
+use Rattle.mir_text.specs.PartLines.{LinesFrom, past, item_lined, file_lined}
+use Rattle.mir_text.specs.NameFaults.{concat, each, other_codes, item_faults}
 use Rattle.mir_text.specs.TermText.{function_paths, outside_paths}
-use Rattle.mir_text.specs.Text.{text}
+use Rattle.mir_round_trip.specs.Names.{crate_paths}
+use Rattle.mir_round_trip.specs.Bodies.{names_at, IsFn}
+use Rattle.mir_round_trip.specs.Readable.{IsDefinition, IsOutside, AreWritten}
 use Rattle.mir_round_trip.proofs.Spelling.{all-map, all-append}
-use Rattle.mir_round_trip.proofs.Paths.{IsPath, path_rule, path_names, Back, path_back}
-use Rattle.mir_round_trip.proofs.Types.{crate_paths}
-use Rattle.mir_round_trip.proofs.Meaning.{names_at, Kept, no-codes, met, plain_shapes}
-use Rattle.mir_round_trip.proofs.Lists.{items_rule, items-map, names_onto, concat-none, map-map, all-of-map}
+use Rattle.mir_round_trip.proofs.Paths.{path_names, Back, path_back}
+use Rattle.mir_round_trip.proofs.Meaning.{Kept}
+use Rattle.mir_round_trip.proofs.Lists.{concat-none, map-map, all-of-map}
 use Rattle.mir_round_trip.proofs.Rvalues.{two-same}
-use Rattle.mir_round_trip.proofs.Blocks.{all-left, all-right, line-none}
-use Rattle.mir_round_trip.proofs.Functions.{fn_rule, fn_names, IsFn}
+use Rattle.mir_round_trip.proofs.Blocks.{all-left, line-none}
+use Rattle.mir_round_trip.proofs.Functions.{fn_rule, fn_names}
 use Rattle.mir_round_trip.proofs.FunctionsBack.{map-append, function_back, function_faultless, function_good}
-use Rattle.mir_round_trip.proofs.Definitions.{variant_rule, shape_rule, def_item, outside_item, variant_bytes, shape_names, def_names, IsDefinition, IsOutside}
-use Rattle.mir_round_trip.proofs.DefinitionsBack.{def_rule, def-in, def-path, variant-names, def_back, outside_back, def_faultless, outside_faultless, def_good, outside_good}
-use Rattle.mir_round_trip.proofs.Crates.{fn_item, file_rule, AreWritten, Cut, crate_cut, Parts, parts_kept, crate_kept}
+use Rattle.mir_round_trip.proofs.Definitions.{shape_rule, def_item, outside_item, shape_names, def_names}
+use Rattle.mir_round_trip.proofs.DefinitionsBack.{def_rule, def-in, def-path, def_back, outside_back, def_faultless, outside_faultless, def_good, outside_good}
+use Rattle.mir_round_trip.proofs.Crates.{fn_item, file_rule, Parts}
 
 -- ---- what is gathered from the items of a file
 
@@ -39,7 +37,7 @@ concat-append (x ∷ xs) ys = ap (λ l. x ++ l) (concat-append xs ys) ∙ sym (a
 -- the three kinds of items one after another
 gathered : {A : Type 0} (F : ItemRule → List A) (c : Crate) (strings : Strings)
     → concat (map F (file_rule c strings))
-      ≡ concat (map (λ d. F (def_item c strings d)) c.defs) ++ (concat (map (λ o. F (outside_item c strings o)) c.outsides) ++ concat (map (λ f. F (fn_item c strings f)) c.functions))
+    ≡ concat (map (λ d. F (def_item c strings d)) c.defs) ++ (concat (map (λ o. F (outside_item c strings o)) c.outsides) ++ concat (map (λ f. F (fn_item c strings f)) c.functions))
 unfolding file_rule
 gathered F c strings =
     let ds = map (def_item c strings) c.defs in
@@ -47,8 +45,8 @@ gathered F c strings =
     let fs = map (fn_item c strings) c.functions in
     ap concat (map-append F ds (os ++ fs)) ∙ concat-append (map F ds) (map F (os ++ fs))
     ∙ two-same (λ a b. a ++ b) (ap concat (map-map F (def_item c strings) c.defs))
-      (ap concat (map-append F os fs) ∙ concat-append (map F os) (map F fs)
-        ∙ two-same (λ a b. a ++ b) (ap concat (map-map F (outside_item c strings) c.outsides)) (ap concat (map-map F (fn_item c strings) c.functions)))
+    (ap concat (map-append F os fs) ∙ concat-append (map F os) (map F fs)
+    ∙ two-same (λ a b. a ++ b) (ap concat (map-map F (outside_item c strings) c.outsides)) (ap concat (map-map F (fn_item c strings) c.functions)))
 
 -- each gives one
 concat-one : {A B : Type 0} (h : A → List B) (g : A → B) (xs : List A) → AllOf (λ x. h x ≡ g x ∷ []) xs → concat (map h xs) ≡ map g xs
@@ -98,7 +96,7 @@ unfolding outside_item
 defs-file c strings =
     defs-gather (file_rule c strings) ∙ gathered def_in c strings
     ∙ two-same (λ a b. a ++ b) (concat-one (λ d. def_in (def_item c strings d)) (def_rule c strings) c.defs (all-of (def-in c strings) c.defs))
-      (two-same (λ a b. a ++ b) (concat-none (λ o. def_in (outside_item c strings o)) c.outsides (all-of (λ o. refl) c.outsides)) (concat-none (λ f. def_in (fn_item c strings f)) c.functions (all-of (λ f. refl) c.functions)))
+    (two-same (λ a b. a ++ b) (concat-none (λ o. def_in (outside_item c strings o)) c.outsides (all-of (λ o. refl) c.outsides)) (concat-none (λ f. def_in (fn_item c strings f)) c.functions (all-of (λ f. refl) c.functions)))
     ∙ append-nil (map (def_rule c strings) c.defs)
 
 map-same : {A B : Type 0} (f g : A → B) (xs : List A) → AllOf (λ x. f x ≡ g x) xs → map f xs ≡ map g xs
@@ -143,18 +141,18 @@ unfolding outside_item
 functions-file c strings h parts =
     function-paths-gather strings (file_rule c strings) ∙ gathered (function_path_in strings) c strings
     ∙ two-same (λ a b. a ++ b) (concat-none (λ d. function_path_in strings (def_item c strings d)) c.defs (all-of (def-else (function_path_in strings) (λ p fs. refl) (λ p vs. refl) c strings) c.defs))
-      (two-same (λ a b. a ++ b) (concat-none (λ o. function_path_in strings (outside_item c strings o)) c.outsides (all-of (λ o. refl) c.outsides)) (fn-paths c strings c.functions h.functions parts.functions))
+    (two-same (λ a b. a ++ b) (concat-none (λ o. function_path_in strings (outside_item c strings o)) c.outsides (all-of (λ o. refl) c.outsides)) (fn-paths c strings c.functions h.functions parts.functions))
 
 outsides-file : (c : Crate) (strings : Strings) → AreWritten c → Parts c strings → outside_paths_in strings (file_rule c strings) ≡ outside_paths c.outsides
 outsides-file c strings h parts =
     outside-paths-gather strings (file_rule c strings) ∙ gathered (outside_path_in strings) c strings
     ∙ two-same (λ a b. a ++ b) (concat-none (λ d. outside_path_in strings (def_item c strings d)) c.defs (all-of (def-else (outside_path_in strings) (λ p fs. refl) (λ p vs. refl) c strings) c.defs))
-      (two-same (λ a b. a ++ b) (out-paths c strings c.outsides h.outsides parts.outsides) (concat-none (λ f. outside_path_in strings (fn_item c strings f)) c.functions (all-of (λ f. refl) c.functions)))
+    (two-same (λ a b. a ++ b) (out-paths c strings c.outsides h.outsides parts.outsides) (concat-none (λ f. outside_path_in strings (fn_item c strings f)) c.functions (all-of (λ f. refl) c.functions)))
     ∙ append-nil (outside_paths c.outsides)
 
 as-names : (strings : Strings) (a x : List (List ℕ)) (b y : List TypedDef) (d z : List (List ℕ)) (e w : List (List ℕ)) → a ≡ x → b ≡ y → d ≡ z → e ≡ w
     → ◌≡◌ {A = Names} (record { strings = strings; paths = a; defs = b; shapes = shapes_from [] 0 b; functions = d; outsides = e })
-      (record { strings = strings; paths = x; defs = y; shapes = shapes_from [] 0 y; functions = z; outsides = w })
+    (record { strings = strings; paths = x; defs = y; shapes = shapes_from [] 0 y; functions = z; outsides = w })
 as-names strings a x b y d z e w h k l o =
     two-same (λ u v. let r : Names = record { strings = strings; paths = u; defs = v; shapes = shapes_from [] 0 v; functions = d; outsides = e } in r) h k
     ∙ two-same (λ u v. let r : Names = record { strings = strings; paths = x; defs = y; shapes = shapes_from [] 0 y; functions = u; outsides = v } in r) l o
@@ -180,7 +178,7 @@ outsides-back c strings h kept parts =
     let F = outside_in (names_at c strings) in
     outsides-gather (names_at c strings) (file_rule c strings) ∙ gathered F c strings
     ∙ two-same (λ a b. a ++ b) (concat-none (λ d. F (def_item c strings d)) c.defs (all-of (def-else F (λ p fs. refl) (λ p vs. refl) c strings) c.defs))
-      (two-same (λ a b. a ++ b) (outs-read c strings kept c.outsides h.outsides parts.outsides) (concat-none (λ f. F (fn_item c strings f)) c.functions (all-of (λ f. refl) c.functions)))
+    (two-same (λ a b. a ++ b) (outs-read c strings kept c.outsides h.outsides parts.outsides) (concat-none (λ f. F (fn_item c strings f)) c.functions (all-of (λ f. refl) c.functions)))
     ∙ append-nil c.outsides
 
 functions-back : (c : Crate) (strings : Strings) → AreWritten c → Kept c strings → Parts c strings → functions_in (names_at c strings) (file_rule c strings) ≡ c.functions
@@ -189,7 +187,7 @@ functions-back c strings h kept parts =
     let F = function_in (names_at c strings) in
     functions-gather (names_at c strings) (file_rule c strings) ∙ gathered F c strings
     ∙ two-same (λ a b. a ++ b) (concat-none (λ d. F (def_item c strings d)) c.defs (all-of (def-else F (λ p fs. refl) (λ p vs. refl) c strings) c.defs))
-      (two-same (λ a b. a ++ b) (concat-none (λ o. F (outside_item c strings o)) c.outsides (all-of (λ o. refl) c.outsides)) (fns-read c strings kept c.functions h.functions parts.functions))
+    (two-same (λ a b. a ++ b) (concat-none (λ o. F (outside_item c strings o)) c.outsides (all-of (λ o. refl) c.outsides)) (fns-read c strings kept c.functions h.functions parts.functions))
 
 as-crate : (d : List TypedDef) (a x : List TypedOutside) (b y : List TypedFunction) → a ≡ x → b ≡ y → ◌≡◌ {A = Crate} (record { defs = d; outsides = a; functions = b }) (record { defs = d; outsides = x; functions = y })
 as-crate d a x b y h k = two-same (λ u v. let r : Crate = record { defs = d; outsides = u; functions = v } in r) h k
@@ -207,8 +205,8 @@ file-good c strings h =
     all-append ItemGood (map (def_item c strings) c.defs) (map (outside_item c strings) c.outsides ++ map (fn_item c strings) c.functions)
     (all-of-map ItemGood (def_item c strings) c.defs (all-map (def_good c strings) c.defs h.defs))
     (all-append ItemGood (map (outside_item c strings) c.outsides) (map (fn_item c strings) c.functions)
-      (all-of-map ItemGood (outside_item c strings) c.outsides (all-map (outside_good c strings) c.outsides h.outsides))
-      (all-of-map ItemGood (fn_item c strings) c.functions (all-map (function_good c strings) c.functions h.functions)))
+    (all-of-map ItemGood (outside_item c strings) c.outsides (all-map (outside_good c strings) c.outsides h.outsides))
+    (all-of-map ItemGood (fn_item c strings) c.functions (all-map (function_good c strings) c.functions h.functions)))
 
 -- ---- no fault in the items
 
@@ -244,5 +242,5 @@ file-faultless c strings h kept parts =
     all-append (Faultless names) (map (def_item c strings) c.defs) (map (outside_item c strings) c.outsides ++ map (fn_item c strings) c.functions)
     (all-of-map (Faultless names) (def_item c strings) c.defs (defs-faultless c strings kept c.defs h.defs parts.defs))
     (all-append (Faultless names) (map (outside_item c strings) c.outsides) (map (fn_item c strings) c.functions)
-      (all-of-map (Faultless names) (outside_item c strings) c.outsides (all-map (λ o is. out-faultless names c strings o (outside_faultless c strings kept o is)) c.outsides h.outsides))
-      (all-of-map (Faultless names) (fn_item c strings) c.functions (all-map (λ f is lines. function_faultless c strings kept f is lines) c.functions h.functions)))
+    (all-of-map (Faultless names) (outside_item c strings) c.outsides (all-map (λ o is. out-faultless names c strings o (outside_faultless c strings kept o is)) c.outsides h.outsides))
+    (all-of-map (Faultless names) (fn_item c strings) c.functions (all-map (λ f is lines. function_faultless c strings kept f is lines) c.functions h.functions)))

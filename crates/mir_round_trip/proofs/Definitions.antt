@@ -1,28 +1,27 @@
 -- Structs, enums and outside functions: the rule that writes one, and its text.
-use Rattle.std.proofs.Common.{◌≡◌, ◌<◌, ◌≤◌, ℕ, zero, suc, max, Bool, true, false, List, [], ◌∷◌, ◌++◌, map, length, codes, refl, sym, ap, subst, ◌∙◌, arith, append_assoc}
+use Rattle.mir_round_trip.specs.Names.{Clear, IsPath, IsTy}
+use Rattle.mir_round_trip.specs.Readable.{IsPart, IsField, IsFields, IsOption, IsShape, IsDefinition, IsOutside}
+use Rattle.std.proofs.Common.{◌≡◌, ℕ, Bool, true, false, List, [], ◌∷◌, ◌++◌, map, codes, refl, sym, ap, subst, ◌∙◌, append_assoc}
 use Rattle.mir_syntax.specs.declared.types.Form.{Form}
 use Rattle.mir_syntax.specs.declared.types.Form.TheVariants as form
 use Rattle.mir_syntax.specs.Tree.{Tree, tuple_of}
 use Rattle.mir_syntax.specs.Crate.{TypedField, TypedVariant, TypedDef, TypedOutside, Crate}
-use Rattle.mir_text.specs.declared.symbol.Symbol.{Symbol}
 use Rattle.mir_text.specs.declared.symbol.Symbol.TheVariants as s
 use Rattle.mir_text.specs.Symbols.{number_in}
 use Rattle.mir_text.specs.Grammar.{AllOf, items_put}
-use Rattle.mir_text.specs.GrammarTypes.{TypesRule, type_put, types_put, path_put}
+use Rattle.mir_text.specs.GrammarTypes.{type_put, types_put}
 use Rattle.mir_text.specs.GrammarItems as m
 use Rattle.mir_text.specs.GrammarItems.{FieldRule, field_decl_put, FieldsRule, fields_put, VariantRule, variant_decl_put, struct_put, ItemRule, item_put}
 use Rattle.mir_text.specs.Names.{Strings}
-use Rattle.mir_text.specs.NameFaults.{field_names, none_twice}
+use Rattle.mir_text.specs.NameFaults.{field_names}
 use Rattle.mir_text.specs.TypeText.{piece, more_items, comma_list, type_text}
 use Rattle.mir_text.specs.Text.{field_ty_text, field_text, braced_text, fields_text, variant_text, variants_text, struct_text, shape_text, def_word, def_text, outside_text}
-use Rattle.mir_round_trip.proofs.Spelling.{Clear, Puts, Sign, Spelt, after, and_then, alone, none, bare, put_as, all-map, Whole, whole_alone, whole_after, whole_then, whole_trim}
-use Rattle.mir_round_trip.proofs.Atoms.{IsName, name_spelt}
+use Rattle.mir_round_trip.proofs.Spelling.{Puts, Spelt, after, and_then, alone, none, put_as, all-map, Whole, whole_alone, whole_after, whole_then, whole_trim}
+use Rattle.mir_round_trip.proofs.Atoms.{name_spelt}
 use Rattle.mir_round_trip.proofs.Literals.{open_sign, close_sign, comma_space, colon_space, brace, close_brace_space, braces, arrow_spaces, end_of_line, empty_line, semicolon_sign, enum_word, struct_word, extern_word}
-use Rattle.mir_round_trip.proofs.Paths.{IsPath, path_rule, path_names, path_spelt}
-use Rattle.mir_round_trip.proofs.Types.{type_rule, types_rule, Proper, type_spelt, following_put, join-parts, join-comma}
-use Rattle.mir_round_trip.proofs.Lists.{Front, items_rule, join-put, more-front, names_onto, Spells, more_spelt}
-use Rattle.mir_round_trip.proofs.Rvalues.{IsTy}
-use Rattle.mir_round_trip.proofs.Functions.{trim}
+use Rattle.mir_round_trip.proofs.Paths.{path_rule, path_names, path_spelt}
+use Rattle.mir_round_trip.proofs.Types.{type_rule, types_rule, type_spelt, following_put, join-parts, join-comma}
+use Rattle.mir_round_trip.proofs.Lists.{Front, items_rule, join-put, more-front, names_onto, more_spelt}
 
 -- ---- the rule
 
@@ -74,38 +73,6 @@ def_names d = path_names d.path ++ shape_names d.is_enum d.variants
 
 -- ---- definitions that a text writes
 
-pub record IsPart (c : Crate) (f : TypedField) : Type 0 where
-  pub unnamed : f.name ≡ []
-  pub type : IsTy c f.ty
-
-pub record IsField (c : Crate) (f : TypedField) : Type 0 where
-  pub name : IsName f.name
-  pub type : IsTy c f.ty
-
-abbrev pub IsFields : Crate → Form → List TypedField → Type 0
-IsFields c form.Unit fields = fields ≡ []
-IsFields c form.Tuple fields = AllOf (IsPart c) fields
-IsFields c form.Named fields = AllOf (IsField c) fields × (none_twice [] (field_names fields) ≡ true)
-
-pub record IsOption (c : Crate) (v : TypedVariant) : Type 0 where
-  pub name : IsName v.name
-  pub fields : IsFields c v.form v.fields
-
-abbrev pub IsShape : Crate → Bool → List TypedVariant → Type 0
-IsShape c true vs = AllOf (IsOption c) vs × (none_twice [] (map (λ v. v.name) vs) ≡ true)
-IsShape c false [] = ⊥
-IsShape c false (v ∷ []) = (v.name ≡ []) × IsFields c v.form v.fields
-IsShape c false (v ∷ w ∷ vs) = ⊥
-
-pub record IsDefinition (c : Crate) (d : TypedDef) : Type 0 where
-  pub path : IsPath d.path
-  pub shape : IsShape c d.is_enum d.variants
-
-pub record IsOutside (c : Crate) (o : TypedOutside) : Type 0 where
-  pub path : IsPath o.path
-  pub args : AllOf (IsTy c) o.args
-  pub result : IsTy c o.result
-
 -- ---- types with commas
 
 types-more : {A : Type 0} (c : Crate) (ty : A → Tree) (v : List ℕ) (g : Puts) → Front v → Spelt v (λ strings rest. s.Close ∷ g strings rest) [] → (xs : List A) → AllOf (λ x. IsTy c (ty x)) xs
@@ -118,8 +85,8 @@ types-more c ty v g front b (x ∷ xs) h =
     let is : codes ", " ++ (t ++ (others ++ v)) ≡ (codes ", " ++ (t ++ others)) ++ v = ap (λ l. codes ", " ++ l) (sym (append_assoc t others v)) in
     subst (λ l. Spelt l (λ strings rest. following_put (types_rule c strings (tuple_of (map ty (x ∷ xs)))) (g strings rest)) []) is
     (put_as (λ strings ground rest. ap (λ l. s.Comma ∷ l) (sym (join-parts (type_rule c strings (ty x)) (types_rule c strings (tuple_of (map ty xs))) (g strings rest)))
-        ∙ sym (join-comma (type_rule c strings (ty x)) (types_rule c strings (tuple_of (map ty xs))) (g strings rest)))
-      (after comma_space (and_then (type_spelt c (ty x) h.0.proper) (more-front (λ y. type_text c (ty y)) v xs front) (types-more c ty v g front b xs h.1))))
+    ∙ sym (join-comma (type_rule c strings (ty x)) (types_rule c strings (tuple_of (map ty xs))) (g strings rest)))
+    (after comma_space (and_then (type_spelt c (ty x) h.0.proper) (more-front (λ y. type_text c (ty y)) v xs front) (types-more c ty v g front b xs h.1))))
 
 types-spelt : {A : Type 0} (c : Crate) (ty : A → Tree) (v : List ℕ) (g : Puts) → Front v → Spelt v (λ strings rest. s.Close ∷ g strings rest) [] → (xs : List A) → AllOf (λ x. IsTy c (ty x)) xs
     → Spelt (comma_list (λ x. type_text c (ty x)) xs ++ v) (λ strings rest. types_put (types_rule c strings (tuple_of (map ty xs))) (g strings rest)) []
@@ -128,7 +95,7 @@ types-spelt c ty v g front b [] h = b
 types-spelt c ty v g front b (x ∷ xs) h =
     subst (λ l. Spelt l (λ strings rest. types_put (types_rule c strings (tuple_of (map ty (x ∷ xs)))) (g strings rest)) []) (sym (append_assoc (type_text c (ty x)) (more_items (λ y. type_text c (ty y)) xs) v))
     (put_as (λ strings ground rest. sym (join-parts (type_rule c strings (ty x)) (types_rule c strings (tuple_of (map ty xs))) (g strings rest)))
-      (and_then (type_spelt c (ty x) h.0.proper) (more-front (λ y. type_text c (ty y)) v xs front) (types-more c ty v g front b xs h.1)))
+    (and_then (type_spelt c (ty x) h.0.proper) (more-front (λ y. type_text c (ty y)) v xs front) (types-more c ty v g front b xs h.1)))
 
 -- ---- fields
 
@@ -145,9 +112,9 @@ unfolding braced_text piece
 braced-spelt c [] h = alone braces
 braced-spelt c (f ∷ fs) h =
     let others = more_spelt (field_text c) field_decl_put (λ strings. field_rule c strings) (λ x. x.name ∷ []) s.CloseBrace (codes " }") (λ strings rest. rest) [] (λ left clear. refl) (alone close_brace_space) fs
-        (all-map (field-spelt c) fs h.1) in
+    (all-map (field-spelt c) fs h.1) in
     let whole = put_as (λ strings ground rest. ap (λ l. s.OpenBrace ∷ l) (sym (join-put field_decl_put s.CloseBrace (field_rule c strings f) (items_rule (field_rule c strings) fs) rest)))
-        (after brace (and_then (field-spelt c f h.0) (more-front (field_text c) (codes " }") fs (λ left clear. refl)) others)) in
+    (after brace (and_then (field-spelt c f h.0) (more-front (field_text c) (codes " }") fs (λ left clear. refl)) others)) in
     subst (Spelt (braced_text c (f ∷ fs)) (λ strings rest. s.OpenBrace ∷ items_put field_decl_put s.CloseBrace (items_rule (field_rule c strings) (f ∷ fs)) rest)) (ap (λ l. f.name ∷ l) (names-flat fs)) whole
 
 part-types : (c : Crate) (fs : List TypedField) → AllOf (IsPart c) fs → AllOf (λ f. IsTy c (field_type_of f)) fs
@@ -184,7 +151,7 @@ unfolding variants_text piece
 variants-spelt c [] h = alone braces
 variants-spelt c (v ∷ vs) h =
     let others = more_spelt (variant_text c) variant_decl_put (λ strings. variant_rule c strings) variant_bytes s.CloseBrace (codes " }") (λ strings rest. rest) [] (λ left clear. refl) (alone close_brace_space) vs
-        (all-map (variant-spelt c) vs h.1) in
+    (all-map (variant-spelt c) vs h.1) in
     put_as (λ strings ground rest. ap (λ l. s.OpenBrace ∷ l) (sym (join-put variant_decl_put s.CloseBrace (variant_rule c strings v) (items_rule (variant_rule c strings) vs) rest)))
     (after brace (and_then (variant-spelt c v h.0) (more-front (variant_text c) (codes " }") vs (λ left clear. refl)) others))
 
@@ -231,5 +198,5 @@ outside_spelt c o h =
     let behind = whole_after arrow_spaces (whole_then (type_spelt c o.result h.result.proper) (λ left. refl) (whole_alone end_of_line)) in
     let args = whole_then (arg-types c o.args h.args) (λ left. refl) behind in
     let list = subst (λ l. Whole l (λ strings rest. types_put (types_rule c strings (tuple_of o.args)) (s.Arrow ∷ type_put (type_rule c strings o.result) (s.Semicolon ∷ rest))) [])
-        (append_assoc (comma_list (type_text c) o.args) (codes ")") (codes " -> " ++ (type_text c o.result ++ codes ";\n"))) args in
+    (append_assoc (comma_list (type_text c) o.args) (codes ")") (codes " -> " ++ (type_text c o.result ++ codes ";\n"))) args in
     whole_after extern_word (whole_trim (whole_then (path_spelt o.path h.path) (λ left. refl) (whole_after open_sign list)))

@@ -1,29 +1,31 @@
 -- What the rules of structs, enums and outside functions mean: these themselves, with no fault.
-use Rattle.std.proofs.Common.{◌≡◌, ◌<◌, ◌≤◌, ℕ, zero, suc, max, Bool, true, false, List, [], ◌∷◌, ◌++◌, map, length, refl, sym, ap, subst, ◌∙◌, arith}
+use Rattle.std.proofs.Common.{◌≡◌, ◌≤◌, ℕ, Bool, true, false, List, [], ◌∷◌, map, refl, sym, ap, subst, ◌∙◌, arith}
 use Rattle.mir_syntax.specs.declared.types.Form.{Form}
 use Rattle.mir_syntax.specs.declared.types.Form.TheVariants as form
 use Rattle.mir_syntax.specs.Tree.{Tree, tuple_of}
 use Rattle.mir_syntax.specs.Crate.{TypedField, TypedVariant, TypedDef, TypedOutside, Crate}
 use Rattle.mir_text.specs.Symbols.{number_in}
-use Rattle.mir_text.specs.Grammar.{Items, AllOf, AllItems, items_of}
+use Rattle.mir_text.specs.Grammar.{AllOf, items_of}
 use Rattle.mir_text.specs.GrammarTypes as t
 use Rattle.mir_text.specs.GrammarTypes.{TypeRule, TypesRule, types_in}
-use Rattle.mir_text.specs.GrammarItems.{FieldRule, FieldsRule, VariantRule, ItemRule}
 use Rattle.mir_text.specs.Names as n
 use Rattle.mir_text.specs.Names.{Strings, Names, string_at, path_bytes, type_named, ty_of, field_named, part_named, form_of, fields_named, variant_of, variant_named, DefRule, def_path, def_in, def_named}
 use Rattle.mir_text.specs.Naming.{outside_in}
-use Rattle.mir_text.specs.NameFaults.{unless, each_item, type_codes, field_names, none_twice, fields_codes, variants_codes, other_codes}
-use Rattle.mir_text.specs.Nesting.{TypeGood, TypesGood, FieldGood, FieldsGood, VariantGood, ItemGood}
-use Rattle.mir_round_trip.proofs.Spelling.{all-map, all-append}
-use Rattle.mir_round_trip.proofs.Paths.{IsPath, path_rule, path_names, Back, path_back}
-use Rattle.mir_round_trip.proofs.Types.{type_rule, types_rule, join_type, crate_paths, PathsBack, AreProper, Proper, type_back, types_known, tree_depth, parts_depth, depths_kept}
-use Rattle.mir_round_trip.proofs.Meaning.{names_at, Kept, no-codes, met}
+use Rattle.mir_text.specs.NameFaults.{type_codes, field_names, none_twice, fields_codes, other_codes}
+use Rattle.mir_text.specs.Nesting.{TypesGood, FieldGood, FieldsGood, VariantGood, ItemGood}
+use Rattle.mir_round_trip.specs.Names.{IsPath, crate_paths, AreProper, tree_depth, parts_depth, IsTy}
+use Rattle.mir_round_trip.specs.Bodies.{names_at}
+use Rattle.mir_round_trip.specs.Readable.{IsPart, IsField, IsFields, IsOption, IsShape, IsDefinition, IsOutside}
+use Rattle.mir_round_trip.proofs.Spelling.{all-map}
+use Rattle.mir_round_trip.proofs.Paths.{path_rule, path_names, Back, path_back}
+use Rattle.mir_round_trip.proofs.Types.{type_rule, types_rule, join_type, type_back, types_known, depths_kept}
+use Rattle.mir_round_trip.proofs.Meaning.{Kept, no-codes, met}
 use Rattle.mir_round_trip.proofs.PlacesBack.{type_faultless}
-use Rattle.mir_round_trip.proofs.Lists.{items_rule, items-map, items-all, each-item-none, names_onto, all-of-map}
-use Rattle.mir_round_trip.proofs.Rvalues.{IsTy, two-same, ty_good}
+use Rattle.mir_round_trip.proofs.Lists.{items_rule, items-map, items-all, each-item-none, names_onto}
+use Rattle.mir_round_trip.proofs.Rvalues.{two-same, ty_good}
 use Rattle.mir_round_trip.proofs.Blocks.{all-left, all-right}
 use Rattle.mir_round_trip.proofs.FunctionsBack.{max-most}
-use Rattle.mir_round_trip.proofs.Definitions.{field_type_of, field_rule, fields_rule, variant_rule, one_rule, shape_rule, def_item, outside_item, fields_names, variant_bytes, shape_names, def_names, IsPart, IsField, IsFields, IsOption, IsShape, IsDefinition, IsOutside}
+use Rattle.mir_round_trip.proofs.Definitions.{field_type_of, field_rule, fields_rule, variant_rule, one_rule, shape_rule, def_item, outside_item, fields_names, variant_bytes, shape_names, def_names}
 
 -- ---- tuples of types
 
@@ -99,9 +101,10 @@ variant-back c strings kept v h k = as-variant _ _ _ _ _ _ k.0 (form-back c stri
 variants-read : (c : Crate) (strings : Strings) → Kept c strings → (vs : List TypedVariant) → AllOf (IsOption c) vs → AllOf (Back strings) (names_onto variant_bytes vs [])
     → AllOf (λ v. variant_named strings (crate_paths c) (variant_rule c strings v) ≡ v) vs
 variants-read c strings kept [] h k = tt
-variants-read c strings kept (v ∷ vs) h k =
-    (variant-back c strings kept v h.0 (all-left (Back strings) (variant_bytes v) (names_onto variant_bytes vs []) k),
-      variants-read c strings kept vs h.1 (all-right (Back strings) (variant_bytes v) (names_onto variant_bytes vs []) k))
+variants-read c strings kept (v ∷ vs) h k = (
+  variant-back c strings kept v h.0 (all-left (Back strings) (variant_bytes v) (names_onto variant_bytes vs []) k),
+  variants-read c strings kept vs h.1 (all-right (Back strings) (variant_bytes v) (names_onto variant_bytes vs []) k),
+)
 
 abbrev shape_def : Crate → Strings → List ℕ → Bool → List TypedVariant → DefRule
 shape_def c strings path true variants = n.enum (path_rule strings path) (items_rule (variant_rule c strings) variants)
@@ -166,8 +169,8 @@ pub outside_back : (c : Crate) (strings : Strings) → Kept c strings → (o : T
 unfolding outside_item
 outside_back c strings kept o h k =
     ap (λ x. x ∷ []) (as-outside _ _ _ _ _ _ (path_back strings o.path h.path k)
-      (ap (map (ty_of (names_at c strings))) (args-in c strings o.args) ∙ map-back (ty_of (names_at c strings)) (type_rule c strings) o.args (types-read c strings kept o.args h.args))
-      (type_back c strings kept.paths o.result h.result.proper))
+    (ap (map (ty_of (names_at c strings))) (args-in c strings o.args) ∙ map-back (ty_of (names_at c strings)) (type_rule c strings) o.args (types-read c strings kept o.args h.args))
+    (type_back c strings kept.paths o.result h.result.proper))
 
 -- ---- no fault
 

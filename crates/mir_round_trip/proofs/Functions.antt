@@ -1,11 +1,12 @@
 -- Functions: the rule that writes one, and its text.
-use Rattle.std.proofs.Common.{◌≡◌, ◌<◌, ◌≤◌, ◌+◌, ◌^◌, ℕ, zero, suc, Bool, true, false, List, [], ◌∷◌, ◌++◌, map, length, take, drop, codes, refl, sym, ap, subst, ◌∙◌, arith, append_assoc, length-drop}
+use Rattle.mir_round_trip.specs.Names.{Clear, IsTy}
+use Rattle.mir_round_trip.specs.Bodies.{IsFn}
+use Rattle.std.proofs.Common.{◌≡◌, ◌<◌, ◌≤◌, ◌+◌, ◌^◌, ℕ, zero, suc, Bool, true, false, List, [], ◌∷◌, ◌++◌, length, take, drop, codes, refl, sym, ap, subst, arith, append_assoc, length-drop}
 use Rattle.std.proofs.lemmas.List.{append-nil, length-take}
 use Rattle.mir_syntax.specs.declared.body.Inline.{Inline}
 use Rattle.mir_syntax.specs.declared.body.Inline.TheVariants as inlining
 use Rattle.mir_syntax.specs.Tree.{Tree}
-use Rattle.mir_syntax.specs.Crate.{Crate, TypedBlock, TypedBody, TypedFunction}
-use Rattle.mir_text.specs.declared.symbol.Symbol.{Symbol}
+use Rattle.mir_syntax.specs.Crate.{Crate, TypedBlock, TypedFunction}
 use Rattle.mir_text.specs.declared.symbol.Symbol.TheVariants as s
 use Rattle.mir_text.specs.Grammar.{AllOf, items_put, each_put}
 use Rattle.mir_text.specs.GrammarTypes.{path_put, type_put}
@@ -14,17 +15,16 @@ use Rattle.mir_text.specs.GrammarItems as m
 use Rattle.mir_text.specs.GrammarItems.{ArgRule, arg_put, AttrRule, attr_put, DeclRule, DeclsRule, decl_put, decls_put, FnRule, drop_put, fn_put}
 use Rattle.mir_text.specs.Names.{Strings}
 use Rattle.mir_text.specs.TypeText.{piece, more_items, comma_list, type_text}
-use Rattle.mir_text.specs.PlaceText.{local_text, local_ty}
+use Rattle.mir_text.specs.PlaceText.{local_ty}
 use Rattle.mir_text.specs.TermText.{blocks_text}
-use Rattle.mir_text.specs.Text.{local_decl, more_args, args_text, let_line, lets_text, args_of, others_of, body_text, inline_text, drop_text, header_text, function_text, gap_text, functions_text}
-use Rattle.mir_round_trip.proofs.Spelling.{Clear, Puts, Spelt, after, and_then, alone, none, bare, all-map, Whole, whole_alone, whole_after, whole_then, whole_trim}
+use Rattle.mir_text.specs.Text.{local_decl, more_args, args_text, let_line, lets_text, args_of, others_of, body_text, inline_text, drop_text, header_text, function_text}
+use Rattle.mir_round_trip.proofs.Spelling.{Puts, Spelt, after, and_then, alone, none, bare, all-map, Whole, whole_alone, whole_after, whole_then, whole_trim}
 use Rattle.mir_round_trip.proofs.Atoms.{local_spelt}
-use Rattle.mir_round_trip.proofs.Literals.{open_sign, colon_space, end_of_line, empty_line, let_mut, drop_word, fn_word, result_arrow, body_open, body_close, inline_hint, inline_always, inline_never}
-use Rattle.mir_round_trip.proofs.Paths.{IsPath, path_rule, path_names, path_spelt}
+use Rattle.mir_round_trip.proofs.Literals.{open_sign, colon_space, end_of_line, let_mut, drop_word, fn_word, result_arrow, body_open, body_close, inline_hint, inline_always, inline_never}
+use Rattle.mir_round_trip.proofs.Paths.{path_rule, path_names, path_spelt}
 use Rattle.mir_round_trip.proofs.Types.{type_rule, type_spelt}
 use Rattle.mir_round_trip.proofs.Lists.{Front, items_rule, comma_spelt}
-use Rattle.mir_round_trip.proofs.Rvalues.{IsTy}
-use Rattle.mir_round_trip.proofs.Blocks.{blocks_rule, blocks_names, IsBlock, blocks_spelt}
+use Rattle.mir_round_trip.proofs.Blocks.{blocks_rule, blocks_names, blocks_spelt}
 use Rattle.mir_round_trip.proofs.Locals.{numbered}
 
 -- ---- the rule
@@ -57,15 +57,6 @@ abbrev pub fn_names : TypedFunction → List (List ℕ)
 fn_names f = path_names f.path ++ blocks_names f.body.blocks
 
 -- ---- functions that a text writes
-
-pub record IsFn (c : Crate) (f : TypedFunction) : Type 0 where
-  pub path : IsPath f.path
-  pub args : f.body.args < length f.body.locals
-  pub few : length f.body.locals ≤ 2 ^ 32
-  pub types : AllOf (IsTy c) f.body.locals
-  pub some : 0 < length f.body.blocks
-  pub few_blocks : length f.body.blocks ≤ 2 ^ 32
-  pub blocks : AllOf (IsBlock c f.body.locals (length f.body.blocks)) f.body.blocks
 
 -- a declaration that a text writes
 pub record IsDecl (c : Crate) (d : ℕ × Tree) : Type 0 where
@@ -135,17 +126,17 @@ trim {t = t} {f = f} {ns = ns} a = subst (Spelt t f) (append-nil ns) a
 
 header-spelt : (c : Crate) (f : TypedFunction) → IsFn c f
     → Spelt (header_text c f.path f.body)
-      (λ strings rest. s.Fn ∷ path_put (path_rule strings f.path) (s.Open ∷ items_put arg_put s.Close (items_rule (decl_rule c strings) (numbered 1 (args_of f.body)))
-        (s.Arrow ∷ type_put (type_rule c strings (local_ty f.body.locals 0)) (s.OpenBrace ∷ rest)))) (path_names f.path)
+    (λ strings rest. s.Fn ∷ path_put (path_rule strings f.path) (s.Open ∷ items_put arg_put s.Close (items_rule (decl_rule c strings) (numbered 1 (args_of f.body)))
+    (s.Arrow ∷ type_put (type_rule c strings (local_ty f.body.locals 0)) (s.OpenBrace ∷ rest)))) (path_names f.path)
 unfolding header_text piece
 header-spelt c f h =
     let t = local_ty f.body.locals 0 in
     let v = codes ") -> " ++ (type_text c t ++ codes " {\n") in
     let result = after result_arrow (and_then (type_spelt c t (first_type c f h).proper) (λ left clear. refl) (alone body_open)) in
     let args = comma_spelt (decl_text c) arg_put (λ strings. decl_rule c strings) (λ d. []) s.Close v (λ strings rest. s.Arrow ∷ type_put (type_rule c strings t) (s.OpenBrace ∷ rest)) []
-        (λ left clear. refl) result (numbered 1 (args_of f.body)) (all-map (decl-spelt c) (numbered 1 (args_of f.body)) (arg_decls c f h)) in
+    (λ left clear. refl) result (numbered 1 (args_of f.body)) (all-map (decl-spelt c) (numbered 1 (args_of f.body)) (arg_decls c f h)) in
     let list = subst (λ l. Spelt (l ++ v) (λ strings rest. items_put arg_put s.Close (items_rule (decl_rule c strings) (numbered 1 (args_of f.body))) (s.Arrow ∷ type_put (type_rule c strings t) (s.OpenBrace ∷ rest))) [])
-        (args-text c (args_of f.body)) (bare args) in
+    (args-text c (args_of f.body)) (bare args) in
     after fn_word (trim (and_then (path_spelt f.path h.path) (λ left clear. refl) (after open_sign list)))
 
 let-spelt : (c : Crate) (x : ℕ) (t : Tree) → IsDecl c (x, t) → Spelt (let_line c x t) (λ strings. decl_put (m.«let» true x (type_rule c strings t))) []
@@ -176,7 +167,7 @@ blocks-front c f = front-by c f.body.locals 0 f.body.blocks
 
 body-spelt : (c : Crate) (f : TypedFunction) → IsFn c f
     → Spelt (body_text c f.body) (λ strings rest. decls_put (lets_rule c strings ((0, local_ty f.body.locals 0) ∷ numbered (suc f.body.args) (others_of f.body)))
-        (each_put block_put (blocks_rule c strings f.body.locals 0 f.body.blocks) rest)) (blocks_names f.body.blocks)
+    (each_put block_put (blocks_rule c strings f.body.locals 0 f.body.blocks) rest)) (blocks_names f.body.blocks)
 unfolding body_text
 body-spelt c f h =
     let first = let-spelt c 0 (local_ty f.body.locals 0) (record { small = omega arith; type = first_type c f h }) in

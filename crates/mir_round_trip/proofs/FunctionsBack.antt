@@ -1,5 +1,5 @@
 -- What the rule of a function means: the function itself, with no fault.
-use Rattle.std.proofs.Common.{◌≡◌, ◌<◌, ◌≤◌, ◌+◌, ℕ, zero, suc, max, Bool, true, false, not, ◌&&◌, nat_eq, List, [], ◌∷◌, ◌++◌, map, length, take, drop, refl, sym, ap, subst, ◌∙◌, arith, if◌then◌else◌}
+use Rattle.std.proofs.Common.{◌≡◌, ◌<◌, ◌≤◌, ℕ, suc, max, Bool, true, false, not, ◌&&◌, nat_eq, List, [], ◌∷◌, ◌++◌, map, length, take, drop, refl, sym, ap, subst, ◌∙◌, arith, if◌then◌else◌}
 use Rattle.std.proofs.lemmas.Bool.Decides.{nat_tests}
 use Rattle.mir_syntax.specs.declared.types.ScalarTy.{ScalarTy}
 use Rattle.mir_syntax.specs.declared.types.ScalarTy.TheVariants as scalar_ty
@@ -9,26 +9,27 @@ use Rattle.mir_syntax.specs.Tree.{Tree, scalar, empty, more, ref, ref_mut, named
 use Rattle.mir_syntax.specs.Crate.{Crate, TypedBlock, TypedBody, TypedFunction}
 use Rattle.mir_text.specs.Grammar.{Put, Items, AllItems, AllOf, items_put, items_of}
 use Rattle.mir_text.specs.Grammar as g
-use Rattle.mir_text.specs.GrammarItems.{ArgRule, arg_put, decl_put, DeclsRule, FnRule}
-use Rattle.mir_text.specs.Names.{Strings, Names, ty_of, same_scalar, same_type, int_number}
-use Rattle.mir_text.specs.NamedBodies.{Declared, block_named}
-use Rattle.mir_text.specs.Naming.{lets_of, declarations, declares, declared, locals_from, inline_named, body_named, function_named}
-use Rattle.mir_text.specs.PartLines.{LinesFrom, first_line, past, Lined, items_lined, lets_lined, after_front, after_result, blocks_lined, fn_lined}
+use Rattle.mir_text.specs.GrammarItems.{ArgRule, arg_put}
+use Rattle.mir_text.specs.Names.{Strings, ty_of, same_scalar, same_type, int_number}
+use Rattle.mir_text.specs.NamedBodies.{Declared}
+use Rattle.mir_text.specs.Naming.{lets_of, declares, declared, locals_from, inline_named, body_named, function_named}
+use Rattle.mir_text.specs.PartLines.{LinesFrom, first_line, past, Lined, items_lined, lets_lined, after_front, after_result, fn_lined}
 use Rattle.mir_text.specs.NameFaults.{Fault, on_line, unless, each, is_among, type_codes, declaration_faults, args_in_place, declared_once, result_faults, none_missing, blocks_in_order, labels_of, fn_faults}
-use Rattle.mir_text.specs.Nesting.{TypeGood, ArgGood, decls_depth, DeclsSmall, DeclsGood, FnGood, type_depth}
+use Rattle.mir_text.specs.Nesting.{ArgGood, decls_depth, DeclsGood, FnGood, type_depth}
 use Rattle.mir_text.specs.PlaceText.{local_ty}
 use Rattle.mir_text.specs.Text.{args_of, others_of}
+use Rattle.mir_round_trip.specs.Bodies.{names_at, IsFn}
 use Rattle.mir_round_trip.proofs.Spelling.{all-map, all-append}
 use Rattle.mir_round_trip.proofs.Paths.{path_names, Back, path_back}
 use Rattle.mir_round_trip.proofs.Types.{type_rule, type_back}
-use Rattle.mir_round_trip.proofs.Meaning.{names_at, Kept, no-codes, met}
+use Rattle.mir_round_trip.proofs.Meaning.{Kept, no-codes, met}
 use Rattle.mir_round_trip.proofs.PlacesBack.{Declares, Setting, type_faultless}
-use Rattle.mir_round_trip.proofs.Lists.{join_item, items_rule, items-map, items-all, map-map}
-use Rattle.mir_round_trip.proofs.Rvalues.{IsTy, two-same, ty_good}
-use Rattle.mir_round_trip.proofs.Blocks.{blocks_rule, blocks_names, IsBlock, all-left, all-right, blocks_back, line-none, blocks_faultless, numbers_from, block-labels, among, blocks-in-order, blocks_good}
+use Rattle.mir_round_trip.proofs.Lists.{join_item, items_rule, items-map, items-all}
+use Rattle.mir_round_trip.proofs.Rvalues.{two-same, ty_good}
+use Rattle.mir_round_trip.proofs.Blocks.{blocks_names, all-left, all-right, blocks_back, line-none, blocks_faultless, numbers_from, block-labels, among, blocks-in-order, blocks_good}
 use Rattle.mir_round_trip.proofs.TermsBack.{HasLabels}
-use Rattle.mir_round_trip.proofs.Locals.{numbered, declarations_of, declares as declares-all, declared-length, locals-back, args-count, none-missing, Fresh, fresh}
-use Rattle.mir_round_trip.proofs.Functions.{decl_rule, lets_rule, attr_rule, fn_rule, fn_names, IsFn, IsDecl, first_type, arg_decls, other_decls}
+use Rattle.mir_round_trip.proofs.Locals.{numbered, declares as declares-all, locals-back, args-count, none-missing, Fresh, fresh}
+use Rattle.mir_round_trip.proofs.Functions.{decl_rule, lets_rule, attr_rule, fn_rule, fn_names, IsDecl, first_type, arg_decls, other_decls}
 
 -- ---- the declarations of a body
 
@@ -110,7 +111,7 @@ body-back c strings kept f h names =
     let args = ap length (items-map (λ a. a) (decl_rule c strings) (numbered 1 (args_of f.body))) ∙ map-length (decl_rule c strings) (numbered 1 (args_of f.body)) ∙ is.count in
     let locals = ap (λ L. locals_from L 0 (length L)) (declared-is c strings kept f h) ∙ is.back in
     let blocks = blocks_back c strings (declared (names_at c strings) (fn_rule c strings f)) f.body.locals (fn-setting c strings kept f h) (length f.body.blocks) 0 f.body.blocks h.blocks
-        (all-right (Back strings) (path_names f.path) (blocks_names f.body.blocks) names) in
+    (all-right (Back strings) (path_names f.path) (blocks_names f.body.blocks) names) in
     as-body _ _ _ _ _ _ args locals blocks
 
 as-function : (d : Bool) (a x : List ℕ) (b y : Inline) (e z : TypedBody) → a ≡ x → b ≡ y → e ≡ z
@@ -187,7 +188,7 @@ once-each c strings before [] ds new h = refl
 once-each c strings before (x ∷ xs) [] new h = absurd h
 once-each c strings before (x ∷ xs) (d ∷ ds) new h =
     let first : on_line x.0 (unless (not (is_among before x.1.0)) 14) ≡ [] =
-        line-none x.0 _ (met _ 14 (ap (λ r. not (is_among before r.0)) h.0 ∙ ap not new.0)) in
+    line-none x.0 _ (met _ 14 (ap (λ r. not (is_among before r.0)) h.0 ∙ ap not new.0)) in
     two-same (λ a b. a ++ b) first (ap (λ r. declared_once (r.0 ∷ before) xs) h.0 ∙ once-each c strings (d.0 ∷ before) xs ds new.1 h.1)
 
 same-scalar : (x : ScalarTy) → same_scalar x x ≡ true
@@ -214,7 +215,7 @@ result-right c strings k us t others [] some h = refl
 result-right c strings k [] t others (x ∷ xs) some h =
     let zero-there : nat_eq x.1.0 0 ≡ true = ap (λ r. nat_eq r.0 0) h.0 in
     let same : same_type (ty_of (names_at c strings) x.1.1) (ty_of (names_at c strings) (type_rule c strings t)) ≡ true =
-        ap (λ r. same_type (ty_of (names_at c strings) r.1) (ty_of (names_at c strings) (type_rule c strings t))) h.0 ∙ same-tree (ty_of (names_at c strings) (type_rule c strings t)) in
+    ap (λ r. same_type (ty_of (names_at c strings) r.1) (ty_of (names_at c strings) (type_rule c strings t))) h.0 ∙ same-tree (ty_of (names_at c strings) (type_rule c strings t)) in
     result-here _ _ _ zero-there (line-none x.0 _ (met _ 14 same))
 result-right c strings k (u ∷ us) t others (x ∷ xs) some h =
     let other : nat_eq x.1.0 0 ≡ false = ap (λ r. nat_eq r.0 0) h.0 ∙ not-equal k 0 some in
@@ -237,17 +238,17 @@ function_faultless c strings kept f h lines =
     let has : HasLabels (labels_of lined) n = subst (λ l. HasLabels l n) (sym labels) (λ b less. among 0 n b (omega arith) (omega arith)) in
     let args = args-aligned c strings (numbered 1 (args_of f.body)) (after_front rule lines) in
     let all : Aligned c strings (lined.args ++ lined.lets) D =
-        aligned-append c strings lined.args lined.lets (numbered 1 (args_of f.body)) ((0, t) ∷ numbered (suc f.body.args) (others_of f.body)) args
-        (lets-aligned c strings ((0, t) ∷ numbered (suc f.body.args) (others_of f.body)) (after_result rule lines)) in
+    aligned-append c strings lined.args lined.lets (numbered 1 (args_of f.body)) ((0, t) ∷ numbered (suc f.body.args) (others_of f.body)) args
+    (lets-aligned c strings ((0, t) ∷ numbered (suc f.body.args) (others_of f.body)) (after_result rule lines)) in
     let head : on_line lined.head (type_codes names rule.result ++ unless (none_missing (declared names rule)) 14 ++ unless (blocks_in_order (labels_of lined)) 15) ≡ [] =
-        line-none lined.head _ (no-codes _ _ (no-codes _ _ (type_faultless c strings kept t (first_type c f h).proper) (met _ 14 (ap none_missing (declared-is c strings kept f h) ∙ is.whole)))
-          (met _ 15 (ap blocks_in_order labels ∙ blocks-in-order n h.some))) in
+    line-none lined.head _ (no-codes _ _ (no-codes _ _ (type_faultless c strings kept t (first_type c f h).proper) (met _ 14 (ap none_missing (declared-is c strings kept f h) ∙ is.whole)))
+    (met _ 15 (ap blocks_in_order labels ∙ blocks-in-order n h.some))) in
     no-codes _ _ (no-codes _ _ (no-codes _ _ (no-codes _ _ (no-codes _ _ head
-      (types-faultless c strings kept (lined.args ++ lined.lets) D (all-decls c f h) all))
-      (places-right c strings 1 (args_of f.body) lined.args args))
-      (once-each c strings [] (lined.args ++ lined.lets) D is.once all))
-      (result-right c strings 1 (args_of f.body) t (numbered (suc f.body.args) (others_of f.body)) (lined.args ++ lined.lets) (omega arith) all))
-      (blocks_faultless c strings (declared names rule) f.body.locals set (labels_of lined) n has 0 f.body.blocks _ h.blocks)
+    (types-faultless c strings kept (lined.args ++ lined.lets) D (all-decls c f h) all))
+    (places-right c strings 1 (args_of f.body) lined.args args))
+    (once-each c strings [] (lined.args ++ lined.lets) D is.once all))
+    (result-right c strings 1 (args_of f.body) t (numbered (suc f.body.args) (others_of f.body)) (lined.args ++ lined.lets) (omega arith) all))
+    (blocks_faultless c strings (declared names rule) f.body.locals set (labels_of lined) n has 0 f.body.blocks _ h.blocks)
 
 -- ---- good
 
@@ -262,8 +263,9 @@ lets-good c strings (d ∷ ds) h =
 
 pub function_good : (c : Crate) (strings : Strings) (f : TypedFunction) → IsFn c f → FnGood (fn_rule c strings f)
 unfolding fn_rule
-function_good c strings f h =
-    (items-all ArgGood (decl_rule c strings) (numbered 1 (args_of f.body)) (all-map (λ d is. ty_good c strings d.1 is.type) (numbered 1 (args_of f.body)) (arg_decls c f h)),
-      ty_good c strings (local_ty f.body.locals 0) (first_type c f h),
-      lets-good c strings ((0, local_ty f.body.locals 0) ∷ numbered (suc f.body.args) (others_of f.body)) (record { small = omega arith; type = first_type c f h }, other_decls c f h),
-      blocks_good c strings f.body.locals (length f.body.blocks) 0 f.body.blocks h.blocks)
+function_good c strings f h = (
+  items-all ArgGood (decl_rule c strings) (numbered 1 (args_of f.body)) (all-map (λ d is. ty_good c strings d.1 is.type) (numbered 1 (args_of f.body)) (arg_decls c f h)),
+  ty_good c strings (local_ty f.body.locals 0) (first_type c f h),
+  lets-good c strings ((0, local_ty f.body.locals 0) ∷ numbered (suc f.body.args) (others_of f.body)) (record { small = omega arith; type = first_type c f h }, other_decls c f h),
+  blocks_good c strings f.body.locals (length f.body.blocks) 0 f.body.blocks h.blocks,
+)

@@ -1,12 +1,13 @@
 -- Lists with commas: the rule that writes one, its text, and back.
-use Rattle.std.proofs.Common.{◌≡◌, ℕ, suc, Bool, true, false, List, [], ◌∷◌, ◌++◌, map, codes, refl, sym, ap, subst, ◌∙◌, arith, append_assoc}
+use Rattle.std.proofs.Common.{◌≡◌, ℕ, List, [], ◌∷◌, ◌++◌, map, codes, refl, sym, ap, subst, ◌∙◌, append_assoc}
 use Rattle.mir_text.specs.declared.symbol.Symbol.{Symbol}
 use Rattle.mir_text.specs.declared.symbol.Symbol.TheVariants as s
-use Rattle.mir_text.specs.Grammar.{Put, Items, end, last, more, items_put, items_of, AllItems, AllOf, each_put}
+use Rattle.mir_text.specs.Grammar.{Put, Items, end, last, more, items_put, items_of, AllItems, AllOf}
 use Rattle.mir_text.specs.Names.{Strings}
-use Rattle.mir_text.specs.NameFaults.{concat, each, each_item}
+use Rattle.mir_text.specs.NameFaults.{concat, each_item}
 use Rattle.mir_text.specs.TypeText.{piece, more_items, comma_list}
-use Rattle.mir_round_trip.proofs.Spelling.{Clear, Puts, Spelt, after, and_then, put_as}
+use Rattle.mir_round_trip.specs.Names.{Clear}
+use Rattle.mir_round_trip.proofs.Spelling.{Puts, Spelt, after, and_then, put_as}
 use Rattle.mir_round_trip.proofs.Literals.{comma_space}
 
 -- what follows begins with no byte of a name where none follows that
@@ -68,7 +69,7 @@ more_spelt text put rule names closing v g ms front b (x ∷ xs) h =
     let is : codes ", " ++ (text x ++ (more_items text xs ++ v)) ≡ (codes ", " ++ (text x ++ more_items text xs)) ++ v = ap (λ l. codes ", " ++ l) (sym (append_assoc (text x) (more_items text xs) v)) in
     subst (λ l. Spelt l (λ strings rest. tail_put put closing (items_rule (rule strings) (x ∷ xs)) (g strings rest)) (names_onto names (x ∷ xs) ms)) is
     (put_as (λ strings ground rest. sym (join-tail put closing (rule strings x) (items_rule (rule strings) xs) (g strings rest)))
-      (after comma_space (and_then h.0 (more-front text v xs front) others)))
+    (after comma_space (and_then h.0 (more-front text v xs front) others)))
 
 pub comma_spelt : {A R : Type 0} (text : A → List ℕ) (put : Put R) (rule : Strings → A → R) (names : A → List (List ℕ)) (closing : Symbol) (v : List ℕ) (g : Puts) (ms : List (List ℕ))
     → Front v → Spelt v (λ strings rest. closing ∷ g strings rest) ms → (xs : List A) → AllOf (Spells text put rule names) xs
@@ -79,7 +80,7 @@ comma_spelt text put rule names closing v g ms front b (x ∷ xs) h =
     let others = more_spelt text put rule names closing v g ms front b xs h.1 in
     subst (λ l. Spelt l (λ strings rest. items_put put closing (items_rule (rule strings) (x ∷ xs)) (g strings rest)) (names_onto names (x ∷ xs) ms)) (sym (append_assoc (text x) (more_items text xs) v))
     (put_as (λ strings ground rest. sym (join-put put closing (rule strings x) (items_rule (rule strings) xs) (g strings rest)))
-      (and_then h.0 (more-front text v xs front) others))
+    (and_then h.0 (more-front text v xs front) others))
 
 -- ---- back
 

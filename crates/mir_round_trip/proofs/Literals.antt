@@ -1,14 +1,13 @@
 -- The texts of canonical text that stand for themselves: those that end with a sign, a space or a line feed.
-use Rattle.std.proofs.Common.{◌≡◌, ℕ, true, false, List, [], ◌∷◌, ◌++◌, codes, refl, sym, ap, ◌∙◌, arith}
+use Rattle.std.proofs.Common.{ℕ, List, [], ◌∷◌, codes, refl, ap, ◌∙◌}
 use Rattle.mir_text.specs.declared.symbol.Symbol.{Symbol}
 use Rattle.mir_text.specs.declared.symbol.Symbol.TheVariants as s
-use Rattle.mir_text.specs.Bytes.{suffix_at}
 use Rattle.mir_text.specs.Words.{word_place}
 use Rattle.mir_text.specs.Pieces.{open_paren, close_paren, open_brace, close_brace, open_bracket, close_bracket, comma, semicolon, colon, colons, dot, ampersand, star, exclamation, equals, hash, arrow, Piece, blank, line, word, mark, text_of, Stand}
 use Rattle.mir_text.specs.Symbols.{word_token, block_digits, number_in, int_to_int_name, success_name, inline_name, always_name, never_name}
-use Rattle.mir_text.proofs.Cut.{if_stand, stands}
+use Rattle.mir_text.proofs.Cut.{stands}
 use Rattle.mir_round_trip.specs.Known.{known_symbols}
-use Rattle.mir_round_trip.proofs.Spelling.{Puts, Grounded, KnownAs, Sign}
+use Rattle.mir_round_trip.proofs.Spelling.{KnownAs, Sign}
 
 -- pieces whose symbols and neighbours are computed
 sign : (ps : List Piece) (f : List Symbol → List Symbol) → ((left : List ℕ) → Stand ps left) → KnownAs ps (λ strings. f) → Sign (text_of ps) f
@@ -218,7 +217,7 @@ inline_always =
     sign (mark hash ∷ mark open_bracket ∷ word 105 (codes "nline") ∷ mark open_paren ∷ word 97 (codes "lways") ∷ mark close_paren ∷ mark close_bracket ∷ line ∷ []) (λ rest. s.Hash ∷ s.OpenBracket ∷ inline_name ∷ s.Open ∷ always_name ∷ s.Close ∷ s.CloseBracket ∷ rest)
     (λ left. stands (mark hash ∷ mark open_bracket ∷ word 105 (codes "nline") ∷ mark open_paren ∷ word 97 (codes "lways") ∷ mark close_paren ∷ mark close_bracket ∷ line ∷ []) left refl)
     (λ strings ground rest. ap (λ n. s.Hash ∷ s.OpenBracket ∷ s.Name n ∷ s.Open ∷ s.Name (number_in strings (codes "always")) ∷ s.Close ∷ s.CloseBracket ∷ known_symbols strings rest) ground.inline
-      ∙ ap (λ n. s.Hash ∷ s.OpenBracket ∷ inline_name ∷ s.Open ∷ s.Name n ∷ s.Close ∷ s.CloseBracket ∷ known_symbols strings rest) ground.always)
+    ∙ ap (λ n. s.Hash ∷ s.OpenBracket ∷ inline_name ∷ s.Open ∷ s.Name n ∷ s.Close ∷ s.CloseBracket ∷ known_symbols strings rest) ground.always)
 
 pub inline_never : Sign (codes "#[inline(never)]\n") (λ rest. s.Hash ∷ s.OpenBracket ∷ inline_name ∷ s.Open ∷ never_name ∷ s.Close ∷ s.CloseBracket ∷ rest)
 unfolding word_token block_digits word_place
@@ -226,5 +225,4 @@ inline_never =
     sign (mark hash ∷ mark open_bracket ∷ word 105 (codes "nline") ∷ mark open_paren ∷ word 110 (codes "ever") ∷ mark close_paren ∷ mark close_bracket ∷ line ∷ []) (λ rest. s.Hash ∷ s.OpenBracket ∷ inline_name ∷ s.Open ∷ never_name ∷ s.Close ∷ s.CloseBracket ∷ rest)
     (λ left. stands (mark hash ∷ mark open_bracket ∷ word 105 (codes "nline") ∷ mark open_paren ∷ word 110 (codes "ever") ∷ mark close_paren ∷ mark close_bracket ∷ line ∷ []) left refl)
     (λ strings ground rest. ap (λ n. s.Hash ∷ s.OpenBracket ∷ s.Name n ∷ s.Open ∷ s.Name (number_in strings (codes "never")) ∷ s.Close ∷ s.CloseBracket ∷ known_symbols strings rest) ground.inline
-      ∙ ap (λ n. s.Hash ∷ s.OpenBracket ∷ inline_name ∷ s.Open ∷ s.Name n ∷ s.Close ∷ s.CloseBracket ∷ known_symbols strings rest) ground.never)
-
+    ∙ ap (λ n. s.Hash ∷ s.OpenBracket ∷ inline_name ∷ s.Open ∷ s.Name n ∷ s.Close ∷ s.CloseBracket ∷ known_symbols strings rest) ground.never)

@@ -1,5 +1,5 @@
 -- The declarations of a canonical text: the arguments, then `_0`, then the other locals. Each local is declared once, with its type.
-use Rattle.std.proofs.Common.{◌≡◌, ◌<◌, ◌≤◌, ◌+◌, ◌-◌, ℕ, zero, suc, Bool, true, false, not, ◌&&◌, ◌||◌, nat_eq, List, [], ◌∷◌, ◌++◌, map, length, get_or, take, drop, refl, sym, ap, subst, ◌∙◌, arith, ◌⊎◌, inl, inr, Option, Some, None, is_some, length-append, length-drop, if◌then◌else◌}
+use Rattle.std.proofs.Common.{◌≡◌, ◌<◌, ◌≤◌, ◌+◌, ◌-◌, ℕ, zero, suc, true, false, ◌&&◌, ◌||◌, nat_eq, List, [], ◌∷◌, ◌++◌, length, get_or, take, drop, refl, ap, subst, ◌∙◌, arith, ◌⊎◌, inl, inr, Some, is_some, length-append, length-drop}
 use Rattle.std.proofs.lemmas.Bool.Decides.{nat_tests}
 use Rattle.std.proofs.lemmas.List.{append-nil, get_or-take, get_or-drop}
 use Rattle.mir_syntax.specs.Tree.{Tree, empty}
@@ -8,7 +8,7 @@ use Rattle.mir_text.specs.NamedBodies.{Declared, declared_ty}
 use Rattle.mir_text.specs.Naming.{or_unit, locals_from}
 use Rattle.mir_text.specs.NameFaults.{is_among, below_declared, none_missing_in, none_missing}
 use Rattle.mir_text.specs.PlaceText.{local_ty}
-use Rattle.mir_round_trip.proofs.Spelling.{all-map, all-append}
+use Rattle.mir_round_trip.proofs.Spelling.{all-append}
 use Rattle.mir_round_trip.proofs.PlacesBack.{Declares}
 use Rattle.mir_round_trip.proofs.Rvalues.{two-same}
 
@@ -57,7 +57,7 @@ declares-other t ts a y h more less =
     let i = y - a in
     let other : declared_ty ((0, t) ∷ numbered (suc a) (drop a ts)) (suc y) ≡ declared_ty (numbered (suc a) (drop a ts)) (suc y) = rw (numbers-differ 0 (suc y) (inl (omega arith))) refl in
     let last : declared_ty (numbered (suc a) (drop a ts)) (suc y) ≡ Some (get_or (drop a ts) i empty) =
-        subst (λ l. declared_ty l (suc y) ≡ Some (get_or (drop a ts) i empty)) (append-nil (numbered (suc a) (drop a ts))) (look (suc a) (drop a ts) [] (suc y) i (omega arith) (omega (arith, m))) in
+    subst (λ l. declared_ty l (suc y) ≡ Some (get_or (drop a ts) i empty)) (append-nil (numbered (suc a) (drop a ts))) (look (suc a) (drop a ts) [] (suc y) i (omega arith) (omega (arith, m))) in
     let place : a + i ≡ y = omega arith in
     skip 1 (take a ts) ((0, t) ∷ numbered (suc a) (drop a ts)) (suc y) (inr (omega (arith, n))) ∙ other ∙ last
     ∙ ap Some (get_or-drop a ts i empty ∙ ap (λ z. get_or ts z empty) place)
@@ -108,14 +108,14 @@ types-from L k (u ∷ us) h =
     let here : k + 0 ≡ k = omega arith in
     let first : declared_ty L k ≡ Some u = subst (λ n. declared_ty L n ≡ Some u) here (h 0 (omega arith)) in
     let later : (i : ℕ) → i < length us → declared_ty L (suc k + i) ≡ Some (get_or us i empty) =
-        λ i less. subst (λ n. declared_ty L n ≡ Some (get_or us i empty)) (next k i) (h (suc i) (omega arith)) in
+    λ i less. subst (λ n. declared_ty L n ≡ Some (get_or us i empty)) (next k i) (h (suc i) (omega arith)) in
     two-same (λ o l. or_unit o ∷ l) first (types-from L (suc k) us later)
 
 pub locals-back : (t : Tree) (ts : List Tree) (a : ℕ) → a ≤ length ts → locals_from (declarations_of t ts a) 0 (length (declarations_of t ts a)) ≡ t ∷ ts
 unfolding local_ty
 locals-back t ts a h =
     let all : (i : ℕ) → i < length (t ∷ ts) → declared_ty (declarations_of t ts a) (0 + i) ≡ Some (get_or (t ∷ ts) i empty) =
-        λ i less. subst (λ n. declared_ty (declarations_of t ts a) n ≡ Some (get_or (t ∷ ts) i empty)) (zero-front i) (declares t ts a h i less) in
+    λ i less. subst (λ n. declared_ty (declarations_of t ts a) n ≡ Some (get_or (t ∷ ts) i empty)) (zero-front i) (declares t ts a h i less) in
     ap (locals_from (declarations_of t ts a) 0) (declared-length t ts a h) ∙ types-from (declarations_of t ts a) 0 (t ∷ ts) all
 
 pub args-count : (t : Tree) (ts : List Tree) (a : ℕ) → a ≤ length ts → length (numbered 1 (take a ts)) ≡ a
@@ -168,9 +168,11 @@ fresh-rest before k (u ∷ us) h = (h k (omega arith), fresh-rest (k ∷ before)
 fresh-front : (before : List ℕ) (k n : ℕ) (us : List Tree) (more : Declared) → k + length us ≡ n → Open before k → is_among before 0 ≡ false → 0 < k
     → ((b : List ℕ) → Open b n → is_among b 0 ≡ false → Fresh b more) → Fresh before (numbered k us ++ more)
 fresh-front before k n [] more e h none some next = let same : k ≡ n = omega arith in next before (subst (Open before) same h) none
-fresh-front before k n (u ∷ us) more e h none some next =
-    (h k (omega arith), fresh-front (k ∷ before) (suc k) n us more (omega arith) (open-next before k (suc k) h (omega arith))
-      (two-same (λ a b. a || b) (numbers-differ k 0 (inr some)) none) (omega arith) next)
+fresh-front before k n (u ∷ us) more e h none some next = (
+  h k (omega arith),
+  fresh-front (k ∷ before) (suc k) n us more (omega arith) (open-next before k (suc k) h (omega arith))
+      (two-same (λ a b. a || b) (numbers-differ k 0 (inr some)) none) (omega arith) next,
+)
 
 pub fresh : (t : Tree) (ts : List Tree) (a : ℕ) → a ≤ length ts → Fresh [] (declarations_of t ts a)
 fresh t ts a h =

@@ -1,34 +1,19 @@
 -- What the names of a crate's canonical text mean, and the byte strings that are read back in it.
-use Rattle.std.proofs.Common.{◌≡◌, ◌<◌, ℕ, zero, suc, Bool, true, false, List, [], ◌∷◌, ◌++◌, map, length, refl, sym, ap, subst, ◌∙◌, arith, Option, Some, None, is_some, slice_get, not, ◌&&◌}
-use Rattle.mir_syntax.specs.declared.types.Field.{Field as SyntaxField}
+use Rattle.mir_round_trip.specs.Bodies.{plain_shapes}
+use Rattle.std.proofs.Common.{◌≡◌, ◌<◌, ℕ, zero, suc, Bool, true, List, [], ◌∷◌, ◌++◌, length, refl, ap, Option, Some, is_some, slice_get}
 use Rattle.mir_syntax.specs.declared.body.Proj.{Proj}
 use Rattle.mir_syntax.specs.declared.body.Proj.TheVariants.{Field, Downcast, Deref}
 use Rattle.mir_syntax.specs.Tree.{Tree, scalar, empty, more, ref, ref_mut, named}
-use Rattle.mir_syntax.specs.Crate.{TypedDef, TypedVariant, TypedFunction, Crate}
-use Rattle.mir_syntax.specs.Shapes.{Shape, shape_of, shapes_from, shapes_of, ◌>>=◌, proj_ty, fields_of, fields_of_struct, variant_ty, variant_of_enum, field_ty}
+use Rattle.mir_syntax.specs.Crate.{TypedDef, TypedFunction, Crate}
+use Rattle.mir_syntax.specs.Shapes.{shapes_from, shapes_of, ◌>>=◌, proj_ty, fields_of, fields_of_struct, variant_ty, variant_of_enum, field_ty}
 use Rattle.mir_text.specs.Grammar.{AllOf}
-use Rattle.mir_text.specs.Names.{Strings, Names, string_at}
+use Rattle.mir_text.specs.Names.{Strings}
 use Rattle.mir_text.specs.NameFaults.{unless, field_names}
 use Rattle.mir_text.specs.TypeText.{def_at}
 use Rattle.mir_text.specs.PlaceText.{variant_at}
 use Rattle.mir_text.specs.TermText.{function_paths, outside_paths}
 use Rattle.mir_round_trip.proofs.Paths.{path_names, Back}
-use Rattle.mir_round_trip.proofs.Types.{crate_paths, PathsBack}
-
--- the shapes without destructors
-abbrev pub plain_shapes : Crate → List Shape
-plain_shapes c = shapes_from [] 0 c.defs
-
--- what the names of a crate's canonical text mean
-abbrev pub names_at : Crate → Strings → Names
-names_at c strings = record {
-  strings = strings;
-  paths = crate_paths c;
-  defs = c.defs;
-  shapes = plain_shapes c;
-  functions = function_paths c.functions;
-  outsides = outside_paths c.outsides;
-}
+use Rattle.mir_round_trip.proofs.Types.{PathsBack}
 
 -- the byte strings of definitions and headers are read back by their numbers
 pub record Kept (c : Crate) (strings : Strings) : Type 0 where

@@ -1,5 +1,6 @@
 -- Constants and operands: the rule that writes one, its text, and back.
-use Rattle.std.proofs.Common.{◌≡◌, ◌<◌, ◌≤◌, ◌+◌, ◌-◌, ◌*◌, ◌^◌, ℕ, suc, Bool, true, false, not, ◌&&◌, ◌==◌, nat_lt, cond, List, [], ◌∷◌, ◌++◌, codes, refl, sym, ap, subst, ◌∙◌, arith, if◌then◌else◌, lit<, lit≤}
+use Rattle.mir_round_trip.specs.Bodies.{IsConst, IsOperand, names_at}
+use Rattle.std.proofs.Common.{◌≡◌, ◌<◌, ◌≤◌, ◌+◌, ◌-◌, ◌^◌, ℕ, Bool, true, false, not, ◌&&◌, ◌==◌, nat_lt, List, [], codes, refl, ap, ◌∙◌, arith, if◌then◌else◌, lit<, lit≤}
 use Rattle.std.proofs.lemmas.Bool.Decides.{nat_tests}
 use Rattle.mir_syntax.specs.declared.types.IntTy.{IntTy}
 use Rattle.mir_syntax.specs.declared.types.IntTy.TheVariants as i
@@ -9,10 +10,9 @@ use Rattle.mir_syntax.specs.declared.body.Operand.{Operand}
 use Rattle.mir_syntax.specs.declared.body.Operand.TheVariants as operand
 use Rattle.mir_syntax.specs.Tree.{Tree}
 use Rattle.mir_syntax.specs.Crate.{Crate}
-use Rattle.mir_text.specs.declared.symbol.Symbol.{Symbol}
 use Rattle.mir_text.specs.declared.symbol.Symbol.TheVariants as s
 use Rattle.mir_text.specs.Words.{word_place}
-use Rattle.mir_text.specs.Numbers.{width, is_signed, half, count, is_negative, size_of, limit, fits, bits_of}
+use Rattle.mir_text.specs.Numbers.{is_signed, half, count, is_negative, size_of, limit, fits, bits_of}
 use Rattle.mir_text.specs.Symbols.{word_token, block_digits}
 use Rattle.mir_text.specs.GrammarPlaces as p
 use Rattle.mir_text.specs.GrammarPlaces.{ValueRule, truth, value_put, OperandRule, operand_put}
@@ -22,11 +22,10 @@ use Rattle.mir_text.specs.NameFaults.{operand_codes}
 use Rattle.mir_text.specs.Nesting.{ValueFits, OperandGood}
 use Rattle.mir_text.specs.TypeText.{piece, const_text}
 use Rattle.mir_text.specs.PlaceText.{operand_text}
-use Rattle.mir_round_trip.proofs.Spelling.{Spelt, after, and_then, alone}
+use Rattle.mir_round_trip.proofs.Spelling.{Spelt, after, alone}
 use Rattle.mir_round_trip.proofs.Atoms.{word_spelt, typed_spelt}
 use Rattle.mir_round_trip.proofs.Literals.{const_word, const_unit, copy_word, move_word}
-use Rattle.mir_round_trip.proofs.Meaning.{names_at}
-use Rattle.mir_round_trip.proofs.Places.{place_rule, IsPlace, place_spelt}
+use Rattle.mir_round_trip.proofs.Places.{place_rule, place_spelt}
 use Rattle.mir_round_trip.proofs.PlacesBack.{Setting, place_back, place_faultless, place_good}
 
 -- ---- the numbers of a type
@@ -45,7 +44,6 @@ halves i.U32 = (refl, lit≤ tt, lit< tt)
 halves i.U64 = (refl, lit≤ tt, lit< tt)
 halves i.U128 = (refl, lit≤ tt, lit< tt)
 halves i.Usize = (refl, lit≤ tt, lit< tt)
-
 
 -- the sign and the size of bits, for a type with a sign or without
 abbrev negative-by : Bool → ℕ → ℕ → Bool
@@ -111,11 +109,6 @@ value_rule (const.Int t n) = p.number (is_negative t n) (size_of t n) t
 value_rule (const.Bool x) = p.boolean x
 value_rule const.Unit = p.unit
 
--- a number is one of its type
-abbrev pub IsConst : Const → Type 0
-IsConst (const.Int t n) = n < count t
-IsConst x = Unit {0}
-
 -- the size of a number whose size isn't above that of its type
 size-small : (t : IntTy) (n : ℕ) → n < count t → size_of t n < 2 ^ 128
 unfolding is_negative size_of
@@ -144,11 +137,6 @@ unfoldable pub operand_rule : Crate → Strings → List Tree → Operand → Op
 operand_rule c strings locals (operand.Copy q) = p.copy (place_rule c strings locals q)
 operand_rule c strings locals (operand.Move q) = p.move (place_rule c strings locals q)
 operand_rule c strings locals (operand.Const x) = p.const (value_rule x)
-
-unfoldable pub IsOperand : Crate → List Tree → Operand → Type 0
-IsOperand c locals (operand.Copy q) = IsPlace c locals q
-IsOperand c locals (operand.Move q) = IsPlace c locals q
-IsOperand c locals (operand.Const x) = IsConst x
 
 pub operand_spelt : (c : Crate) (locals : List Tree) (x : Operand) → IsOperand c locals x → Spelt (operand_text c locals x) (λ strings. operand_put (operand_rule c strings locals x)) []
 unfolding operand_text operand_rule IsOperand piece

@@ -1,5 +1,6 @@
 -- Paths: their names, the rule that writes them, and back.
-use Rattle.std.proofs.Common.{◌≡◌, ℕ, Bool, true, false, ◌==◌, ◌&&◌, List, [], ◌∷◌, ◌++◌, codes, refl, sym, ap, subst, ◌∙◌, arith, append_assoc, if◌then◌else◌, Option, Some, None}
+use Rattle.mir_round_trip.specs.Names.{PathNames, one, more, joined, names_of_path, split, AllNames, IsPath}
+use Rattle.std.proofs.Common.{◌≡◌, ℕ, List, ◌∷◌, ◌++◌, codes, refl, sym, ap, subst, ◌∙◌, append_assoc, Some}
 use Rattle.mir_text.specs.declared.symbol.Symbol.{Symbol}
 use Rattle.mir_text.specs.declared.symbol.Symbol.TheVariants as s
 use Rattle.mir_text.specs.Symbols.{number_in}
@@ -7,31 +8,8 @@ use Rattle.mir_text.specs.Grammar.{AllOf}
 use Rattle.mir_text.specs.GrammarTypes.{PathRule, name, name_in, path_put}
 use Rattle.mir_text.specs.Names.{Strings, string_at, path_bytes, last_name, within, without_last}
 use Rattle.mir_round_trip.proofs.Spelling.{Spelt, after, and_then}
-use Rattle.mir_round_trip.proofs.Atoms.{IsName, name_spelt}
+use Rattle.mir_round_trip.proofs.Atoms.{name_spelt}
 use Rattle.mir_round_trip.proofs.Literals.{colons_sign}
-
--- the names of a path, at least one
-pub data PathNames : Type 0 where
-  one : List ℕ → PathNames
-  more : List ℕ → PathNames → PathNames
-
-abbrev pub joined : PathNames → List ℕ
-joined (one b) = b
-joined (more b p) = b ++ (codes "::" ++ joined p)
-
-abbrev pub names_of_path : PathNames → List (List ℕ)
-names_of_path (one b) = b ∷ []
-names_of_path (more b p) = b ∷ names_of_path p
-
-abbrev in_front : ℕ → PathNames → PathNames
-in_front b (one n) = one (b ∷ n)
-in_front b (more n p) = more (b ∷ n) p
-
--- `::` stands between two names
-abbrev pub split : List ℕ → PathNames
-split [] = one []
-split (b ∷ []) = one (b ∷ [])
-split (b ∷ a ∷ bs) = if (b == 58) && (a == 58) then more [] (split bs) else in_front b (split (a ∷ bs))
 
 abbrev pub path_rule_of : Strings → PathNames → PathRule
 path_rule_of strings (one b) = name (number_in strings b)
@@ -43,14 +21,6 @@ path_rule strings bytes = path_rule_of strings (split bytes)
 
 unfoldable pub path_names : List ℕ → List (List ℕ)
 path_names bytes = names_of_path (split bytes)
-
-abbrev AllNames : PathNames → Type 0
-AllNames (one b) = IsName b
-AllNames (more b p) = IsName b × AllNames p
-
-pub record IsPath (bytes : List ℕ) : Type 0 where
-  pub whole : joined (split bytes) ≡ bytes
-  pub names : AllNames (split bytes)
 
 -- ---- the text of a path
 

@@ -1,35 +1,25 @@
 -- Places: the rule that writes one, its text, and back.
-use Rattle.std.proofs.Common.{◌≡◌, ◌<◌, ◌≤◌, ◌^◌, ℕ, suc, max, Bool, true, false, List, [], ◌∷◌, ◌++◌, map, length, codes, refl, sym, ap, subst, ◌∙◌, arith, append_assoc, decimal, Option, Some, None, is_some, slice_get}
+use Rattle.mir_round_trip.specs.Bodies.{field_type, IsVariant, Path, IsPlace}
+use Rattle.std.proofs.Common.{◌≡◌, ◌≤◌, ℕ, List, [], ◌∷◌, ◌++◌, codes, refl, sym, ap, subst, arith, append_assoc, decimal}
 use Rattle.std.proofs.lemmas.List.{append-nil}
 use Rattle.mir_syntax.specs.declared.body.Proj.{Proj}
 use Rattle.mir_syntax.specs.declared.body.Proj.TheVariants.{Field, Downcast, Deref}
 use Rattle.mir_syntax.specs.declared.body.Place.{Place}
-use Rattle.mir_syntax.specs.Tree.{Tree, named}
+use Rattle.mir_syntax.specs.Tree.{Tree}
 use Rattle.mir_syntax.specs.Crate.{Crate}
-use Rattle.mir_syntax.specs.Shapes.{◌>>=◌, pointee, proj_ty}
-use Rattle.mir_text.specs.declared.symbol.Symbol.{Symbol}
 use Rattle.mir_text.specs.declared.symbol.Symbol.TheVariants as s
 use Rattle.mir_text.specs.Symbols.{number_in}
 use Rattle.mir_text.specs.GrammarPlaces as p
 use Rattle.mir_text.specs.GrammarPlaces.{PlaceRule, place_put}
-use Rattle.mir_text.specs.Names.{Strings, Names, string_at, is_known}
-use Rattle.mir_text.specs.NamedBodies.{Declared, declared_ty, variant_of_ty, place_ty_of, downcast_ty, variant_at_place, or_zero, local_in, projs_named, place_named}
-use Rattle.mir_text.specs.NameFaults.{unless, local_codes, type_codes, place_codes}
-use Rattle.mir_text.specs.Nesting.{type_depth, place_depth, Small, PlaceGood}
-use Rattle.mir_text.specs.TypeText.{piece, def_at, type_text}
+use Rattle.mir_text.specs.Names.{Strings}
+use Rattle.mir_text.specs.TypeText.{piece, type_text}
 use Rattle.mir_text.specs.PlaceText.{local_text, local_ty, type_after, variant_at, variant_name, opening, openings, closing, closings, place_text}
-use Rattle.mir_round_trip.proofs.Spelling.{Clear, Puts, Spelt, after, and_then, alone, bare}
-use Rattle.mir_round_trip.proofs.Atoms.{IsName, name_spelt, number_spelt, local_spelt}
+use Rattle.mir_round_trip.proofs.Spelling.{Spelt, after, and_then, alone, bare}
+use Rattle.mir_round_trip.proofs.Atoms.{name_spelt, number_spelt, local_spelt}
 use Rattle.mir_round_trip.proofs.Literals.{open_sign, close_sign, open_star, as_word, dot_sign, colon_space}
-use Rattle.mir_round_trip.proofs.Paths.{Back}
-use Rattle.mir_round_trip.proofs.Types.{type_rule, Proper, type_spelt, type_known, tree_depth, depth_kept}
-use Rattle.mir_round_trip.proofs.Meaning.{plain_shapes, names_at, Kept, no-codes, met}
+use Rattle.mir_round_trip.proofs.Types.{type_rule, type_spelt}
 
 -- ---- the rule
-
--- a field of a variant, of so many projections
-abbrev pub field_type : Crate → Tree → ℕ → ℕ → Tree
-field_type c t k n = type_after c (type_after c t (Downcast k)) (Field n)
 
 abbrev pub walk : Crate → Strings → PlaceRule → Tree → List Proj → PlaceRule
 walk c strings q t [] = q
@@ -43,44 +33,6 @@ unfoldable pub place_rule : Crate → Strings → List Tree → Place → PlaceR
 place_rule c strings locals q = walk c strings (p.local q.local) (local_ty locals q.local) q.proj
 
 -- ---- places that a text writes
-
--- a type has a variant, which its name names
-pub record IsVariant (c : Crate) (t : Tree) (k : ℕ) : Type 0 where
-  pub def : ℕ
-  pub is : t ≡ named def
-  pub there : def < length c.defs
-  pub one : k < length (def_at c def).variants
-  pub enum : (def_at c def).is_enum ≡ true
-  pub name : IsName (variant_at c def k).name
-  pub found : (strings : Strings) → variant_of_ty (names_at c strings) (variant_at c def k).name (named def) ≡ Some k
-
-abbrev pub Path : Crate → Tree → List Proj → Type 0
-Path c t [] = Unit {0}
-Path c t (Deref ∷ ps) = (pointee t ≡ Some (type_after c t Deref)) × Path c (type_after c t Deref) ps
-Path c t (Field n ∷ ps) =
-    (n ≤ 4294967295) × (proj_ty (plain_shapes c) t (Field n) ≡ Some (type_after c t (Field n))) × Proper c (type_after c t (Field n)) × Path c (type_after c t (Field n)) ps
-Path c t (Downcast k ∷ Field n ∷ ps) =
-    (n ≤ 4294967295) × IsVariant c t k × (proj_ty (plain_shapes c) t (Downcast k) ≡ Some (type_after c t (Downcast k)))
-    × (proj_ty (plain_shapes c) (type_after c t (Downcast k)) (Field n) ≡ Some (field_type c t k n)) × Proper c (field_type c t k n) × Path c (field_type c t k n) ps
-Path c t ps = ⊥
-
--- how deep the rule of a place nests, so many being there before its projections
-abbrev pub path_depth : Crate → Tree → ℕ → List Proj → ℕ
-path_depth c t n [] = n
-path_depth c t n (Deref ∷ ps) = path_depth c (type_after c t Deref) (suc n) ps
-path_depth c t n (Field m ∷ ps) = path_depth c (type_after c t (Field m)) (suc (max n (tree_depth (type_after c t (Field m))))) ps
-path_depth c t n (Downcast k ∷ Field m ∷ ps) = path_depth c (field_type c t k m) (suc (max (suc n) (tree_depth (field_type c t k m)))) ps
-path_depth c t n ps = n
-
--- how deep the rule of a place nests
-unfoldable pub depth_at : Crate → List Tree → Place → ℕ
-depth_at c locals q = path_depth c (local_ty locals q.local) 1 q.proj
-
-pub record IsPlace (c : Crate) (locals : List Tree) (q : Place) : Type 0 where
-  pub there : q.local < length locals
-  pub small : q.local < 2 ^ 32
-  pub path : Path c (local_ty locals q.local) q.proj
-  pub depth : depth_at c locals q ≤ 65
 
 -- ---- its text
 

@@ -1,25 +1,25 @@
 -- What the rule of a place means: the place itself, with no fault.
-use Rattle.std.proofs.Common.{◌≡◌, ◌<◌, ◌≤◌, ℕ, suc, max, Bool, true, false, List, [], ◌∷◌, ◌++◌, length, refl, sym, ap, subst, ◌∙◌, arith, append_assoc, Option, Some, None, is_some}
+use Rattle.std.proofs.Common.{◌≡◌, ◌<◌, ◌≤◌, ℕ, suc, max, List, [], ◌∷◌, ◌++◌, length, refl, sym, ap, subst, ◌∙◌, append_assoc, Option, Some, is_some}
 use Rattle.std.proofs.lemmas.List.{append-nil}
 use Rattle.mir_syntax.specs.declared.body.Proj.{Proj}
 use Rattle.mir_syntax.specs.declared.body.Proj.TheVariants.{Field, Downcast, Deref}
 use Rattle.mir_syntax.specs.declared.body.Place.{Place}
-use Rattle.mir_syntax.specs.Tree.{Tree, named}
+use Rattle.mir_syntax.specs.Tree.{Tree}
 use Rattle.mir_syntax.specs.Crate.{Crate}
 use Rattle.mir_syntax.specs.Shapes.{◌>>=◌, pointee, proj_ty}
 use Rattle.mir_text.specs.Symbols.{number_in}
 use Rattle.mir_text.specs.GrammarPlaces as p
 use Rattle.mir_text.specs.GrammarPlaces.{PlaceRule}
-use Rattle.mir_text.specs.GrammarTypes.{TypeRule}
-use Rattle.mir_text.specs.Names.{Strings, Names, string_at, is_known}
+use Rattle.mir_text.specs.Names.{Strings, string_at}
 use Rattle.mir_text.specs.NamedBodies.{Declared, declared_ty, variant_of_ty, place_ty_of, downcast_ty, variant_at_place, or_zero, local_in, projs_named, place_named}
 use Rattle.mir_text.specs.NameFaults.{unless, type_codes, place_codes}
-use Rattle.mir_text.specs.Nesting.{type_depth, place_depth, Small, PlaceGood}
+use Rattle.mir_text.specs.Nesting.{place_depth, Small, PlaceGood}
 use Rattle.mir_text.specs.PlaceText.{local_ty, type_after, variant_name, variant_at}
-use Rattle.mir_round_trip.proofs.Paths.{Back}
-use Rattle.mir_round_trip.proofs.Types.{type_rule, Proper, type_known, tree_depth, depth_kept}
-use Rattle.mir_round_trip.proofs.Meaning.{plain_shapes, names_at, Kept, no-codes, met}
-use Rattle.mir_round_trip.proofs.Places.{field_type, walk, place_rule, IsVariant, variant-text, Path, path_depth, depth_at, IsPlace}
+use Rattle.mir_round_trip.specs.Names.{Proper}
+use Rattle.mir_round_trip.specs.Bodies.{plain_shapes, names_at, field_type, IsVariant, Path, path_depth, depth_at, IsPlace}
+use Rattle.mir_round_trip.proofs.Types.{type_rule, type_known, depth_kept}
+use Rattle.mir_round_trip.proofs.Meaning.{Kept, no-codes, met}
+use Rattle.mir_round_trip.proofs.Places.{walk, place_rule, variant-text}
 
 -- what a rule of a place means
 pub record IsAt (c : Crate) (strings : Strings) (L : Declared) (q : PlaceRule) (t : Tree) (x : ℕ) (ps : List Proj) : Type 0 where
@@ -104,7 +104,7 @@ walk-at c strings kept L q t x before (Downcast k ∷ Field n ∷ ps) h a =
     let u = field_type c t k n in
     ends-as c strings L _ x _ _ (append_assoc before (Downcast k ∷ Field n ∷ []) ps)
     (walk-at c strings kept L (p.variant_field q (number_in strings (variant_name c t k)) n (type_rule c strings u)) u x (before ++ Downcast k ∷ Field n ∷ []) ps h.5
-      (at-variant c strings kept L q t u (type_after c t (Downcast k)) k n x before h.0 h.1 h.2 h.3 h.4 a))
+    (at-variant c strings kept L q t u (type_after c t (Downcast k)) k n x before h.0 h.1 h.2 h.3 h.4 a))
 walk-at c strings kept L q t x before ps h a = absurd h
 
 -- ---- whole places

@@ -1,56 +1,28 @@
 -- A crate that a text writes, no two of whose paths clash, is read back from its canonical text.
-use Rattle.std.proofs.Common.{◌≡◌, ℕ, zero, suc, Bool, true, false, not, ◌&&◌, ◌||◌, List, [], ◌∷◌, ◌++◌, map, length, codes, refl, sym, ap, subst, ◌∙◌, arith, append_assoc, bytes_eq}
-use Rattle.std.proofs.lemmas.List.{append-nil}
+use Rattle.mir_round_trip.specs.Names.{IsPath}
+use Rattle.mir_round_trip.specs.Bodies.{names_at, IsFn}
+use Rattle.mir_round_trip.specs.Readable.{unlined, option_paths, def_defined, outside_defined, fn_defined, crate_defined, AreApart, Readable, IsDefinition, IsOutside, AreWritten}
+use Rattle.std.proofs.Common.{◌≡◌, ℕ, Bool, true, false, not, ◌||◌, List, [], ◌∷◌, ◌++◌, map, codes, refl, sym, ap, subst, ◌∙◌}
 use Rattle.mir_syntax.specs.Crate.{TypedVariant, TypedDef, TypedOutside, TypedFunction, Crate}
 use Rattle.mir_text.specs.Symbols.{number_in, strings_of}
-use Rattle.mir_text.specs.Grammar.{AllOf, items_of}
+use Rattle.mir_text.specs.Grammar.{AllOf}
 use Rattle.mir_text.specs.GrammarItems.{ItemRule, item_put, FileRule}
 use Rattle.mir_text.specs.Names.{Strings, Names, string_at, path_bytes}
-use Rattle.mir_text.specs.PartLines.{LinesFrom, past, LinedItem, item_lined, file_lined}
-use Rattle.mir_text.specs.NameFaults.{Fault, unless, on_line, Defined, variant_paths, defined_by, clashes, any_clashes, path_faults, name_faults}
+use Rattle.mir_text.specs.PartLines.{LinesFrom, past, item_lined, file_lined}
+use Rattle.mir_text.specs.NameFaults.{Defined, defined_by, clashes, any_clashes, path_faults, name_faults}
 use Rattle.mir_text.specs.Reads.{Derivation, Reads, items_in}
 use Rattle.mir_text.specs.Text.{text}
-use Rattle.mir_round_trip.proofs.Paths.{IsPath, path_rule, path_names, Back, path_back}
-use Rattle.mir_round_trip.proofs.Meaning.{names_at, Kept, no-codes, met}
-use Rattle.mir_round_trip.proofs.Lists.{items_rule, items-map, names_onto}
+use Rattle.mir_round_trip.proofs.Paths.{path_rule, path_names, Back, path_back}
+use Rattle.mir_round_trip.proofs.Meaning.{Kept, no-codes, met}
+use Rattle.mir_round_trip.proofs.Lists.{items-map, names_onto}
 use Rattle.mir_round_trip.proofs.Rvalues.{two-same}
 use Rattle.mir_round_trip.proofs.Blocks.{all-left, all-right, line-none}
-use Rattle.mir_round_trip.proofs.Functions.{fn_rule, fn_names, IsFn}
-use Rattle.mir_round_trip.proofs.Definitions.{variant_rule, shape_rule, def_item, outside_item, variant_bytes, shape_names, def_names, IsShape, IsDefinition, IsOutside}
-use Rattle.mir_round_trip.proofs.Crates.{fn_item, file_rule, AreWritten, Cut, crate_cut, Parts, parts_kept, crate_kept}
+use Rattle.mir_round_trip.proofs.Functions.{fn_rule, fn_names}
+use Rattle.mir_round_trip.proofs.Definitions.{variant_rule, shape_rule, def_item, outside_item, variant_bytes, shape_names, def_names}
+use Rattle.mir_round_trip.proofs.Crates.{fn_item, file_rule, crate_cut, Parts, parts_kept, crate_kept}
 use Rattle.mir_round_trip.proofs.CratesBack.{names-file, crate-back, file-good, items-faultless, file-faultless}
 
 -- ---- what a crate defines
-
--- without its line
-abbrev pub unlined : Defined → Defined
-unlined a = record { line = 0; is_type = a.is_type; is_struct = a.is_struct; path = a.path; variants = a.variants }
-
-abbrev pub option_paths : List ℕ → Bool → List TypedVariant → List (List ℕ)
-option_paths path true vs = map (λ v. path ++ codes "::" ++ v.name) vs
-option_paths path false vs = []
-
-abbrev pub def_defined : TypedDef → Defined
-def_defined d = record { line = 0; is_type = true; is_struct = not d.is_enum; path = d.path; variants = option_paths d.path d.is_enum d.variants }
-
-abbrev pub outside_defined : TypedOutside → Defined
-outside_defined o = record { line = 0; is_type = false; is_struct = false; path = o.path; variants = [] }
-
-abbrev pub fn_defined : TypedFunction → Defined
-fn_defined f = record { line = 0; is_type = false; is_struct = false; path = f.path; variants = [] }
-
-abbrev pub crate_defined : Crate → List Defined
-crate_defined c = map def_defined c.defs ++ (map outside_defined c.outsides ++ map fn_defined c.functions)
-
--- none clashes with one that stands before it, some standing before all
-abbrev pub AreApart : List Defined → List Defined → Type 0
-AreApart before [] = Unit {0}
-AreApart before (a ∷ others) = (any_clashes a before ≡ false) × AreApart (a ∷ before) others
-
--- a crate that a text writes
-pub record Readable (c : Crate) : Type 0 where
-  pub written : AreWritten c
-  pub apart : AreApart [] (crate_defined c)
 
 -- ---- no path is defined twice
 
@@ -103,7 +75,7 @@ shape-defines c strings path true vs is p h lines =
     let path-back = path_back strings path is p in
     as-defined true false _ _ _ _ path-back
     (items-map (λ v. path_bytes strings (path_rule strings path) ++ codes "::" ++ string_at strings v.0) (variant_rule c strings) vs
-      ∙ ap (λ l. map (λ v. l ++ codes "::" ++ string_at strings (number_in strings v.name)) vs) path-back ∙ behind strings path vs h)
+    ∙ ap (λ l. map (λ v. l ++ codes "::" ++ string_at strings (number_in strings v.name)) vs) path-back ∙ behind strings path vs h)
 shape-defines c strings path false vs is p h lines = as-defined true true _ _ [] [] (path_back strings path is p) refl
 
 def-defines : (c : Crate) (strings : Strings) (d : TypedDef) → IsDefinition c d → AllOf (Back strings) (def_names d) → Defines (names_at c strings) (def_item c strings d) (def_defined d)
@@ -135,7 +107,7 @@ file-defines c strings h parts =
     define-append (names_at c strings) (map (def_item c strings) c.defs) (map (outside_item c strings) c.outsides ++ map (fn_item c strings) c.functions) (map def_defined c.defs) (map outside_defined c.outsides ++ map fn_defined c.functions)
     (defs-define c strings c.defs h.defs parts.defs)
     (define-append (names_at c strings) (map (outside_item c strings) c.outsides) (map (fn_item c strings) c.functions) (map outside_defined c.outsides) (map fn_defined c.functions)
-      (outsides-define c strings c.outsides h.outsides parts.outsides) (functions-define c strings c.functions h.functions parts.functions))
+    (outsides-define c strings c.outsides h.outsides parts.outsides) (functions-define c strings c.functions h.functions parts.functions))
 
 -- ---- the whole
 

@@ -1,5 +1,7 @@
 -- Rvalues: the rule that writes one, its text, and back.
-use Rattle.std.proofs.Common.{◌≡◌, ◌<◌, ◌≤◌, ℕ, suc, Bool, true, false, List, [], ◌∷◌, ◌++◌, length, codes, refl, sym, ap, subst, ◌∙◌, arith, append_assoc, Option, Some, None}
+use Rattle.mir_round_trip.specs.Names.{IsTy}
+use Rattle.mir_round_trip.specs.Bodies.{AreParts, IsRvalue, names_at, IsOperand}
+use Rattle.std.proofs.Common.{◌≡◌, ◌≤◌, true, false, List, [], ◌∷◌, codes, refl, sym, ap, subst, ◌∙◌}
 use Rattle.mir_syntax.specs.declared.body.BinOp.{BinOp}
 use Rattle.mir_syntax.specs.declared.body.BinOp.TheVariants as bin
 use Rattle.mir_syntax.specs.declared.body.OverOp.{OverOp}
@@ -15,12 +17,12 @@ use Rattle.mir_text.specs.declared.symbol.Symbol.{Symbol}
 use Rattle.mir_text.specs.declared.symbol.Symbol.TheVariants as s
 use Rattle.mir_text.specs.Words.{word_place}
 use Rattle.mir_text.specs.Symbols.{word_token, block_digits}
-use Rattle.mir_text.specs.Grammar.{AllOf, items_put}
+use Rattle.mir_text.specs.Grammar.{items_put}
 use Rattle.mir_text.specs.GrammarPlaces.{operand_put}
 use Rattle.mir_text.specs.GrammarStatements as r
 use Rattle.mir_text.specs.GrammarStatements.{RvalueRule, pair_put, rvalue_put}
 use Rattle.mir_text.specs.Names.{Strings}
-use Rattle.mir_text.specs.NamedBodies.{Declared, or_first, build_named, operand_named, parts_named, rvalue_named}
+use Rattle.mir_text.specs.NamedBodies.{Declared, or_first, build_named, rvalue_named}
 use Rattle.mir_text.specs.NameFaults.{operand_codes, rvalue_codes}
 use Rattle.mir_text.specs.Nesting.{OperandGood, FirstGood, TypeGood, RvalueGood}
 use Rattle.mir_text.specs.TypeText.{piece, more_items, def_at}
@@ -29,13 +31,13 @@ use Rattle.mir_text.specs.StatementText.{binary_name, over_name, unary_name, tup
 use Rattle.mir_round_trip.proofs.Spelling.{Spelt, after, and_then, alone, bare, put_as}
 use Rattle.mir_round_trip.proofs.Atoms.{word_spelt}
 use Rattle.mir_round_trip.proofs.Literals.{open_sign, close_sign, comma_space, comma_close, as_word, cast_end, ampersand_sign, ampersand_mut, discriminant_open}
-use Rattle.mir_round_trip.proofs.Types.{type_rule, Proper, type_spelt, type_back, tree_depth, depth_kept}
-use Rattle.mir_round_trip.proofs.Meaning.{names_at, no-codes}
-use Rattle.mir_round_trip.proofs.Places.{place_rule, IsPlace, place_spelt}
+use Rattle.mir_round_trip.proofs.Types.{type_rule, type_spelt, type_back, depth_kept}
+use Rattle.mir_round_trip.proofs.Meaning.{no-codes}
+use Rattle.mir_round_trip.proofs.Places.{place_rule, place_spelt}
 use Rattle.mir_round_trip.proofs.PlacesBack.{Setting, type_faultless, place_back, place_faultless, place_good}
-use Rattle.mir_round_trip.proofs.Operands.{operand_rule, IsOperand, operand_spelt, operand_back, operand_faultless, operand_good}
-use Rattle.mir_round_trip.proofs.Lists.{items_rule, tail_put, join-put, join-tail, more-front, more_spelt, items-all, each-item-none}
-use Rattle.mir_round_trip.proofs.Builds.{parts_rule, built_path, IsBuild, operands-spelt, build_spelt}
+use Rattle.mir_round_trip.proofs.Operands.{operand_rule, operand_spelt, operand_back, operand_faultless, operand_good}
+use Rattle.mir_round_trip.proofs.Lists.{items_rule, tail_put, join-put, join-tail, more_spelt, items-all, each-item-none}
+use Rattle.mir_round_trip.proofs.Builds.{parts_rule, built_path, operands-spelt, build_spelt}
 use Rattle.mir_round_trip.proofs.BuildsBack.{build-named, build-parts, build-faultless, operands-back, operands-faultless, operands-good, parts-faultless, parts-good}
 
 -- ---- operators
@@ -94,27 +96,6 @@ rvalue_rule c strings locals (C.build d k xs) =
     r.build (built_path strings (def_at c d).is_enum (def_at c d).path (variant_at c d k).name) (parts_rule c strings locals (variant_at c d k).form (variant_at c d k).fields xs)
 
 -- ---- rvalues that a text writes
-
--- a type that nests no deeper than a text may
-pub record IsTy (c : Crate) (t : Tree) : Type 0 where
-  pub proper : Proper c t
-  pub depth : tree_depth t ≤ 65
-
-abbrev pub AreParts : Crate → List Tree → List Operand → Type 0
-AreParts c locals [] = ⊥
-AreParts c locals (x ∷ xs) = IsOperand c locals x × AllOf (IsOperand c locals) xs
-
-unfoldable pub IsRvalue : Crate → List Tree → TypedRvalue → Type 0
-IsRvalue c locals (C.«use» x) = IsOperand c locals x
-IsRvalue c locals (C.binary op x y) = IsOperand c locals x × IsOperand c locals y
-IsRvalue c locals (C.overflow op x y) = IsOperand c locals x × IsOperand c locals y
-IsRvalue c locals (C.unary op x) = IsOperand c locals x
-IsRvalue c locals (C.cast x t) = IsOperand c locals x × IsTy c t
-IsRvalue c locals (C.ref q) = IsPlace c locals q
-IsRvalue c locals (C.ref_mut q) = IsPlace c locals q
-IsRvalue c locals (C.discriminant q) = IsPlace c locals q
-IsRvalue c locals (C.tuple xs) = AreParts c locals xs
-IsRvalue c locals (C.build d k xs) = IsBuild c locals d k xs
 
 -- ---- its text
 

@@ -1,20 +1,15 @@
 -- Texts that pieces spell: the pieces stand together before a byte that is no name's, their symbols are known, and byte strings stand among
 -- them.
-use Rattle.std.proofs.Common.{◌≡◌, ℕ, Bool, true, false, List, [], ◌∷◌, ◌++◌, codes, refl, sym, ap, subst, ◌∙◌, arith, append_assoc, inl, inr}
+use Rattle.mir_round_trip.specs.Names.{Clear}
+use Rattle.std.proofs.Common.{◌≡◌, ℕ, List, [], ◌∷◌, ◌++◌, codes, refl, sym, ap, subst, ◌∙◌, append_assoc, inl, inr}
 use Rattle.std.proofs.lemmas.List.{append-nil}
 use Rattle.mir_text.specs.declared.symbol.Symbol.{Symbol}
-use Rattle.mir_text.specs.declared.symbol.Symbol.TheVariants as s
-use Rattle.mir_text.specs.Bytes.{begins, is_name_byte}
 use Rattle.mir_text.specs.Pieces.{Piece, text_of, Stand}
-use Rattle.mir_text.specs.Symbols.{number_in, token_of}
+use Rattle.mir_text.specs.Symbols.{number_in}
 use Rattle.mir_text.specs.Grammar.{AllOf}
 use Rattle.mir_text.specs.Names.{Strings}
 use Rattle.mir_text.proofs.PiecesStand.{text_of-append, stand-append}
-use Rattle.mir_round_trip.specs.Known.{Carries, Holds, put_known, known_symbols}
-
--- what follows begins with no byte of a name
-abbrev pub Clear : List ℕ → Type 0
-Clear left = begins is_name_byte left ≡ false
+use Rattle.mir_round_trip.specs.Known.{Holds, known_symbols}
 
 -- the grammar's own names that a canonical text has stand at their numbers
 pub record Grounded (strings : Strings) : Type 0 where

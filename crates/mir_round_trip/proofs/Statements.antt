@@ -1,9 +1,9 @@
 -- Statements: the rule that writes one, its text, and back.
-use Rattle.std.proofs.Common.{◌≡◌, ◌<◌, ◌≤◌, ◌^◌, ℕ, suc, Bool, true, false, List, [], ◌∷◌, ◌++◌, map, length, codes, refl, sym, ap, subst, ◌∙◌, arith, decimal, Option, Some, None, is_some}
+use Rattle.mir_round_trip.specs.Bodies.{IsLocal, IsStmt, names_at}
+use Rattle.std.proofs.Common.{◌≡◌, ◌≤◌, ℕ, List, [], ◌∷◌, ◌++◌, map, refl, ap, arith, decimal, is_some}
 use Rattle.mir_syntax.specs.Tree.{Tree}
 use Rattle.mir_syntax.specs.Crate as C
 use Rattle.mir_syntax.specs.Crate.{Crate, TypedStmt}
-use Rattle.mir_text.specs.declared.symbol.Symbol.{Symbol}
 use Rattle.mir_text.specs.declared.symbol.Symbol.TheVariants as s
 use Rattle.mir_text.specs.Grammar.{AllOf, each_put}
 use Rattle.mir_text.specs.GrammarStatements as r
@@ -11,19 +11,18 @@ use Rattle.mir_text.specs.GrammarStatements.{StmtRule, stmt_put}
 use Rattle.mir_text.specs.GrammarTerms.{ended_put}
 use Rattle.mir_text.specs.Names.{Strings}
 use Rattle.mir_text.specs.NamedBodies.{Declared, stmt_named, stmts_named}
-use Rattle.mir_text.specs.NameFaults.{unless, local_codes, stmt_codes}
+use Rattle.mir_text.specs.NameFaults.{local_codes, stmt_codes}
 use Rattle.mir_text.specs.Nesting.{StmtGood}
 use Rattle.mir_text.specs.TypeText.{piece}
-use Rattle.mir_text.specs.PlaceText.{local_ty}
 use Rattle.mir_text.specs.StatementText.{stmt_text, stmt_line, stmts_text}
-use Rattle.mir_round_trip.proofs.Spelling.{Clear, Spelt, after, and_then, alone, none, all-map}
+use Rattle.mir_round_trip.proofs.Spelling.{Spelt, after, and_then, alone, none}
 use Rattle.mir_round_trip.proofs.Atoms.{number_spelt, local_spelt}
 use Rattle.mir_round_trip.proofs.Literals.{close_sign, discriminant_open, equals_sign, live_open, dead_open, close_equals, eight_spaces, end_of_line}
-use Rattle.mir_round_trip.proofs.Meaning.{names_at, no-codes, met}
-use Rattle.mir_round_trip.proofs.Places.{place_rule, IsPlace, place_spelt}
+use Rattle.mir_round_trip.proofs.Meaning.{no-codes, met}
+use Rattle.mir_round_trip.proofs.Places.{place_rule, place_spelt}
 use Rattle.mir_round_trip.proofs.PlacesBack.{Setting, place_back, place_faultless, place_good}
 use Rattle.mir_round_trip.proofs.Lists.{Front}
-use Rattle.mir_round_trip.proofs.Rvalues.{rvalue_rule, IsRvalue, rvalue_spelt, two-same, rvalue_back, rvalue_faultless, rvalue_good}
+use Rattle.mir_round_trip.proofs.Rvalues.{rvalue_rule, rvalue_spelt, two-same, rvalue_back, rvalue_faultless, rvalue_good}
 
 unfoldable pub stmt_rule : Crate → Strings → List Tree → TypedStmt → StmtRule
 stmt_rule c strings locals (C.assign q x) = r.assign (place_rule c strings locals q) (rvalue_rule c strings locals x)
@@ -32,16 +31,6 @@ stmt_rule c strings locals (C.storage_dead x) = r.dead x
 stmt_rule c strings locals (C.set_discriminant q k) = r.set (place_rule c strings locals q) k
 
 -- ---- statements that a text writes
-
-pub record IsLocal (locals : List Tree) (x : ℕ) : Type 0 where
-  pub there : x < length locals
-  pub small : x < 2 ^ 32
-
-unfoldable pub IsStmt : Crate → List Tree → TypedStmt → Type 0
-IsStmt c locals (C.assign q x) = IsPlace c locals q × IsRvalue c locals x
-IsStmt c locals (C.storage_live x) = IsLocal locals x
-IsStmt c locals (C.storage_dead x) = IsLocal locals x
-IsStmt c locals (C.set_discriminant q k) = IsPlace c locals q × (k ≤ 4294967295)
 
 -- ---- its text
 

@@ -1,41 +1,30 @@
 -- Terminators: the rule that writes one, its text, and back.
-use Rattle.std.proofs.Common.{◌≡◌, ◌<◌, ◌≤◌, ◌^◌, ℕ, zero, suc, Bool, true, false, List, [], ◌∷◌, ◌++◌, map, length, get_or, codes, refl, sym, ap, subst, ◌∙◌, arith, append_assoc, decimal, Option, Some, None, is_some}
+use Rattle.mir_round_trip.specs.Bodies.{IsArm, IsTerm, IsOperand}
+use Rattle.std.proofs.Common.{◌≡◌, ◌<◌, ◌^◌, ℕ, Bool, true, false, List, [], ◌∷◌, ◌++◌, map, codes, refl, sym, ap, subst, append_assoc, decimal}
 use Rattle.mir_syntax.specs.declared.body.Operand.{Operand}
-use Rattle.mir_syntax.specs.declared.body.Callee.{Callee}
-use Rattle.mir_syntax.specs.declared.body.Callee.TheVariants as callee
 use Rattle.mir_syntax.specs.declared.body.Arm.{Arm}
 use Rattle.mir_syntax.specs.declared.body.Term.{Term}
 use Rattle.mir_syntax.specs.declared.body.Term.TheVariants as term
 use Rattle.mir_syntax.specs.Tree.{Tree}
 use Rattle.mir_syntax.specs.Crate.{Crate}
-use Rattle.mir_text.specs.declared.symbol.Symbol.{Symbol}
 use Rattle.mir_text.specs.declared.symbol.Symbol.TheVariants as s
-use Rattle.mir_text.specs.Words.{word_place, place_in}
-use Rattle.mir_text.specs.Pieces.{IsContent}
+use Rattle.mir_text.specs.Words.{word_place}
 use Rattle.mir_text.specs.Symbols.{word_token, block_digits, number_in, success_name}
-use Rattle.mir_text.specs.Grammar.{AllOf, AllItems, each_put}
-use Rattle.mir_text.specs.GrammarPlaces.{OperandRule, operand_put}
+use Rattle.mir_text.specs.Grammar.{AllOf, each_put}
 use Rattle.mir_text.specs.GrammarTerms as g
 use Rattle.mir_text.specs.GrammarTerms.{ArmRule, TermRule, arm_put, goes_put, expected_put, value_operand_put, term_put}
-use Rattle.mir_text.specs.Names.{Strings, string_at, path_bytes}
-use Rattle.mir_text.specs.NamedBodies.{Declared, operand_named, function_or, called_by, or_first_function, arm_named, term_named}
-use Rattle.mir_text.specs.NameFaults.{unless, concat, each, is_among, operand_codes, target_codes, call_codes, arm_codes, term_codes}
-use Rattle.mir_text.specs.Nesting.{OperandGood, TermGood}
+use Rattle.mir_text.specs.Names.{Strings}
 use Rattle.mir_text.specs.TypeText.{piece, more_items}
 use Rattle.mir_text.specs.PlaceText.{operand_text}
-use Rattle.mir_text.specs.TermText.{block_name, function_paths, outside_paths, callee_path, return_text, success_text, arms_text, expected_text, term_text}
-use Rattle.mir_round_trip.proofs.Spelling.{Clear, Puts, Spelt, after, and_then, alone, none, bare, put_as, all-map}
+use Rattle.mir_text.specs.TermText.{block_name, callee_path, return_text, success_text, arms_text, expected_text, term_text}
+use Rattle.mir_round_trip.proofs.Spelling.{Puts, Spelt, after, and_then, alone, bare}
 use Rattle.mir_round_trip.proofs.Atoms.{number_spelt, word_spelt, block_spelt, string_spelt}
 use Rattle.mir_round_trip.proofs.Literals.{open_sign, close_sign, comma_space, colon_space, equals_sign, return_arrow, success_arrow, unwind_end, goto_arrow, switch_open, close_arrow, otherwise_colon, bracket, drop_open, assert_open, not_sign}
-use Rattle.mir_round_trip.proofs.Paths.{IsPath, path_rule, path_names, path_spelt, Back, path_back}
-use Rattle.mir_round_trip.proofs.Meaning.{names_at, Kept, no-codes, met}
-use Rattle.mir_round_trip.proofs.Places.{place_rule, IsPlace, place_spelt}
-use Rattle.mir_round_trip.proofs.PlacesBack.{Setting, place_back, place_faultless, place_good}
-use Rattle.mir_round_trip.proofs.Operands.{operand_rule, IsOperand, operand_spelt, operand_back, operand_faultless, operand_good}
-use Rattle.mir_round_trip.proofs.Lists.{Front, items_rule, more-front, items-all, each-item-none, concat-none, map-map, all-back, all-of-map}
+use Rattle.mir_round_trip.proofs.Paths.{path_rule, path_spelt}
+use Rattle.mir_round_trip.proofs.Places.{place_rule, place_spelt}
+use Rattle.mir_round_trip.proofs.Operands.{operand_rule, operand_spelt}
+use Rattle.mir_round_trip.proofs.Lists.{Front, items_rule, more-front}
 use Rattle.mir_round_trip.proofs.Builds.{operand-list}
-use Rattle.mir_round_trip.proofs.BuildsBack.{operands-back, operands-faultless, operands-good}
-use Rattle.mir_round_trip.proofs.Rvalues.{two-same}
 
 -- ---- the rule
 
@@ -59,35 +48,6 @@ term_names (term.Assert x expected message xs b) = message ∷ []
 term_names t = []
 
 -- ---- terminators that a text writes
-
--- one of so many blocks
-pub record IsTarget (n b : ℕ) : Type 0 where
-  pub there : b < n
-  pub small : b < 2 ^ 32
-
-pub record IsArm (n : ℕ) (a : Arm) : Type 0 where
-  pub value : a.value < 2 ^ 128
-  pub block : IsTarget n a.block
-
--- a number is that of a function or an outside function, which its path names
-abbrev pub IsFunction : Crate → Callee → Type 0
-IsFunction c (callee.Local f) = (f.0 < length (function_paths c.functions)) × (place_in (function_paths c.functions) (callee_path c (callee.Local f)) ≡ Some f.0)
-IsFunction c (callee.Outside o) =
-    (o.0 < length (outside_paths c.outsides)) × (place_in (function_paths c.functions) (callee_path c (callee.Outside o)) ≡ None)
-    × (place_in (outside_paths c.outsides) (callee_path c (callee.Outside o)) ≡ Some o.0)
-
-pub record IsCallee (c : Crate) (f : Callee) : Type 0 where
-  pub path : IsPath (callee_path c f)
-  pub is : IsFunction c f
-
-unfoldable pub IsTerm : Crate → List Tree → ℕ → Term → Type 0
-IsTerm c locals n (term.Goto b) = IsTarget n b
-IsTerm c locals n (term.Switch x arms b) = IsOperand c locals x × AllOf (IsArm n) arms × IsTarget n b
-IsTerm c locals n term.Return = Unit {0}
-IsTerm c locals n term.Unreachable = Unit {0}
-IsTerm c locals n (term.Drop q b) = IsPlace c locals q × IsTarget n b
-IsTerm c locals n (term.Call q f xs b) = IsPlace c locals q × IsCallee c f × AllOf (IsOperand c locals) xs × IsTarget n b
-IsTerm c locals n (term.Assert x expected message xs b) = IsOperand c locals x × IsContent false message × AllOf (IsOperand c locals) xs × IsTarget n b
 
 -- ---- its text
 

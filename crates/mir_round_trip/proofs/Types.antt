@@ -1,11 +1,12 @@
 -- Types: the rule that writes one, its text, and back.
-use Rattle.std.proofs.Common.{◌≡◌, ◌<◌, ◌≤◌, ℕ, suc, max, Bool, true, false, ◌&&◌, List, [], ◌∷◌, ◌++◌, map, length, codes, refl, sym, ap, subst, ◌∙◌, arith, Option, Some, None, is_some, slice_get}
+use Rattle.mir_round_trip.specs.Names.{crate_paths, IsDef, Proper, AreProper, tree_depth, parts_depth, Clear}
+use Rattle.std.proofs.Common.{◌≡◌, ◌<◌, ℕ, suc, max, Bool, true, false, ◌&&◌, List, [], ◌∷◌, ◌++◌, length, codes, refl, sym, ap, ◌∙◌, arith, Some, is_some}
 use Rattle.mir_syntax.specs.declared.types.IntTy.{IntTy}
 use Rattle.mir_syntax.specs.declared.types.IntTy.TheVariants as i
 use Rattle.mir_syntax.specs.declared.types.ScalarTy.{ScalarTy}
 use Rattle.mir_syntax.specs.declared.types.ScalarTy.TheVariants as scalar_ty
 use Rattle.mir_syntax.specs.Tree.{Tree, scalar, empty, more, ref, ref_mut, named}
-use Rattle.mir_syntax.specs.Crate.{TypedDef, Crate}
+use Rattle.mir_syntax.specs.Crate.{Crate}
 use Rattle.mir_text.specs.declared.symbol.Symbol.{Symbol}
 use Rattle.mir_text.specs.declared.symbol.Symbol.TheVariants as s
 use Rattle.mir_text.specs.Words.{word_place, place_in}
@@ -16,10 +17,10 @@ use Rattle.mir_text.specs.GrammarTypes.{PathRule, TypeRule, type_put, TypesRule,
 use Rattle.mir_text.specs.Names.{Strings, path_bytes, named_or, type_named, types_named, is_known, are_known}
 use Rattle.mir_text.specs.Nesting.{type_depth, types_depth}
 use Rattle.mir_text.specs.TypeText.{piece, int_name, scalar_text, def_at, type_text, rest_text, parts_text}
-use Rattle.mir_round_trip.proofs.Spelling.{Clear, Grounded, Spelt, after, and_then, alone, bare, put_as}
+use Rattle.mir_round_trip.proofs.Spelling.{Spelt, after, and_then, alone, bare, put_as}
 use Rattle.mir_round_trip.proofs.Atoms.{word_spelt}
 use Rattle.mir_round_trip.proofs.Literals.{open_sign, close_sign, unit, ampersand_sign, ampersand_mut, comma_space, comma_close}
-use Rattle.mir_round_trip.proofs.Paths.{IsPath, path_rule, path_names, path_spelt, Back, path_back}
+use Rattle.mir_round_trip.proofs.Paths.{path_rule, path_names, path_spelt, Back, path_back}
 
 -- ---- the rule
 
@@ -48,30 +49,6 @@ unfoldable mutual
   types_rule c strings u = t.end
 
 -- ---- types that a text writes
-
-abbrev pub crate_paths : Crate → List (List ℕ)
-crate_paths c = map (λ d. d.path) c.defs
-
--- a number is that of a struct or enum, which its path names
-pub record IsDef (c : Crate) (d : ℕ) : Type 0 where
-  pub there : d < length c.defs
-  pub path : IsPath (def_at c d).path
-  pub place : place_in (crate_paths c) (def_at c d).path ≡ Some d
-
-unfoldable mutual
-  pub Proper : Crate → Tree → Type 0
-  Proper c (scalar x) = Unit {0}
-  Proper c empty = Unit {0}
-  Proper c (more u us) = Proper c u × AreProper c us
-  Proper c (ref u) = Proper c u
-  Proper c (ref_mut u) = Proper c u
-  Proper c (named d) = IsDef c d
-
-  -- the tuple of proper types
-  pub AreProper : Crate → Tree → Type 0
-  AreProper c (more u us) = Proper c u × AreProper c us
-  AreProper c empty = Unit {0}
-  AreProper c u = ⊥
 
 -- ---- its text
 
@@ -128,6 +105,7 @@ rest-clear c us left = refl
 
 mutual
   unfolding type_text type_rule Proper piece rest_text types_rule AreProper parts_text
+
   pub type_spelt : (c : Crate) (u : Tree) → Proper c u → Spelt (type_text c u) (λ strings. type_put (type_rule c strings u)) []
   type_spelt c (scalar x) h = scalar-spelt x
   type_spelt c empty h = alone unit
@@ -166,6 +144,7 @@ def-place c strings d back h = ap (place_in (crate_paths c)) (path_back strings 
 
 mutual
   unfolding type_rule Proper types_rule AreProper
+
   pub type_back : (c : Crate) (strings : Strings) → PathsBack c strings → (u : Tree) → Proper c u → type_named strings (crate_paths c) (type_rule c strings u) ≡ u
   type_back c strings back (scalar scalar_ty.Bool) h = refl
   type_back c strings back (scalar (scalar_ty.Int n)) h = refl
@@ -194,6 +173,7 @@ join-known strings paths u (t.more v us) h k = both-true _ _ h k
 
 mutual
   unfolding type_rule Proper types_rule AreProper
+
   pub type_known : (c : Crate) (strings : Strings) → PathsBack c strings → (u : Tree) → Proper c u → is_known strings (crate_paths c) (type_rule c strings u) ≡ true
   type_known c strings back (scalar scalar_ty.Bool) h = refl
   type_known c strings back (scalar (scalar_ty.Int n)) h = refl
@@ -211,19 +191,6 @@ mutual
 
 -- ---- how deep it nests
 
-abbrev mutual
-  pub tree_depth : Tree → ℕ
-  tree_depth (scalar x) = 1
-  tree_depth empty = 1
-  tree_depth (more u us) = suc (max (tree_depth u) (parts_depth us))
-  tree_depth (ref u) = suc (tree_depth u)
-  tree_depth (ref_mut u) = suc (tree_depth u)
-  tree_depth (named d) = 1
-
-  pub parts_depth : Tree → ℕ
-  parts_depth (more u us) = max (tree_depth u) (parts_depth us)
-  parts_depth u = 0
-
 max-zero : (n : ℕ) → n ≡ max n 0
 max-zero n = grind arith
 
@@ -234,6 +201,7 @@ join-depth u (t.more v us) = refl
 
 mutual
   unfolding type_rule types_rule
+
   pub depth_kept : (c : Crate) (strings : Strings) (u : Tree) → type_depth (type_rule c strings u) ≡ tree_depth u
   depth_kept c strings (scalar scalar_ty.Bool) = refl
   depth_kept c strings (scalar (scalar_ty.Int n)) = refl
