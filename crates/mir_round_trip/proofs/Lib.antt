@@ -24,3 +24,6 @@ pub mod DefinitionsBack
 pub mod Crates
 pub mod CratesBack
 pub mod ReadBack
+pub mod Nice
+pub mod Carried
+pub mod TypesWritten

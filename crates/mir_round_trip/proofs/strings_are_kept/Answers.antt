@@ -1,3 +1,5 @@
+use Rattle.mir_round_trip.proofs.TypesWritten.{ty_written}
+use Rattle.mir_round_trip.proofs.Carried.{file_nice}
 use Rattle.mir_text.specs.Symbols.{grammar_names}
 use Rattle.mir_round_trip.proofs.strings_are_kept.Goals as goal
 use Rattle.mir_round_trip.proofs.Numbering.{strings_back}
