@@ -27,3 +27,4 @@ pub mod ReadBack
 pub mod Nice
 pub mod Carried
 pub mod TypesWritten
+pub mod PlacesWritten

@@ -93,7 +93,7 @@ place-by : (k n : ℕ) (x : List ℕ) (xs : List (List ℕ)) (bytes : List ℕ) 
 place-by k n x xs bytes true e h later = let first = rw e at h in let here : k ≡ n = cc in omega (arith, here)
 place-by k n x xs bytes false e h later = let first = rw e at h in let less = later first in omega (arith, less)
 
-place-there : (k n : ℕ) (paths : List (List ℕ)) (bytes : List ℕ) → place_from k paths bytes ≡ Some n → n < k + length paths
+pub place-there : (k n : ℕ) (paths : List (List ℕ)) (bytes : List ℕ) → place_from k paths bytes ≡ Some n → n < k + length paths
 place-there k n [] bytes h = absurd cc
 place-there k n (x ∷ xs) bytes h = place-by k n x xs bytes (bytes_eq x bytes) refl h (λ e. place-there (suc k) n xs bytes e)
 
