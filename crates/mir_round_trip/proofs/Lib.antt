@@ -28,3 +28,4 @@ pub mod Nice
 pub mod Carried
 pub mod TypesWritten
 pub mod PlacesWritten
+pub mod OperandsWritten

@@ -1,6 +1,6 @@
 -- The places that a derivation names are such as a canonical text writes, where they have types and are written with those of their fields.
 use Rattle.mir_round_trip.specs.Names.{IsName, crate_paths, Proper, tree_depth}
-use Rattle.mir_round_trip.specs.Bodies.{plain_shapes, names_at, field_type, IsVariant, Path, path_depth, depth_at, IsPlace}
+use Rattle.mir_round_trip.specs.Bodies.{AreFields, plain_shapes, names_at, field_type, IsVariant, Path, path_depth, depth_at, IsPlace}
 use Rattle.std.proofs.Common.{◌≡◌, ◌<◌, ◌≤◌, ◌+◌, ◌^◌, ℕ, zero, suc, max, Bool, true, false, not, ◌||◌, List, [], ◌∷◌, ◌++◌, map, length, get_or, refl, sym, ap, subst, ◌∙◌, arith, Option, Some, None, is_some, slice_get, if◌then◌else◌}
 use Rattle.mir_syntax.specs.declared.body.Proj.{Proj}
 use Rattle.mir_syntax.specs.declared.body.Proj.TheVariants.{Field, Downcast, Deref}
@@ -95,6 +95,7 @@ variant-step c t w u k n m d small is down h proper deep =
 pub record DefsKnown (c : Crate) : Type 0 where
   pub paths : PathsWritten c
   pub variants : (d k : ℕ) → d < length c.defs → k < length (def_at c d).variants → (def_at c d).is_enum ≡ true → IsName (variant_at c d k).name
+  pub fields : (d k : ℕ) → d < length c.defs → k < length (def_at c d).variants → AreFields (variant_at c d k).form (variant_at c d k).fields
 
 pub at-place : {A : Type 0} (other : A) (xs : List A) (n : ℕ) (x : A) → slice_get xs n ≡ Some x → (n < length xs) × (get_or xs n other ≡ x)
 at-place other [] n x h = absurd cc
@@ -111,12 +112,12 @@ names-length [] = refl
 names-length (v ∷ vs) = ap suc (names-length vs)
 
 -- the variant of an enum that a name names
-record Named (d : TypedDef) (bytes : List ℕ) (k : ℕ) : Type 0 where
+pub record Named (d : TypedDef) (bytes : List ℕ) (k : ℕ) : Type 0 where
   pub enum : d.is_enum ≡ true
   pub there : k < length d.variants
   pub name : (get_or d.variants k no_variant).name ≡ bytes
 
-variant-by : (d : TypedDef) (bytes : List ℕ) (k : ℕ) (b : Bool) → d.is_enum ≡ b → variant_in bytes d ≡ Some k → Named d bytes k
+pub variant-by : (d : TypedDef) (bytes : List ℕ) (k : ℕ) (b : Bool) → d.is_enum ≡ b → variant_in bytes d ≡ Some k → Named d bytes k
 variant-by d bytes k false e h = let n = rw e at h in absurd cc
 variant-by d bytes k true e h =
     let n : place_in (variant_names d) bytes ≡ Some k = rw e at h in
@@ -159,6 +160,8 @@ Typed L locals = (x : ℕ) (t : Tree) → declared_ty L x ≡ Some t → x < len
 pub record Given (c : Crate) (strings : Strings) (L : Declared) (locals : List Tree) : Type 0 where
   pub defs : DefsKnown c
   pub typed : Typed L locals
+  pub there : (x : ℕ) → is_some (declared_ty L x) ≡ true → x < length locals
+  pub few : length locals ≤ 2 ^ 32
 
 record Placed (c : Crate) (strings : Strings) (L : Declared) (locals : List Tree) (q : PlaceRule) (t : Tree) : Type 0 where
   pub step : Step c (local_ty locals (local_in q)) t 1 (place_depth q) (projs_named (names_at c strings) L q)
@@ -230,9 +233,18 @@ pub record Read (c : Crate) (strings : Strings) (L : Declared) (q : PlaceRule) :
   pub has : place_ty_of (names_at c strings) L q ≡ Some type
   pub right : is_wrong (names_at c strings) L q ≡ false
 
-pub place_written : (c : Crate) (strings : Strings) (L : Declared) (locals : List Tree) → Given c strings L locals → length locals ≤ 2 ^ 32 → (q : PlaceRule) → Read c strings L q
-    → place_codes (names_at c strings) L q ≡ [] → PlaceGood 65 q → local_in q < length locals → IsPlace c locals (place_named (names_at c strings) L q)
+-- a place with a type begins at a declared local
+read-local : (N : Names) (L : Declared) (q : PlaceRule) (t : Tree) → place_ty_of N L q ≡ Some t → is_some (declared_ty L (local_in q)) ≡ true
+read-local N L (p.local x) t h = ap is_some h
+read-local N L (p.deref q) t h = let (s, e1, e2) = bind_some h in read-local N L q s e1
+read-local N L (p.field q n u) t h = let (s, e1, e2) = bind_some h in read-local N L q s e1
+read-local N L (p.variant_field q v n u) t h = let (s, e1, e2) = bind_some h in read-local N L q s e1
+
+pub place_written : (c : Crate) (strings : Strings) (L : Declared) (locals : List Tree) → Given c strings L locals → (q : PlaceRule) → Read c strings L q
+    → place_codes (names_at c strings) L q ≡ [] → PlaceGood 65 q → IsPlace c locals (place_named (names_at c strings) L q)
 unfolding depth_at
-place_written c strings L locals given few q read codes good less =
+place_written c strings L locals given q read codes good =
+    let less = given.there (local_in q) (read-local (names_at c strings) L q read.type read.has) in
+    let few = given.few in
     let a = placed c strings L locals given q read.type read.has codes read.right good.1 less in
     record { there = less; small = omega arith; path = a.step.path; depth = subst (λ n. n ≤ 65) (sym a.step.depth) good.0 }

@@ -110,6 +110,13 @@ paths-length (x ∷ xs) = ap suc (paths-length xs)
 abbrev pub PathsWritten : Crate → Type 0
 PathsWritten c = (d : ℕ) → d < length c.defs → IsPath (def_at c d).path
 
+-- the definition that a path names has that path
+pub path-of : (c : Crate) (bytes : List ℕ) (d : ℕ) → place_in (crate_paths c) bytes ≡ Some d → (def_at c d).path ≡ bytes
+path-of c bytes d h =
+    let at = stands-at 0 d (crate_paths c) bytes h in
+    let same : at.0 ≡ d = omega (arith, at.1) in
+    sym (path-at c.defs d) ∙ ap (λ n. get_or (crate_paths c) n []) (sym same) ∙ at.2
+
 pub def_there : (c : Crate) (bytes : List ℕ) (d : ℕ) → PathsWritten c → place_in (crate_paths c) bytes ≡ Some d → IsDef c d
 def_there c bytes d paths h =
     let at = stands-at 0 d (crate_paths c) bytes h in

@@ -1,3 +1,4 @@
+use Rattle.mir_round_trip.proofs.OperandsWritten.{operands_written}
 use Rattle.mir_round_trip.proofs.PlacesWritten.{place_written}
 use Rattle.mir_round_trip.proofs.TypesWritten.{ty_written}
 use Rattle.mir_round_trip.proofs.Carried.{file_nice}
