@@ -29,3 +29,5 @@ pub mod Carried
 pub mod TypesWritten
 pub mod PlacesWritten
 pub mod OperandsWritten
+pub mod BodiesWritten
+pub mod PlaceTypes

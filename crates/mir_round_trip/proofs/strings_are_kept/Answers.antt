@@ -1,3 +1,5 @@
+use Rattle.mir_round_trip.proofs.BodiesWritten.{blocks_written}
+use Rattle.mir_round_trip.proofs.PlaceTypes.{place_has}
 use Rattle.mir_round_trip.proofs.OperandsWritten.{operands_written}
 use Rattle.mir_round_trip.proofs.PlacesWritten.{place_written}
 use Rattle.mir_round_trip.proofs.TypesWritten.{ty_written}
