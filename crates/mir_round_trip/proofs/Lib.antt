@@ -31,3 +31,5 @@ pub mod PlacesWritten
 pub mod OperandsWritten
 pub mod BodiesWritten
 pub mod PlaceTypes
+pub mod PlacesRead
+pub mod LocalsWritten

@@ -1,3 +1,5 @@
+use Rattle.mir_round_trip.proofs.PlacesRead.{stmt_read}
+use Rattle.mir_round_trip.proofs.LocalsWritten.{locals_written}
 use Rattle.mir_round_trip.proofs.BodiesWritten.{blocks_written}
 use Rattle.mir_round_trip.proofs.PlaceTypes.{place_has}
 use Rattle.mir_round_trip.proofs.OperandsWritten.{operands_written}
