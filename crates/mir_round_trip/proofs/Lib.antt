@@ -33,3 +33,4 @@ pub mod BodiesWritten
 pub mod PlaceTypes
 pub mod PlacesRead
 pub mod LocalsWritten
+pub mod FunctionsWritten

@@ -1,3 +1,4 @@
+use Rattle.mir_round_trip.proofs.FunctionsWritten.{function_written}
 use Rattle.mir_round_trip.proofs.PlacesRead.{stmt_read}
 use Rattle.mir_round_trip.proofs.LocalsWritten.{locals_written}
 use Rattle.mir_round_trip.proofs.BodiesWritten.{blocks_written}
