@@ -138,10 +138,10 @@ types-clean : (N : Names) (xs : List (Lined ArgRule)) → each (declaration_faul
 types-clean N [] h = tt
 types-clean N (x ∷ xs) h = (line-codes _ _ (append_empty-left _ _ h), types-clean N xs (append_empty-right _ _ h))
 
-max-left : (a b n : ℕ) → max a b ≤ n → a ≤ n
+pub max-left : (a b n : ℕ) → max a b ≤ n → a ≤ n
 max-left a b n h = grind arith
 
-max-right : (a b n : ℕ) → max a b ≤ n → b ≤ n
+pub max-right : (a b n : ℕ) → max a b ≤ n → b ≤ n
 max-right a b n h = grind arith
 
 mutual

@@ -34,3 +34,4 @@ pub mod PlaceTypes
 pub mod PlacesRead
 pub mod LocalsWritten
 pub mod FunctionsWritten
+pub mod DefinitionsWritten

@@ -1,3 +1,4 @@
+use Rattle.mir_round_trip.proofs.DefinitionsWritten.{names-is}
 use Rattle.mir_round_trip.proofs.FunctionsWritten.{function_written}
 use Rattle.mir_round_trip.proofs.PlacesRead.{stmt_read}
 use Rattle.mir_round_trip.proofs.LocalsWritten.{locals_written}
