@@ -60,7 +60,7 @@ items-fields c strings paths (G.more f fs) codes good nice =
     (field-written c strings paths f (append_empty-left (type_codes (names_at c strings) f.1) _ codes) good.0 nice.0,
       items-fields c strings paths fs (append_empty-right (type_codes (names_at c strings) f.1) _ codes) good.1 nice.1)
 
-map-items : {R A B : Type 0} (h : A → B) (f : R → A) (xs : Items R) → map h (items_of f xs) ≡ items_of (λ x. h (f x)) xs
+pub map-items : {R A B : Type 0} (h : A → B) (f : R → A) (xs : Items R) → map h (items_of f xs) ≡ items_of (λ x. h (f x)) xs
 map-items h f G.end = refl
 map-items h f (G.last x) = refl
 map-items h f (G.more x xs) = ap (λ l. h (f x) ∷ l) (map-items h f xs)

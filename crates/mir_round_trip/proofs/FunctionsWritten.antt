@@ -33,7 +33,7 @@ use Rattle.mir_round_trip.proofs.LocalsWritten.{declared_there, declared_typed, 
 
 -- ---- without lines
 
-line-codes : (n : ℕ) (codes : List ℕ) → on_line n codes ≡ [] → codes ≡ []
+pub line-codes : (n : ℕ) (codes : List ℕ) → on_line n codes ≡ [] → codes ≡ []
 line-codes n codes h = map_empty-source (λ code. let f : Fault = (n, code) in f) codes h
 
 line-right : (b : Bool) (n : ℕ) → line_if b n ≡ [] → b ≡ false

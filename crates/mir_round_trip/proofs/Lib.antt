@@ -35,3 +35,5 @@ pub mod PlacesRead
 pub mod LocalsWritten
 pub mod FunctionsWritten
 pub mod DefinitionsWritten
+pub mod ValidParts
+pub mod PathsApart

@@ -1,3 +1,5 @@
+use Rattle.mir_round_trip.proofs.ValidParts.{functions_valid}
+use Rattle.mir_round_trip.proofs.PathsApart.{pairs-between}
 use Rattle.mir_round_trip.proofs.DefinitionsWritten.{names-is}
 use Rattle.mir_round_trip.proofs.FunctionsWritten.{function_written}
 use Rattle.mir_round_trip.proofs.PlacesRead.{stmt_read}
