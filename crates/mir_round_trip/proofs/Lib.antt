@@ -37,3 +37,4 @@ pub mod FunctionsWritten
 pub mod DefinitionsWritten
 pub mod ValidParts
 pub mod PathsApart
+pub mod Accepted

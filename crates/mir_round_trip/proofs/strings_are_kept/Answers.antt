@@ -1,3 +1,4 @@
+use Rattle.mir_round_trip.proofs.Accepted.{accepted_back}
 use Rattle.mir_round_trip.proofs.ValidParts.{functions_valid}
 use Rattle.mir_round_trip.proofs.PathsApart.{pairs-between}
 use Rattle.mir_round_trip.proofs.DefinitionsWritten.{names-is}
