@@ -1,8 +1,8 @@
 -- A crate that an accepted text names is such as a canonical text writes.
 use Rattle.mir_round_trip.specs.Names.{IsName, IsPath, crate_paths}
 use Rattle.mir_round_trip.specs.Bodies.{names_at, AreFields, IsFn}
-use Rattle.mir_round_trip.specs.Readable.{IsField, IsFields, IsOption, IsShape, IsDefinition, IsOutside, def_defined, outside_defined, fn_defined, crate_defined, AreApart, Readable}
-use Rattle.std.proofs.Common.{◌≡◌, ◌<◌, ℕ, Bool, true, false, List, [], ◌∷◌, ◌++◌, map, length, refl, sym, ap, subst, ◌∙◌, arith, Option, Some, None}
+use Rattle.mir_round_trip.specs.Readable.{IsField, IsFields, IsShape, IsDefinition, IsOutside, def_defined, outside_defined, fn_defined, crate_defined, AreApart, Readable}
+use Rattle.std.proofs.Common.{◌≡◌, ℕ, Bool, true, false, List, [], ◌∷◌, ◌++◌, map, refl, sym, ap, subst, None}
 use Rattle.mir_syntax.specs.declared.types.Form.{Form}
 use Rattle.mir_syntax.specs.declared.types.Form.TheVariants as form
 use Rattle.mir_syntax.specs.Crate.{TypedField, TypedVariant, TypedDef, TypedOutside, TypedFunction, Crate}
@@ -12,21 +12,20 @@ use Rattle.mir_text.specs.GrammarItems as m
 use Rattle.mir_text.specs.GrammarItems.{ItemRule, item_put, FileRule}
 use Rattle.mir_text.specs.Nesting.{ItemGood}
 use Rattle.mir_text.specs.Names.{Strings, Names, names_of, def_in, defs_in, def_paths, def_named}
-use Rattle.mir_text.specs.Naming.{outside_in, outsides_in, function_in, functions_in, crate_named}
-use Rattle.mir_text.specs.PartLines.{LinesFrom, past, LinedItem, item_lined, file_lined}
-use Rattle.mir_text.specs.NameFaults.{on_line, each, other_codes, item_faults, field_names, path_faults, defined_by, name_faults}
+use Rattle.mir_text.specs.Naming.{outside_in, outsides_in, functions_in, crate_named}
+use Rattle.mir_text.specs.PartLines.{LinesFrom, past, item_lined, file_lined}
+use Rattle.mir_text.specs.NameFaults.{each, other_codes, item_faults, field_names, path_faults, defined_by, name_faults}
 use Rattle.mir_text.specs.ReadLines.{wrong_in_item, first_of}
-use Rattle.mir_text.specs.Reads.{Derivation, Reads, symbol_lines, items_in, wrong_field}
+use Rattle.mir_text.specs.Reads.{Reads, symbol_lines}
 use Rattle.mir_text.specs.TermText.{function_paths, outside_paths}
 use Rattle.mir_text.specs.Text.{text}
 use Rattle.mir_text.specs.TypeText.{no_def, def_at}
-use Rattle.mir_text.specs.PlaceText.{no_variant, variant_at}
+use Rattle.mir_text.specs.PlaceText.{no_variant}
 use Rattle.mir_rules.specs.Valid.{Valid, Within}
 use Rattle.mir_rules.specs.Accepted.{Accepted}
 use Rattle.mir_rules.proofs.Lists.{append_empty-left, append_empty-right}
 use Rattle.mir_round_trip.proofs.Spelling.{all-map, all-append}
 use Rattle.mir_round_trip.proofs.Rvalues.{two-same}
-use Rattle.mir_round_trip.proofs.Blocks.{all-left, all-right}
 use Rattle.mir_round_trip.proofs.TermsBack.{all-at}
 use Rattle.mir_round_trip.proofs.FunctionsBack.{map-append}
 use Rattle.mir_round_trip.proofs.ReadBack.{read_back}
@@ -35,7 +34,7 @@ use Rattle.mir_round_trip.proofs.Carried.{ItemNice, file_nice}
 use Rattle.mir_round_trip.proofs.TypesWritten.{PathsWritten, path_written}
 use Rattle.mir_round_trip.proofs.PlacesWritten.{DefsKnown}
 use Rattle.mir_round_trip.proofs.BodiesWritten.{CallsKnown}
-use Rattle.mir_round_trip.proofs.FunctionsWritten.{line-codes, FnRead, FnValid, function_written}
+use Rattle.mir_round_trip.proofs.FunctionsWritten.{line-codes, FnValid, function_written}
 use Rattle.mir_round_trip.proofs.DefinitionsWritten.{Sound, def-written, outside-written, names-is}
 use Rattle.mir_round_trip.proofs.ValidParts.{functions_valid}
 use Rattle.mir_round_trip.proofs.PathsApart.{paths_apart}
@@ -50,9 +49,10 @@ record Clean (N : Names) (item : ItemRule) : Type 0 where
 
 items-clean : (N : Names) (items : FileRule) (lines : LinesFrom) → each (item_faults N) (file_lined items lines) ≡ [] → each (wrong_in_item N) (file_lined items lines) ≡ [] → AllOf (Clean N) items
 items-clean N [] lines h k = tt
-items-clean N (x ∷ xs) lines h k =
-    (record { lines = lines; faults = append_empty-left (item_faults N (item_lined x lines)) _ h; wrong = append_empty-left (wrong_in_item N (item_lined x lines)) _ k },
-      items-clean N xs (past item_put x lines) (append_empty-right (item_faults N (item_lined x lines)) _ h) (append_empty-right (wrong_in_item N (item_lined x lines)) _ k))
+items-clean N (x ∷ xs) lines h k = (
+  record { lines = lines; faults = append_empty-left (item_faults N (item_lined x lines)) _ h; wrong = append_empty-left (wrong_in_item N (item_lined x lines)) _ k },
+  items-clean N xs (past item_put x lines) (append_empty-right (item_faults N (item_lined x lines)) _ h) (append_empty-right (wrong_in_item N (item_lined x lines)) _ k),
+)
 
 -- what is known of the items of a derivation
 record Known (c : Crate) (strings : Strings) (item : ItemRule) : Type 0 where
@@ -145,9 +145,10 @@ functions-of c strings defs calls [] h valid = tt
 functions-of c strings defs calls (m.struct q fs ∷ items) h valid = functions-of c strings defs calls items h.1 valid
 functions-of c strings defs calls (m.enum q vs ∷ items) h valid = functions-of c strings defs calls items h.1 valid
 functions-of c strings defs calls (m.extern q us u ∷ items) h valid = functions-of c strings defs calls items h.1 valid
-functions-of c strings defs calls (m.function f ∷ items) h valid =
-    (function_written c strings defs calls f (record { lines = h.0.clean.lines; faults = h.0.clean.faults; wrong = h.0.clean.wrong; good = h.0.good; path = h.0.nice.0; nice = h.0.nice.1 }) valid.0,
-      functions-of c strings defs calls items h.1 valid.1)
+functions-of c strings defs calls (m.function f ∷ items) h valid = (
+  function_written c strings defs calls f (record { lines = h.0.clean.lines; faults = h.0.clean.faults; wrong = h.0.clean.wrong; good = h.0.good; path = h.0.nice.0; nice = h.0.nice.1 }) valid.0,
+  functions-of c strings defs calls items h.1 valid.1,
+)
 
 -- ---- the crate that a derivation names
 

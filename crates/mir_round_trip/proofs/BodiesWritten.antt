@@ -1,26 +1,22 @@
 -- The statements, terminators and blocks that a derivation names are such as a canonical text writes.
 use Rattle.mir_round_trip.specs.Names.{IsPath}
-use Rattle.mir_round_trip.specs.Bodies.{names_at, IsPlace, IsOperand, IsLocal, IsStmt, IsTarget, IsArm, IsFunction, IsCallee, IsTerm, IsBlock}
-use Rattle.std.proofs.Common.{◌≡◌, ◌<◌, ◌≤◌, ◌+◌, ◌^◌, ℕ, zero, suc, Bool, true, false, List, [], ◌∷◌, ◌++◌, map, length, get_or, refl, sym, ap, subst, ◌∙◌, arith, Option, Some, None, is_some}
-use Rattle.mir_syntax.specs.declared.body.Operand.{Operand}
-use Rattle.mir_syntax.specs.declared.body.Callee.{Callee}
-use Rattle.mir_syntax.specs.declared.body.Callee.TheVariants as callee
+use Rattle.mir_round_trip.specs.Bodies.{names_at, IsOperand, IsLocal, IsStmt, IsTarget, IsArm, IsCallee, IsTerm, IsBlock}
+use Rattle.std.proofs.Common.{◌≡◌, ◌<◌, ◌≤◌, ◌^◌, ℕ, true, List, [], ◌∷◌, ◌++◌, map, length, get_or, refl, sym, ap, ◌∙◌, arith, Option, Some, None, is_some}
 use Rattle.mir_syntax.specs.Tree.{Tree}
-use Rattle.mir_syntax.specs.Crate.{TypedStmt, TypedBlock, Crate}
+use Rattle.mir_syntax.specs.Crate.{Crate}
 use Rattle.mir_text.specs.Words.{place_in}
 use Rattle.mir_text.specs.Grammar.{AllOf}
-use Rattle.mir_text.specs.GrammarTypes.{PathRule}
-use Rattle.mir_text.specs.GrammarPlaces.{PlaceRule, OperandRule}
+use Rattle.mir_text.specs.GrammarPlaces.{OperandRule}
 use Rattle.mir_text.specs.GrammarStatements as r
 use Rattle.mir_text.specs.GrammarStatements.{StmtRule}
 use Rattle.mir_text.specs.GrammarTerms as g
 use Rattle.mir_text.specs.GrammarTerms.{ArmRule, TermRule, BlockRule}
-use Rattle.mir_text.specs.Names.{Strings, Names, path_bytes}
-use Rattle.mir_text.specs.NamedBodies.{Declared, declared_ty, operand_named, function_or, called_by, or_first_function, arm_named, stmt_named, stmts_named, term_named, block_named}
-use Rattle.mir_text.specs.NameFaults.{unless, concat, each, each_item, is_among, local_codes, place_codes, operand_codes, stmt_codes, target_codes, call_codes, arm_codes, term_codes}
+use Rattle.mir_text.specs.Names.{Strings, path_bytes}
+use Rattle.mir_text.specs.NamedBodies.{Declared, operand_named, function_or, or_first_function, arm_named, stmt_named, stmts_named, term_named, block_named}
+use Rattle.mir_text.specs.NameFaults.{each, each_item, is_among, local_codes, place_codes, operand_codes, stmt_codes, target_codes, call_codes, arm_codes, term_codes}
 use Rattle.mir_text.specs.Nesting.{OperandGood, StmtGood, TermGood, BlockGood}
 use Rattle.mir_text.specs.ReadLines.{operand_places, stmt_places, term_places}
-use Rattle.mir_text.specs.TermText.{path_or_none, function_paths, outside_paths, callee_path}
+use Rattle.mir_text.specs.TermText.{function_paths, outside_paths, callee_path}
 use Rattle.mir_rules.proofs.Lists.{append_empty-left, append_empty-right}
 use Rattle.mir_round_trip.proofs.Numbering.{stands-at}
 use Rattle.mir_round_trip.proofs.Spelling.{all-append}
@@ -42,9 +38,13 @@ local-written c strings L locals given x codes =
 stmt-written : (c : Crate) (strings : Strings) (L : Declared) (locals : List Tree) → Given c strings L locals → (x : StmtRule) → AllOf (Read c strings L) (stmt_places x)
     → stmt_codes (names_at c strings) L x ≡ [] → StmtGood x → AllOf (IsStmt c locals) (stmt_named (names_at c strings) L x)
 unfolding IsStmt
-stmt-written c strings L locals given (r.assign q x) h codes good =
-    ((place_written c strings L locals given q h.0 (append_empty-left (place_codes (names_at c strings) L q) _ codes) good.0,
-      rvalue_written c strings L locals given x h.1 (append_empty-right (place_codes (names_at c strings) L q) _ codes) good.1), tt)
+stmt-written c strings L locals given (r.assign q x) h codes good = (
+  (
+    place_written c strings L locals given q h.0 (append_empty-left (place_codes (names_at c strings) L q) _ codes) good.0,
+    rvalue_written c strings L locals given x h.1 (append_empty-right (place_codes (names_at c strings) L q) _ codes) good.1,
+  ),
+  tt,
+)
 stmt-written c strings L locals given r.nop h codes good = tt
 stmt-written c strings L locals given (r.live x) h codes good = (local-written c strings L locals given x codes, tt)
 stmt-written c strings L locals given (r.dead x) h codes good = (local-written c strings L locals given x codes, tt)
@@ -109,9 +109,10 @@ arms-written labels n (a ∷ arms) is codes nice =
 args-written : (c : Crate) (strings : Strings) (L : Declared) (locals : List Tree) → Given c strings L locals → (xs : List OperandRule) → AllOf (Read c strings L) (each operand_places xs)
     → each (operand_codes (names_at c strings) L) xs ≡ [] → AllOf OperandGood xs → AllOf (IsOperand c locals) (map (operand_named (names_at c strings) L) xs)
 args-written c strings L locals given [] h codes good = tt
-args-written c strings L locals given (x ∷ xs) h codes good =
-    (operand_written c strings L locals given x (all-left (Read c strings L) (operand_places x) _ h) (append_empty-left (operand_codes (names_at c strings) L x) _ codes) good.0,
-      args-written c strings L locals given xs (all-right (Read c strings L) (operand_places x) _ h) (append_empty-right (operand_codes (names_at c strings) L x) _ codes) good.1)
+args-written c strings L locals given (x ∷ xs) h codes good = (
+  operand_written c strings L locals given x (all-left (Read c strings L) (operand_places x) _ h) (append_empty-left (operand_codes (names_at c strings) L x) _ codes) good.0,
+  args-written c strings L locals given xs (all-right (Read c strings L) (operand_places x) _ h) (append_empty-right (operand_codes (names_at c strings) L x) _ codes) good.1,
+)
 
 pub term_written : (c : Crate) (strings : Strings) (L : Declared) (locals : List Tree) → Given c strings L locals → CallsKnown c → (labels : List ℕ) (n : ℕ) → Labelled labels n → (x : TermRule)
     → AllOf (Read c strings L) (term_places x) → term_codes (names_at c strings) L labels x ≡ [] → TermGood x → TermNice strings x → IsTerm c locals n (term_named (names_at c strings) L x)
@@ -121,30 +122,34 @@ term_written c strings L locals given known labels n is g.returns h codes good n
 term_written c strings L locals given known labels n is g.never h codes good nice = tt
 term_written c strings L locals given known labels n is (g.switch x arms b) h codes good nice =
     let N = names_at c strings in
-    let front = append_empty-left (operand_codes N L x ++ each (arm_codes labels) arms) (target_codes labels b) codes in
-    (operand_written c strings L locals given x h (append_empty-left (operand_codes N L x) _ front) good,
+    let front = append_empty-left (operand_codes N L x ++ each (arm_codes labels) arms) (target_codes labels b) codes in (
+      operand_written c strings L locals given x h (append_empty-left (operand_codes N L x) _ front) good,
       arms-written labels n arms is (append_empty-right (operand_codes N L x) _ front) nice,
-      target-written labels n b is (append_empty-right (operand_codes N L x ++ each (arm_codes labels) arms) (target_codes labels b) codes))
+      target-written labels n b is (append_empty-right (operand_codes N L x ++ each (arm_codes labels) arms) (target_codes labels b) codes),
+    )
 term_written c strings L locals given known labels n is (g.call q path xs b u) h codes good nice =
     let N = names_at c strings in
     let third = append_empty-left (place_codes N L q ++ call_codes N path ++ each_item (operand_codes N L) xs) (target_codes labels b) codes in
     let second = append_empty-left (place_codes N L q ++ call_codes N path) (each_item (operand_codes N L) xs) third in
-    let callee = unless-met _ 11 (append_empty-right (place_codes N L q) (call_codes N path) second) in
-    (place_written c strings L locals given q h.0 (append_empty-left (place_codes N L q) (call_codes N path) second) good.0,
+    let callee = unless-met _ 11 (append_empty-right (place_codes N L q) (call_codes N path) second) in (
+      place_written c strings L locals given q h.0 (append_empty-left (place_codes N L q) (call_codes N path) second) good.0,
       callee-by c (path_bytes strings path) _ _ known refl refl callee,
       operands_written c strings L locals given xs h.1 (append_empty-right (place_codes N L q ++ call_codes N path) (each_item (operand_codes N L) xs) third) good.1,
-      target-written labels n b is (append_empty-right (place_codes N L q ++ call_codes N path ++ each_item (operand_codes N L) xs) (target_codes labels b) codes))
+      target-written labels n b is (append_empty-right (place_codes N L q ++ call_codes N path ++ each_item (operand_codes N L) xs) (target_codes labels b) codes),
+    )
 term_written c strings L locals given known labels n is (g.drop q b u) h codes good nice =
-    let N = names_at c strings in
-    (place_written c strings L locals given q h.0 (append_empty-left (place_codes N L q) (target_codes labels b) codes) good,
-      target-written labels n b is (append_empty-right (place_codes N L q) (target_codes labels b) codes))
+    let N = names_at c strings in (
+      place_written c strings L locals given q h.0 (append_empty-left (place_codes N L q) (target_codes labels b) codes) good,
+      target-written labels n b is (append_empty-right (place_codes N L q) (target_codes labels b) codes),
+    )
 term_written c strings L locals given known labels n is (g.assert expected x message xs b u) h codes good nice =
     let N = names_at c strings in
-    let front = append_empty-left (operand_codes N L x ++ each (operand_codes N L) xs) (target_codes labels b) codes in
-    (operand_written c strings L locals given x (all-left (Read c strings L) (operand_places x) _ h) (append_empty-left (operand_codes N L x) _ front) good.0,
+    let front = append_empty-left (operand_codes N L x ++ each (operand_codes N L) xs) (target_codes labels b) codes in (
+      operand_written c strings L locals given x (all-left (Read c strings L) (operand_places x) _ h) (append_empty-left (operand_codes N L x) _ front) good.0,
       nice,
       args-written c strings L locals given xs (all-right (Read c strings L) (operand_places x) _ h) (append_empty-right (operand_codes N L x) _ front) good.1,
-      target-written labels n b is (append_empty-right (operand_codes N L x ++ each (operand_codes N L) xs) (target_codes labels b) codes))
+      target-written labels n b is (append_empty-right (operand_codes N L x ++ each (operand_codes N L) xs) (target_codes labels b) codes),
+    )
 
 -- ---- blocks
 
@@ -160,8 +165,10 @@ pub record BlockRead (c : Crate) (strings : Strings) (L : Declared) (labels : Li
 pub blocks_written : (c : Crate) (strings : Strings) (L : Declared) (locals : List Tree) → Given c strings L locals → CallsKnown c → (labels : List ℕ) (n : ℕ) → Labelled labels n → (bs : List BlockRule)
     → AllOf (BlockRead c strings L labels) bs → AllOf (IsBlock c locals n) (map (block_named (names_at c strings) L) bs)
 blocks_written c strings L locals given known labels n is [] h = tt
-blocks_written c strings L locals given known labels n is (b ∷ bs) h =
-    (record {
-      stmts = stmts_written c strings L locals given b.stmts h.0.stmts h.0.stmt_codes h.0.good.0;
-      term = term_written c strings L locals given known labels n is b.term h.0.term h.0.term_codes h.0.good.1 h.0.nice;
-    }, blocks_written c strings L locals given known labels n is bs h.1)
+blocks_written c strings L locals given known labels n is (b ∷ bs) h = (
+  record {
+    stmts = stmts_written c strings L locals given b.stmts h.0.stmts h.0.stmt_codes h.0.good.0;
+    term = term_written c strings L locals given known labels n is b.term h.0.term h.0.term_codes h.0.good.1 h.0.nice;
+  },
+  blocks_written c strings L locals given known labels n is bs h.1,
+)

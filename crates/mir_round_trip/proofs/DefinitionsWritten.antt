@@ -1,11 +1,9 @@
 -- The structs, enums and outside functions that a derivation names are such as a canonical text writes; and what its names mean.
-use Rattle.mir_round_trip.specs.Names.{IsName, IsPath, IsTy, crate_paths}
-use Rattle.mir_round_trip.specs.Bodies.{names_at, AreFields}
-use Rattle.mir_round_trip.specs.Readable.{IsPart, IsField, IsFields, IsOption, IsShape, IsDefinition, IsOutside}
-use Rattle.std.proofs.Common.{◌≡◌, ◌<◌, ◌≤◌, ℕ, zero, suc, max, Bool, true, false, ◌&&◌, List, [], ◌∷◌, ◌++◌, map, length, refl, sym, ap, subst, ◌∙◌, arith}
-use Rattle.mir_syntax.specs.declared.types.Form.{Form}
-use Rattle.mir_syntax.specs.declared.types.Form.TheVariants as form
-use Rattle.mir_syntax.specs.Crate.{TypedField, TypedVariant, TypedDef, TypedOutside, TypedFunction, Crate}
+use Rattle.mir_round_trip.specs.Names.{IsTy, crate_paths}
+use Rattle.mir_round_trip.specs.Bodies.{names_at}
+use Rattle.mir_round_trip.specs.Readable.{IsPart, IsField, IsFields, IsOption, IsDefinition, IsOutside}
+use Rattle.std.proofs.Common.{◌≡◌, ◌≤◌, ℕ, true, List, [], ◌∷◌, map, refl, sym, ap, ◌∙◌}
+use Rattle.mir_syntax.specs.Crate.{Crate}
 use Rattle.mir_text.specs.Grammar as G
 use Rattle.mir_text.specs.Grammar.{Items, items_of, AllItems, AllOf}
 use Rattle.mir_text.specs.GrammarTypes as t
@@ -14,20 +12,16 @@ use Rattle.mir_text.specs.GrammarItems as m
 use Rattle.mir_text.specs.GrammarItems.{FieldRule, FieldsRule, VariantRule, ItemRule, FileRule}
 use Rattle.mir_text.specs.Names as n
 use Rattle.mir_text.specs.Names.{Strings, Names, names_of, string_at, path_bytes, type_named, is_known, are_known, field_named, part_named, form_of, fields_named, variant_of, variant_named, DefRule, def_path, def_in, defs_in, def_paths, def_named, function_paths_in, outside_paths_in}
-use Rattle.mir_text.specs.Naming.{outside_in, outsides_in, function_in, functions_in, crate_in, crate_named}
-use Rattle.mir_text.specs.NameFaults.{unless, concat, each_item, type_codes, field_names, none_twice, fields_codes, variants_codes, other_codes}
+use Rattle.mir_text.specs.Naming.{outside_in, outsides_in, functions_in, crate_named}
+use Rattle.mir_text.specs.NameFaults.{unless, each_item, type_codes, none_twice, fields_codes, other_codes}
 use Rattle.mir_text.specs.Nesting.{type_depth, types_depth, FieldGood, FieldsGood, VariantGood, ItemGood}
 use Rattle.mir_text.specs.TermText.{function_paths, outside_paths}
-use Rattle.mir_text.specs.TypeText.{no_def, def_at}
-use Rattle.mir_text.specs.PlaceText.{no_variant, variant_at}
 use Rattle.mir_rules.proofs.Lists.{append_empty-left, append_empty-right, and_true-left, and_true-right}
 use Rattle.mir_round_trip.proofs.Lists.{map-map}
-use Rattle.mir_round_trip.proofs.Rvalues.{two-same}
-use Rattle.mir_round_trip.proofs.TermsBack.{all-at}
 use Rattle.mir_round_trip.proofs.CratesBack.{map-same, as-names}
-use Rattle.mir_round_trip.proofs.Carried.{PathNice, FieldNice, FieldsNice, VariantNice, ItemNice}
+use Rattle.mir_round_trip.proofs.Carried.{FieldNice, FieldsNice, VariantNice, ItemNice}
 use Rattle.mir_round_trip.proofs.TypesWritten.{PathsWritten, path_written, ty_written}
-use Rattle.mir_round_trip.proofs.PlacesWritten.{DefsKnown, unless-met}
+use Rattle.mir_round_trip.proofs.PlacesWritten.{unless-met}
 use Rattle.mir_round_trip.proofs.FunctionsWritten.{max-left, max-right}
 
 -- ---- types in a tuple
@@ -39,9 +33,10 @@ Right c strings u = IsTy c (type_named strings (crate_paths c) u)
 types-right : (c : Crate) (strings : Strings) → PathsWritten c → (us : TypesRule) → are_known strings (crate_paths c) us ≡ true → types_depth us ≤ 65 → AllOf (Right c strings) (types_in us)
 types-right c strings paths t.end h good = tt
 types-right c strings paths (t.last u) h good = (ty_written c strings paths u h good, tt)
-types-right c strings paths (t.more u us) h good =
-    (ty_written c strings paths u (and_true-left (is_known strings (crate_paths c) u) (are_known strings (crate_paths c) us) h) (max-left (type_depth u) (types_depth us) 65 good),
-      types-right c strings paths us (and_true-right (is_known strings (crate_paths c) u) (are_known strings (crate_paths c) us) h) (max-right (type_depth u) (types_depth us) 65 good))
+types-right c strings paths (t.more u us) h good = (
+  ty_written c strings paths u (and_true-left (is_known strings (crate_paths c) u) (are_known strings (crate_paths c) us) h) (max-left (type_depth u) (types_depth us) 65 good),
+  types-right c strings paths us (and_true-right (is_known strings (crate_paths c) u) (are_known strings (crate_paths c) us) h) (max-right (type_depth u) (types_depth us) 65 good),
+)
 
 -- ---- fields
 
@@ -56,9 +51,10 @@ items-fields : (c : Crate) (strings : Strings) → PathsWritten c → (fs : Item
     → AllOf (IsField c) (items_of (field_named strings (crate_paths c)) fs)
 items-fields c strings paths G.end codes good nice = tt
 items-fields c strings paths (G.last f) codes good nice = (field-written c strings paths f (append_empty-left (type_codes (names_at c strings) f.1) [] codes) good nice, tt)
-items-fields c strings paths (G.more f fs) codes good nice =
-    (field-written c strings paths f (append_empty-left (type_codes (names_at c strings) f.1) _ codes) good.0 nice.0,
-      items-fields c strings paths fs (append_empty-right (type_codes (names_at c strings) f.1) _ codes) good.1 nice.1)
+items-fields c strings paths (G.more f fs) codes good nice = (
+  field-written c strings paths f (append_empty-left (type_codes (names_at c strings) f.1) _ codes) good.0 nice.0,
+  items-fields c strings paths fs (append_empty-right (type_codes (names_at c strings) f.1) _ codes) good.1 nice.1,
+)
 
 pub map-items : {R A B : Type 0} (h : A → B) (f : R → A) (xs : Items R) → map h (items_of f xs) ≡ items_of (λ x. h (f x)) xs
 map-items h f G.end = refl
@@ -70,9 +66,10 @@ fields-written : (c : Crate) (strings : Strings) → PathsWritten c → (fs : Fi
 fields-written c strings paths m.plain codes good nice = refl
 fields-written c strings paths (m.tupled us) codes good nice = parts-written c strings (types_in us) (types-right c strings paths us (unless-met _ 12 codes) good)
 fields-written c strings paths (m.labelled fs) codes good nice =
-    let N = names_at c strings in
-    (items-fields c strings paths fs (append_empty-right (unless (none_twice [] (items_of (λ f. string_at strings f.0) fs)) 10) _ codes) good nice,
-      ap (none_twice []) (map-items (λ f. f.name) (field_named strings (crate_paths c)) fs) ∙ unless-met _ 10 (append_empty-left (unless (none_twice [] (items_of (λ f. string_at strings f.0) fs)) 10) _ codes))
+    let N = names_at c strings in (
+      items-fields c strings paths fs (append_empty-right (unless (none_twice [] (items_of (λ f. string_at strings f.0) fs)) 10) _ codes) good nice,
+      ap (none_twice []) (map-items (λ f. f.name) (field_named strings (crate_paths c)) fs) ∙ unless-met _ 10 (append_empty-left (unless (none_twice [] (items_of (λ f. string_at strings f.0) fs)) 10) _ codes),
+    )
 
 -- ---- variants
 
@@ -81,9 +78,10 @@ variants-written : (c : Crate) (strings : Strings) → PathsWritten c → (vs : 
 variants-written c strings paths G.end codes good nice = tt
 variants-written c strings paths (G.last v) codes good nice =
     (record { name = nice.0; fields = fields-written c strings paths v.1 (append_empty-left (fields_codes (names_at c strings) v.1) [] codes) good nice.1 }, tt)
-variants-written c strings paths (G.more v vs) codes good nice =
-    (record { name = nice.0.0; fields = fields-written c strings paths v.1 (append_empty-left (fields_codes (names_at c strings) v.1) _ codes) good.0 nice.0.1 },
-      variants-written c strings paths vs (append_empty-right (fields_codes (names_at c strings) v.1) _ codes) good.1 nice.1)
+variants-written c strings paths (G.more v vs) codes good nice = (
+  record { name = nice.0.0; fields = fields-written c strings paths v.1 (append_empty-left (fields_codes (names_at c strings) v.1) _ codes) good.0 nice.0.1 },
+  variants-written c strings paths vs (append_empty-right (fields_codes (names_at c strings) v.1) _ codes) good.1 nice.1,
+)
 
 -- ---- items of a file
 
@@ -95,11 +93,13 @@ pub def-written : (c : Crate) (strings : Strings) → PathsWritten c → (item :
 def-written c strings paths (m.struct q fs) h = (record { path = path_written strings q h.2.0; shape = (refl, fields-written c strings paths fs h.0 h.1 h.2.1) }, tt)
 def-written c strings paths (m.enum q vs) h =
     let twice = append_empty-left (unless (none_twice [] (items_of (λ v. string_at strings v.0) vs)) 10) _ h.0 in
-    let fields = append_empty-right (unless (none_twice [] (items_of (λ v. string_at strings v.0) vs)) 10) _ h.0 in
-    (record {
-      path = path_written strings q h.2.0;
-      shape = (variants-written c strings paths vs fields h.1 h.2.1, ap (none_twice []) (map-items (λ v. v.name) (variant_named strings (crate_paths c)) vs) ∙ unless-met _ 10 twice);
-    }, tt)
+    let fields = append_empty-right (unless (none_twice [] (items_of (λ v. string_at strings v.0) vs)) 10) _ h.0 in (
+      record {
+        path = path_written strings q h.2.0;
+        shape = (variants-written c strings paths vs fields h.1 h.2.1, ap (none_twice []) (map-items (λ v. v.name) (variant_named strings (crate_paths c)) vs) ∙ unless-met _ 10 twice);
+      },
+      tt,
+    )
 def-written c strings paths (m.extern q us u) h = tt
 def-written c strings paths (m.function f) h = tt
 
@@ -112,12 +112,14 @@ outside-written c strings paths (m.struct q fs) h = tt
 outside-written c strings paths (m.enum q vs) h = tt
 outside-written c strings paths (m.extern q us u) h =
     let N = names_at c strings in
-    let known = unless-met _ 12 (append_empty-left (unless (are_known strings (crate_paths c) us) 12) (type_codes N u) h.0) in
-    (record {
-      path = path_written strings q h.2;
-      args = all-types c strings (types_in us) (types-right c strings paths us known h.1.0);
-      result = ty_written c strings paths u (unless-met _ 12 (append_empty-right (unless (are_known strings (crate_paths c) us) 12) (type_codes N u) h.0)) h.1.1;
-    }, tt)
+    let known = unless-met _ 12 (append_empty-left (unless (are_known strings (crate_paths c) us) 12) (type_codes N u) h.0) in (
+      record {
+        path = path_written strings q h.2;
+        args = all-types c strings (types_in us) (types-right c strings paths us known h.1.0);
+        result = ty_written c strings paths u (unless-met _ 12 (append_empty-right (unless (are_known strings (crate_paths c) us) 12) (type_codes N u) h.0)) h.1.1;
+      },
+      tt,
+    )
 outside-written c strings paths (m.function f) h = tt
 
 -- ---- what the names mean

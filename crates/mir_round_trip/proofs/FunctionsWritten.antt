@@ -1,30 +1,30 @@
 -- The functions that a derivation names are such as a canonical text writes.
-use Rattle.mir_round_trip.specs.Names.{IsTy, crate_paths}
+use Rattle.mir_round_trip.specs.Names.{IsTy}
 use Rattle.mir_round_trip.specs.Bodies.{names_at, IsFn}
-use Rattle.std.proofs.Common.{◌≡◌, ◌<◌, ◌≤◌, ◌+◌, ◌^◌, ℕ, zero, suc, max, Bool, true, false, ◌&&◌, ◌||◌, nat_eq, List, [], ◌∷◌, ◌++◌, map, length, refl, sym, ap, subst, ◌∙◌, arith, Option, Some, None, is_some}
+use Rattle.std.proofs.Common.{◌≡◌, ◌<◌, ◌≤◌, ◌+◌, ◌^◌, ℕ, suc, max, Bool, true, false, ◌||◌, nat_eq, List, [], ◌∷◌, ◌++◌, map, length, refl, sym, ap, subst, ◌∙◌, arith}
 use Rattle.std.proofs.lemmas.Bool.Decides.{nat_tests}
 use Rattle.mir_syntax.specs.Tree.{Tree}
 use Rattle.mir_syntax.specs.Crate.{TypedStmt, TypedBlock, TypedFunction, Crate}
 use Rattle.mir_text.specs.Grammar as G
 use Rattle.mir_text.specs.Grammar.{Put, Items, items_of, AllItems, AllOf}
 use Rattle.mir_text.specs.GrammarStatements.{StmtRule}
-use Rattle.mir_text.specs.GrammarTerms.{TermRule, BlockRule, ended_put, block_put}
+use Rattle.mir_text.specs.GrammarTerms.{BlockRule, ended_put, block_put}
 use Rattle.mir_text.specs.GrammarItems as m
 use Rattle.mir_text.specs.GrammarItems.{ArgRule, arg_put, decl_put, DeclRule, DeclsRule, FnRule}
 use Rattle.mir_text.specs.Names.{Strings, Names, ty_of}
-use Rattle.mir_text.specs.NamedBodies.{Declared, stmt_named, stmts_named, term_named, block_named}
+use Rattle.mir_text.specs.NamedBodies.{Declared, stmt_named, stmts_named, block_named}
 use Rattle.mir_text.specs.Naming.{lets_in, lets_of, declarations, declares, declared, locals_from, function_named}
-use Rattle.mir_text.specs.PartLines.{LinesFrom, past, Lined, items_lined, each_lined, lets_lined_in, lets_lined, blocks_lined, fn_lined, function}
-use Rattle.mir_text.specs.NameFaults.{Fault, on_line, unless, concat, each, is_among, type_codes, stmt_codes, term_codes, stmt_faults, block_faults, declaration_faults, args_in_place, declared_once, result_faults, none_missing, in_order, blocks_in_order, labels_of, fn_faults}
-use Rattle.mir_text.specs.Nesting.{type_depth, TypeGood, ArgGood, decl_depth, decls_depth, BlockGood, FnGood, StmtGood}
+use Rattle.mir_text.specs.PartLines.{LinesFrom, past, Lined, items_lined, each_lined, lets_lined_in, lets_lined, blocks_lined, fn_lined}
+use Rattle.mir_text.specs.NameFaults.{Fault, on_line, unless, each, is_among, type_codes, stmt_codes, term_codes, stmt_faults, block_faults, declaration_faults, args_in_place, declared_once, result_faults, none_missing, in_order, blocks_in_order, labels_of, fn_faults}
+use Rattle.mir_text.specs.Nesting.{type_depth, ArgGood, decl_depth, decls_depth, BlockGood, FnGood}
 use Rattle.mir_text.specs.ReadLines.{stmt_places, term_places, any_wrong, line_if, wrong_stmt, wrong_in_block}
 use Rattle.mir_rules.specs.Parts as mir
 use Rattle.mir_rules.proofs.Lists.{append_empty-left, append_empty-right, and_true-left, and_true-right, map_empty-source}
-use Rattle.mir_round_trip.proofs.Spelling.{all-map, all-append}
+use Rattle.mir_round_trip.proofs.Spelling.{all-append}
 use Rattle.mir_round_trip.proofs.Rvalues.{two-same}
 use Rattle.mir_round_trip.proofs.Blocks.{all-left, all-right}
 use Rattle.mir_round_trip.proofs.FunctionsBack.{map-append, map-length}
-use Rattle.mir_round_trip.proofs.Carried.{PathNice, TermNice, BlockNice}
+use Rattle.mir_round_trip.proofs.Carried.{PathNice, BlockNice}
 use Rattle.mir_round_trip.proofs.TypesWritten.{path_written, ty_written}
 use Rattle.mir_round_trip.proofs.PlacesWritten.{DefsKnown, unless-met, Typed, Given, Read}
 use Rattle.mir_round_trip.proofs.BodiesWritten.{CallsKnown, Labelled, BlockRead, blocks_written}
@@ -79,22 +79,25 @@ stmts-read : (c : Crate) (strings : Strings) (L : Declared) (locals : List Tree)
     → AllOf (λ x. stmt_codes (names_at c strings) L x ≡ []) xs → AllOf (λ x. any_wrong (names_at c strings) L (stmt_places x) ≡ false) xs → AllOf (λ x. AllOf (Read c strings L) (stmt_places x)) xs
 stmts-read c strings L locals typed [] h codes right = tt
 stmts-read c strings L locals typed (x ∷ xs) h codes right =
-    let P : TypedStmt → Type 0 = λ s. AllTyped c locals (places_of_stmt s) in
-    (stmt_read c strings L locals typed x (all-left P (stmt_named (names_at c strings) L x) (stmts_named (names_at c strings) L xs) h) codes.0 right.0,
-      stmts-read c strings L locals typed xs (all-right P (stmt_named (names_at c strings) L x) (stmts_named (names_at c strings) L xs) h) codes.1 right.1)
+    let P : TypedStmt → Type 0 = λ s. AllTyped c locals (places_of_stmt s) in (
+      stmt_read c strings L locals typed x (all-left P (stmt_named (names_at c strings) L x) (stmts_named (names_at c strings) L xs) h) codes.0 right.0,
+      stmts-read c strings L locals typed xs (all-right P (stmt_named (names_at c strings) L x) (stmts_named (names_at c strings) L xs) h) codes.1 right.1,
+    )
 
 blocks-read : (c : Crate) (strings : Strings) (L : Declared) (locals : List Tree) → Typed L locals → (labels : List ℕ) (bs : List BlockRule) → AllOf (BlockTyped c locals) (map (block_named (names_at c strings) L) bs)
     → AllOf (BlockClean (names_at c strings) L labels) bs → AllOf (BlockRight (names_at c strings) L) bs → AllOf BlockGood bs → AllOf (BlockNice strings) bs → AllOf (BlockRead c strings L labels) bs
 blocks-read c strings L locals typed labels [] h clean right good nice = tt
-blocks-read c strings L locals typed labels (b ∷ bs) h clean right good nice =
-    (record {
-      stmts = stmts-read c strings L locals typed b.stmts h.0.stmts clean.0.stmts right.0.stmts;
-      stmt_codes = clean.0.stmts;
-      term = term_read c strings L locals typed labels b.term h.0.term clean.0.term right.0.term;
-      term_codes = clean.0.term;
-      good = good.0;
-      nice = nice.0;
-    }, blocks-read c strings L locals typed labels bs h.1 clean.1 right.1 good.1 nice.1)
+blocks-read c strings L locals typed labels (b ∷ bs) h clean right good nice = (
+  record {
+    stmts = stmts-read c strings L locals typed b.stmts h.0.stmts clean.0.stmts right.0.stmts;
+    stmt_codes = clean.0.stmts;
+    term = term_read c strings L locals typed labels b.term h.0.term clean.0.term right.0.term;
+    term_codes = clean.0.term;
+    good = good.0;
+    nice = nice.0;
+  },
+  blocks-read c strings L locals typed labels bs h.1 clean.1 right.1 good.1 nice.1,
+)
 
 -- ---- labels
 
@@ -200,10 +203,10 @@ function_written c strings known calls f read valid =
     let order = unless-met (blocks_in_order (labels_of lined)) 15 (append_empty-right _ (unless (blocks_in_order (labels_of lined)) 15) head) in
     let missing = unless-met (none_missing L) 14 (append_empty-right _ (unless (none_missing L) 14) (append_empty-left _ (unless (blocks_in_order (labels_of lined)) 15) head)) in
     let rules : map (λ a. a.1) (lined.args ++ lined.lets) ≡ declarations f =
-        map-append (λ a. a.1) lined.args lined.lets ∙ two-same (λ a b. a ++ b) (args-rules f.args _) (lets-rules f.locals _) in
+    map-append (λ a. a.1) lined.args lined.lets ∙ two-same (λ a b. a ++ b) (args-rules f.args _) (lets-rules f.locals _) in
     let codes : AllOf (λ a. type_codes N a.1 ≡ []) (declarations f) = subst (AllOf (λ a. type_codes N a.1 ≡ [])) rules (types-clean N (lined.args ++ lined.lets) types) in
     let deep : AllOf (λ a. type_depth a.1 ≤ 65) (declarations f) =
-        all-append (λ a. type_depth a.1 ≤ 65) (items_of (λ a. a) f.args) (lets_of f.locals) (items-all ArgGood f.args read.good.0) (lets-good 65 f.locals read.good.2.0) in
+    all-append (λ a. type_depth a.1 ≤ 65) (items_of (λ a. a) f.args) (lets_of f.locals) (items-all ArgGood f.args read.good.0) (lets-good 65 f.locals read.good.2.0) in
     let given : Given c strings L locals = record { defs = known; typed = declared_typed L; there = λ x h. declared_there L x missing h; few = valid.few } in
     let many : length (labels_of lined) ≡ length (map (block_named N L) f.blocks) = lined-length f.blocks _ ∙ sym (map-length (block_named N L) f.blocks) in
     let labels : Labelled (labels_of lined) (length (map (block_named N L) f.blocks)) = record { below = λ b h. subst (λ n. b < n) many (order-below (labels_of lined) b order h); few = valid.few_blocks } in

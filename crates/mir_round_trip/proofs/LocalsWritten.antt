@@ -1,6 +1,6 @@
 -- Where no local is missing, the declared ones are as many as there are locals, and have the types with which they are declared.
 use Rattle.mir_round_trip.specs.Names.{IsTy, Proper}
-use Rattle.std.proofs.Common.{◌≡◌, ◌<◌, ◌≤◌, ◌+◌, ℕ, zero, suc, Bool, true, false, ◌&&◌, nat_eq, List, [], ◌∷◌, ◌++◌, length, get_or, refl, sym, ap, subst, ◌∙◌, arith, Option, Some, None, is_some, if◌then◌else◌}
+use Rattle.std.proofs.Common.{◌≡◌, ◌<◌, ◌≤◌, ◌+◌, ℕ, zero, suc, Bool, true, false, nat_eq, [], ◌∷◌, length, get_or, refl, sym, ap, subst, ◌∙◌, arith, Some, is_some}
 use Rattle.std.proofs.lemmas.Bool.Decides.{nat_tests}
 use Rattle.mir_syntax.specs.Tree.{Tree, empty}
 use Rattle.mir_syntax.specs.Crate.{Crate}
@@ -10,7 +10,6 @@ use Rattle.mir_text.specs.Naming.{or_unit, locals_from}
 use Rattle.mir_text.specs.NameFaults.{below_declared, none_missing_in, none_missing}
 use Rattle.mir_text.specs.PlaceText.{local_ty}
 use Rattle.mir_rules.proofs.Lists.{and_true-left, and_true-right}
-use Rattle.mir_round_trip.proofs.Rvalues.{two-same}
 
 abbrev IsDeclared : Declared → ℕ → Type 0
 IsDeclared L x = is_some (declared_ty L x) ≡ true

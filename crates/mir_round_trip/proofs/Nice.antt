@@ -1,13 +1,13 @@
 -- What the symbols of a text carry: names are names, strings are closed in their line, numbers are below 2^128.
-use Rattle.mir_round_trip.specs.Names.{Clear, IsName}
-use Rattle.std.proofs.Common.{◌≡◌, ◌<◌, ◌^◌, ℕ, zero, suc, Bool, true, false, ◌&&◌, List, [], ◌∷◌, ◌++◌, refl, sym, ap, subst, ◌∙◌, inl, inr, Option, Some, None, nat_lt, get_or}
+use Rattle.mir_round_trip.specs.Names.{IsName}
+use Rattle.std.proofs.Common.{◌≡◌, ◌<◌, ◌^◌, ℕ, zero, suc, Bool, true, false, List, [], ◌∷◌, refl, sym, subst, ◌∙◌, inl, inr, Option, Some, None, nat_lt, get_or}
 use Rattle.std.specs.List.{list_all}
 use Rattle.std.specs.Str.Parse.{digits_value}
 use Rattle.mir_text.specs.declared.symbol.Symbol.{Symbol}
 use Rattle.mir_text.specs.declared.symbol.Symbol.TheVariants as s
 use Rattle.mir_text.specs.Words.{word_place}
 use Rattle.mir_text.specs.Pieces.{Mark, open_paren, close_paren, open_brace, close_brace, open_bracket, close_bracket, comma, semicolon, colon, colons, dot, ampersand, star, exclamation, equals, hash, minus, arrow, fat_arrow, less, greater, bar, question, Piece, blank, line, comment, local, number, typed, text, word, under, mark, IsPiece, IsContent, Stand}
-use Rattle.mir_text.specs.Symbols.{used_symbols, word_symbol, mark_symbol, grammar_names, number_in, Token, nothing, symbol, name, string, numbered, block_digits, reserved_or_name, block_or_word, word_token, token_of, symbols_of, strings_of}
+use Rattle.mir_text.specs.Symbols.{used_symbols, word_symbol, mark_symbol, grammar_names, Token, nothing, symbol, name, string, numbered, block_digits, word_token, token_of, symbols_of, strings_of}
 use Rattle.mir_text.specs.Grammar.{AllOf}
 use Rattle.mir_text.specs.Names.{Strings, string_at}
 use Rattle.mir_round_trip.specs.Known.{Carries, Holds, put_known, known_symbols}

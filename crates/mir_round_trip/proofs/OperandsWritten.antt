@@ -1,16 +1,15 @@
 -- The operands and rvalues that a derivation names are such as a canonical text writes.
-use Rattle.mir_round_trip.specs.Names.{IsName, IsDef, IsTy, crate_paths}
-use Rattle.mir_round_trip.specs.Bodies.{names_at, IsPlace, IsConst, IsOperand, AreFields, IsOne, AreAsMany, IsBuild, AreParts, IsRvalue}
-use Rattle.std.proofs.Common.{◌≡◌, ◌<◌, ◌≤◌, ◌+◌, ◌-◌, ◌^◌, ℕ, zero, suc, Bool, true, false, not, ◌&&◌, ◌||◌, ◌==◌, nat_lt, List, [], ◌∷◌, ◌++◌, map, length, get_or, codes, refl, sym, ap, subst, ◌∙◌, arith, append_assoc, Option, Some, None, is_some, slice_get, bytes_eq, if◌then◌else◌}
+use Rattle.mir_round_trip.specs.Names.{IsDef, crate_paths}
+use Rattle.mir_round_trip.specs.Bodies.{names_at, IsConst, IsOperand, AreFields, IsOne, AreAsMany, IsBuild, IsRvalue}
+use Rattle.std.proofs.Common.{◌≡◌, ◌<◌, ◌≤◌, ◌+◌, ◌-◌, ℕ, zero, suc, Bool, true, false, not, ◌==◌, nat_lt, List, [], ◌∷◌, ◌++◌, length, get_or, codes, refl, sym, ap, subst, ◌∙◌, arith, append_assoc, Option, Some, None, slice_get, bytes_eq, if◌then◌else◌}
 use Rattle.std.proofs.lemmas.Bool.Decides.{nat_tests}
 use Rattle.mir_syntax.specs.declared.types.IntTy.{IntTy}
 use Rattle.mir_syntax.specs.declared.types.Form.{Form}
 use Rattle.mir_syntax.specs.declared.types.Form.TheVariants as form
-use Rattle.mir_syntax.specs.declared.body.Operand.{Operand}
 use Rattle.mir_syntax.specs.Tree.{Tree}
 use Rattle.mir_syntax.specs.Crate.{TypedField, TypedVariant, TypedDef, Crate}
 use Rattle.mir_syntax.specs.Shapes.{◌>>=◌}
-use Rattle.mir_text.specs.Numbers.{is_signed, half, count, limit, fits, bits_of, least, greatest}
+use Rattle.mir_text.specs.Numbers.{is_signed, half, count, fits, bits_of, least, greatest}
 use Rattle.mir_text.specs.Words.{place_in}
 use Rattle.mir_text.specs.Grammar.{Items, end, last, more, items_of, AllItems, AllOf}
 use Rattle.mir_text.specs.GrammarTypes as t
@@ -19,19 +18,19 @@ use Rattle.mir_text.specs.GrammarPlaces as p
 use Rattle.mir_text.specs.GrammarPlaces.{PlaceRule, ValueRule, OperandRule}
 use Rattle.mir_text.specs.GrammarStatements as r
 use Rattle.mir_text.specs.GrammarStatements.{NamedRule, BuildRule, RvalueRule}
-use Rattle.mir_text.specs.Names.{Strings, Names, string_at, path_bytes, last_name, within, without_last}
-use Rattle.mir_text.specs.NamedBodies.{Declared, variant_in, place_named, value_named, operand_named, struct_at, enum_variant_at, or_else, built_by, or_first, parts_named, rvalue_named}
-use Rattle.mir_text.specs.NameFaults.{unless, concat, each_item, operand_codes, named_operand_codes, parts_codes, same_texts, field_names, has_form, variant_fits, variant_number, def_number, built_variant, build_codes, rvalue_codes, type_codes}
-use Rattle.mir_text.specs.Nesting.{PlaceGood, ValueFits, OperandGood, NamedGood, FirstGood, PartsGood, RvalueGood}
+use Rattle.mir_text.specs.Names.{Strings, string_at, path_bytes, last_name, within, without_last}
+use Rattle.mir_text.specs.NamedBodies.{Declared, variant_in, value_named, operand_named, struct_at, enum_variant_at, built_by, or_first, parts_named, rvalue_named}
+use Rattle.mir_text.specs.NameFaults.{each_item, operand_codes, parts_codes, same_texts, field_names, has_form, variant_fits, variant_number, def_number, built_variant, build_codes, rvalue_codes}
+use Rattle.mir_text.specs.Nesting.{ValueFits, OperandGood, NamedGood, FirstGood, PartsGood, RvalueGood}
 use Rattle.mir_text.specs.ReadLines.{operand_places, parts_places, rvalue_places}
 use Rattle.mir_text.specs.TypeText.{no_def, def_at}
 use Rattle.mir_text.specs.PlaceText.{no_variant, variant_at}
-use Rattle.mir_rules.proofs.Lists.{append_empty-left, append_empty-right, and_true-left, and_true-right, bind_some}
+use Rattle.mir_rules.proofs.Lists.{append_empty-left, append_empty-right, and_true-right, bind_some}
 use Rattle.mir_round_trip.proofs.Operands.{halves}
 use Rattle.mir_round_trip.proofs.Rvalues.{two-same}
 use Rattle.mir_round_trip.proofs.Blocks.{all-left, all-right}
 use Rattle.mir_round_trip.proofs.TypesWritten.{def_there, path-of, ty_written}
-use Rattle.mir_round_trip.proofs.PlacesWritten.{DefsKnown, at-place, Named, variant-by, unless-met, Given, Read, place_written}
+use Rattle.mir_round_trip.proofs.PlacesWritten.{DefsKnown, at-place, variant-by, unless-met, Given, Read, place_written}
 
 -- ---- constants
 
@@ -86,9 +85,10 @@ items-written : {R : Type 0} (c : Crate) (strings : Strings) (L : Declared) (loc
 items-written c strings L locals given of Good as-good end h codes good = tt
 items-written c strings L locals given of Good as-good (last x) h codes good =
     (operand_written c strings L locals given (of x) (all-left (Read c strings L) (operand_places (of x)) [] h) (append_empty-left (operand_codes (names_at c strings) L (of x)) [] codes) (as-good x good), tt)
-items-written c strings L locals given of Good as-good (more x xs) h codes good =
-    (operand_written c strings L locals given (of x) (all-left (Read c strings L) (operand_places (of x)) _ h) (append_empty-left (operand_codes (names_at c strings) L (of x)) _ codes) (as-good x good.0),
-      items-written c strings L locals given of Good as-good xs (all-right (Read c strings L) (operand_places (of x)) _ h) (append_empty-right (operand_codes (names_at c strings) L (of x)) _ codes) good.1)
+items-written c strings L locals given of Good as-good (more x xs) h codes good = (
+  operand_written c strings L locals given (of x) (all-left (Read c strings L) (operand_places (of x)) _ h) (append_empty-left (operand_codes (names_at c strings) L (of x)) _ codes) (as-good x good.0),
+  items-written c strings L locals given of Good as-good xs (all-right (Read c strings L) (operand_places (of x)) _ h) (append_empty-right (operand_codes (names_at c strings) L (of x)) _ codes) good.1,
+)
 
 pub operands_written : (c : Crate) (strings : Strings) (L : Declared) (locals : List Tree) → Given c strings L locals → (xs : Items OperandRule) → AllOf (Read c strings L) (each_item operand_places xs)
     → each_item (operand_codes (names_at c strings) L) xs ≡ [] → AllItems OperandGood xs → AllOf (IsOperand c locals) (items_of (operand_named (names_at c strings) L) xs)
@@ -173,13 +173,13 @@ enum-by c strings q d k known none h one =
     let same-place : place_in (crate_paths c) (path_bytes strings front) ≡ Some d = g1 ∙ ap Some is.0 in
     let path = path-of c (path_bytes strings front) d same-place in
     let bytes : path_bytes strings q ≡ (def_at c d).path ++ (codes "::" ++ (variant_at c d k).name) =
-        front-bytes strings q front f1 ∙ two-same (λ a b. a ++ (codes "::" ++ b)) (sym path) (sym name) in
+    front-bytes strings q front f1 ∙ two-same (λ a b. a ++ (codes "::" ++ b)) (sym path) (sym name) in
     let found : variant_in (variant_at c d k).name (def_at c d) ≡ Some k = two-same variant_in name at.1 ∙ x2 in
     record {
       def = def;
       one = one;
       named = subst (IsOne c d k) (sym flag)
-        (known.variants d k at.0 one flag, found, λ any. ap (λ l. place_in (crate_paths c) l >>= struct_at (names_at c any)) (sym bytes) ∙ none);
+          (known.variants d k at.0 one flag, found, λ any. ap (λ l. place_in (crate_paths c) l >>= struct_at (names_at c any)) (sym bytes) ∙ none);
     }
 
 built-by : (c : Crate) (strings : Strings) (q : PathRule) (d k : ℕ) (o : Option (ℕ × ℕ)) → DefsKnown c → (place_in (crate_paths c) (path_bytes strings q) >>= struct_at (names_at c strings)) ≡ o
@@ -274,23 +274,27 @@ pub rvalue_written : (c : Crate) (strings : Strings) (L : Declared) (locals : Li
     → rvalue_codes (names_at c strings) L x ≡ [] → RvalueGood x → IsRvalue c locals (rvalue_named (names_at c strings) L x)
 unfolding IsRvalue IsOperand
 rvalue_written c strings L locals given (r.«use» x) h codes good = operand_written c strings L locals given x h codes good
-rvalue_written c strings L locals given (r.cast x u) h codes good =
-    (operand_written c strings L locals given x h (append_empty-left (operand_codes (names_at c strings) L x) _ codes) good.0,
-      ty_written c strings given.defs.paths u (unless-met _ 12 (append_empty-right (operand_codes (names_at c strings) L x) _ codes)) good.1)
-rvalue_written c strings L locals given (r.binary op x y) h codes good =
-    (operand_written c strings L locals given x (all-left (Read c strings L) (operand_places x) (operand_places y) h) (append_empty-left (operand_codes (names_at c strings) L x) _ codes) good.0,
-      operand_written c strings L locals given y (all-right (Read c strings L) (operand_places x) (operand_places y) h) (append_empty-right (operand_codes (names_at c strings) L x) _ codes) good.1)
-rvalue_written c strings L locals given (r.overflow op x y) h codes good =
-    (operand_written c strings L locals given x (all-left (Read c strings L) (operand_places x) (operand_places y) h) (append_empty-left (operand_codes (names_at c strings) L x) _ codes) good.0,
-      operand_written c strings L locals given y (all-right (Read c strings L) (operand_places x) (operand_places y) h) (append_empty-right (operand_codes (names_at c strings) L x) _ codes) good.1)
+rvalue_written c strings L locals given (r.cast x u) h codes good = (
+  operand_written c strings L locals given x h (append_empty-left (operand_codes (names_at c strings) L x) _ codes) good.0,
+  ty_written c strings given.defs.paths u (unless-met _ 12 (append_empty-right (operand_codes (names_at c strings) L x) _ codes)) good.1,
+)
+rvalue_written c strings L locals given (r.binary op x y) h codes good = (
+  operand_written c strings L locals given x (all-left (Read c strings L) (operand_places x) (operand_places y) h) (append_empty-left (operand_codes (names_at c strings) L x) _ codes) good.0,
+  operand_written c strings L locals given y (all-right (Read c strings L) (operand_places x) (operand_places y) h) (append_empty-right (operand_codes (names_at c strings) L x) _ codes) good.1,
+)
+rvalue_written c strings L locals given (r.overflow op x y) h codes good = (
+  operand_written c strings L locals given x (all-left (Read c strings L) (operand_places x) (operand_places y) h) (append_empty-left (operand_codes (names_at c strings) L x) _ codes) good.0,
+  operand_written c strings L locals given y (all-right (Read c strings L) (operand_places x) (operand_places y) h) (append_empty-right (operand_codes (names_at c strings) L x) _ codes) good.1,
+)
 rvalue_written c strings L locals given (r.unary op x) h codes good = operand_written c strings L locals given x h codes good
 rvalue_written c strings L locals given (r.reference true q) h codes good = place_written c strings L locals given q h.0 codes good
 rvalue_written c strings L locals given (r.reference false q) h codes good = place_written c strings L locals given q h.0 codes good
 rvalue_written c strings L locals given (r.discriminant q) h codes good = place_written c strings L locals given q h.0 codes good
 rvalue_written c strings L locals given r.nothing h codes good = tt
-rvalue_written c strings L locals given (r.tuple_of x xs) h codes good =
-    (operand_written c strings L locals given x (all-left (Read c strings L) (operand_places x) (each_item operand_places xs) h) (append_empty-left (operand_codes (names_at c strings) L x) _ codes) (first-is x good.0),
-      operands_written c strings L locals given xs (all-right (Read c strings L) (operand_places x) (each_item operand_places xs) h) (append_empty-right (operand_codes (names_at c strings) L x) _ codes) good.1)
+rvalue_written c strings L locals given (r.tuple_of x xs) h codes good = (
+  operand_written c strings L locals given x (all-left (Read c strings L) (operand_places x) (each_item operand_places xs) h) (append_empty-left (operand_codes (names_at c strings) L x) _ codes) (first-is x good.0),
+  operands_written c strings L locals given xs (all-right (Read c strings L) (operand_places x) (each_item operand_places xs) h) (append_empty-right (operand_codes (names_at c strings) L x) _ codes) good.1,
+)
 rvalue_written c strings L locals given (r.build q x) h codes good =
     let own = append_empty-left (build_codes (names_at c strings) q x) (parts_codes (names_at c strings) L x) codes in
     let parts = append_empty-right (build_codes (names_at c strings) q x) (parts_codes (names_at c strings) L x) codes in

@@ -1,17 +1,17 @@
 -- No two paths of a crate clash where those of the items that name it don't: whatever the order of the items, each kind keeps its own.
-use Rattle.mir_round_trip.specs.Readable.{unlined, option_paths, def_defined, outside_defined, fn_defined, crate_defined, AreApart}
-use Rattle.std.proofs.Common.{◌≡◌, ℕ, Bool, true, false, not, ◌&&◌, ◌||◌, List, [], ◌∷◌, ◌++◌, map, codes, refl, sym, ap, subst, ◌∙◌, append_assoc, bytes_eq, is_some}
+use Rattle.mir_round_trip.specs.Readable.{unlined, def_defined, outside_defined, fn_defined, AreApart}
+use Rattle.std.proofs.Common.{◌≡◌, ℕ, Bool, true, false, not, ◌&&◌, ◌||◌, List, [], ◌∷◌, ◌++◌, map, codes, refl, sym, ap, subst, ◌∙◌, append_assoc, bytes_eq}
 use Rattle.std.proofs.lemmas.Slice.Eq.{bytes_eq-Decides}
-use Rattle.mir_syntax.specs.Crate.{TypedVariant, TypedDef, TypedOutside, TypedFunction, Crate}
-use Rattle.mir_text.specs.Grammar.{Items, items_of}
+use Rattle.mir_syntax.specs.Crate.{Crate}
+use Rattle.mir_text.specs.Grammar.{Items}
 use Rattle.mir_text.specs.GrammarTypes.{PathRule}
 use Rattle.mir_text.specs.GrammarItems as m
 use Rattle.mir_text.specs.GrammarItems.{VariantRule, ItemRule, item_put, FileRule}
 use Rattle.mir_text.specs.Names as n
 use Rattle.mir_text.specs.Names.{Strings, Names, string_at, path_bytes, variant_named, def_in, defs_in, def_named}
-use Rattle.mir_text.specs.Naming.{outside_in, outsides_in, function_in, functions_in}
+use Rattle.mir_text.specs.Naming.{outsides_in, functions_in}
 use Rattle.mir_text.specs.PartLines.{LinesFrom, past, other, item_lined, file_lined}
-use Rattle.mir_text.specs.NameFaults.{unless, on_line, Defined, defined_by, variant_paths, same_flag, same_path, stands_in, is_variant_path, clashes, any_clashes, path_faults}
+use Rattle.mir_text.specs.NameFaults.{unless, on_line, Defined, defined_by, same_flag, is_variant_path, clashes, any_clashes, path_faults}
 use Rattle.mir_round_trip.specs.Bodies.{names_at}
 use Rattle.mir_round_trip.specs.Names.{crate_paths}
 use Rattle.mir_rules.proofs.Lists.{append_empty-left, append_empty-right, or_false-left, or_false-right}

@@ -1,15 +1,14 @@
 -- The type of a place that a derivation names is that of the named place.
 use Rattle.mir_round_trip.specs.Bodies.{plain_shapes, names_at}
-use Rattle.std.proofs.Common.{◌≡◌, ◌<◌, ℕ, zero, suc, Bool, true, false, List, [], ◌∷◌, ◌++◌, length, refl, sym, ap, subst, ◌∙◌, arith, Option, Some, None, is_some, slice_get, get_or}
+use Rattle.std.proofs.Common.{◌≡◌, ◌<◌, ℕ, true, List, [], ◌∷◌, ◌++◌, length, refl, sym, ap, ◌∙◌, Option, Some, None, is_some, slice_get}
 use Rattle.mir_syntax.specs.declared.body.Proj.{Proj}
 use Rattle.mir_syntax.specs.declared.body.Proj.TheVariants.{Field, Downcast, Deref}
-use Rattle.mir_syntax.specs.declared.body.Place.{Place}
 use Rattle.mir_syntax.specs.Tree.{Tree, empty}
 use Rattle.mir_syntax.specs.Crate.{Crate}
 use Rattle.mir_syntax.specs.Shapes.{Shape, ◌>>=◌, pointee, proj_ty, path_ty, place_ty, shapes_of}
 use Rattle.mir_text.specs.GrammarPlaces as p
 use Rattle.mir_text.specs.GrammarPlaces.{PlaceRule}
-use Rattle.mir_text.specs.Names.{Strings, Names, string_at}
+use Rattle.mir_text.specs.Names.{Strings, string_at}
 use Rattle.mir_text.specs.NamedBodies.{Declared, declared_ty, variant_of_ty, place_ty_of, downcast_ty, variant_at_place, or_zero, local_in, projs_named, place_named}
 use Rattle.mir_text.specs.NameFaults.{unless, type_codes, place_codes}
 use Rattle.mir_text.specs.PlaceText.{local_ty}

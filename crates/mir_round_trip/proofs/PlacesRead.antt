@@ -1,10 +1,8 @@
 -- The places that the parts of a derivation write: each has a type, is written with the definition's types, and has no fault.
 use Rattle.mir_round_trip.specs.Bodies.{names_at}
-use Rattle.std.proofs.Common.{◌≡◌, ◌<◌, ℕ, Bool, true, false, not, ◌||◌, List, [], ◌∷◌, ◌++◌, map, flat_map, length, refl, sym, ap, subst, ◌∙◌, Option, Some, None, is_some, is_none}
+use Rattle.std.proofs.Common.{◌≡◌, ◌<◌, ℕ, true, false, List, [], ◌∷◌, ◌++◌, map, flat_map, length, refl, sym, ap, subst, ◌∙◌, Some, is_none}
 use Rattle.std.proofs.lemmas.List.{append-nil}
-use Rattle.std.specs.List.{list_any}
 use Rattle.mir_syntax.specs.declared.body.Place.{Place}
-use Rattle.mir_syntax.specs.declared.body.Operand.{Operand}
 use Rattle.mir_syntax.specs.Tree.{Tree}
 use Rattle.mir_syntax.specs.Crate as C
 use Rattle.mir_syntax.specs.Crate.{TypedRvalue, TypedStmt, Crate}
@@ -17,8 +15,8 @@ use Rattle.mir_text.specs.GrammarStatements.{BuildRule, RvalueRule, StmtRule}
 use Rattle.mir_text.specs.GrammarTerms as g
 use Rattle.mir_text.specs.GrammarTerms.{TermRule}
 use Rattle.mir_text.specs.Names.{Strings, Names}
-use Rattle.mir_text.specs.NamedBodies.{Declared, declared_ty, local_in, place_named, operand_named, parts_named, rvalue_named, stmt_named, term_named}
-use Rattle.mir_text.specs.NameFaults.{concat, each, each_item, place_codes, operand_codes, named_operand_codes, parts_codes, build_codes, rvalue_codes, stmt_codes, call_codes, target_codes, arm_codes, term_codes}
+use Rattle.mir_text.specs.NamedBodies.{Declared, declared_ty, place_named, operand_named, parts_named, rvalue_named, stmt_named, term_named}
+use Rattle.mir_text.specs.NameFaults.{each, each_item, place_codes, operand_codes, parts_codes, build_codes, rvalue_codes, stmt_codes, call_codes, target_codes, arm_codes, term_codes}
 use Rattle.mir_text.specs.PlaceText.{local_ty}
 use Rattle.mir_text.specs.ReadLines.{operand_places, parts_places, rvalue_places, stmt_places, term_places, is_wrong, any_wrong}
 use Rattle.mir_rules.specs.Parts as mir
@@ -170,9 +168,10 @@ places-read : (c : Crate) (strings : Strings) (L : Declared) (locals : List Tree
     → AllTyped c locals (map (place_named (names_at c strings) L) qs) → AllOf (NoFault (names_at c strings) L) qs → any_wrong (names_at c strings) L qs ≡ false → AllOf (Read c strings L) qs
 places-read c strings L locals typed [] h codes right = tt
 places-read c strings L locals typed (q ∷ qs) h codes right =
-    let t = is_there (place_ty (shapes_of c) locals (place_named (names_at c strings) L q)) h.0 in
-    (record { type = t.0; has = place_has c strings L locals typed q codes.0 t.0 t.1; right = or_false-left (is_wrong (names_at c strings) L q) _ right },
-      places-read c strings L locals typed qs h.1 codes.1 (or_false-right (is_wrong (names_at c strings) L q) _ right))
+    let t = is_there (place_ty (shapes_of c) locals (place_named (names_at c strings) L q)) h.0 in (
+      record { type = t.0; has = place_has c strings L locals typed q codes.0 t.0 t.1; right = or_false-left (is_wrong (names_at c strings) L q) _ right },
+      places-read c strings L locals typed qs h.1 codes.1 (or_false-right (is_wrong (names_at c strings) L q) _ right),
+    )
 
 pub stmt_read : (c : Crate) (strings : Strings) (L : Declared) (locals : List Tree) → ((x : ℕ) (t : Tree) → declared_ty L x ≡ Some t → x < length locals → local_ty locals x ≡ t) → (x : StmtRule)
     → AllOf (λ s. AllTyped c locals (places_of_stmt s)) (stmt_named (names_at c strings) L x) → stmt_codes (names_at c strings) L x ≡ [] → any_wrong (names_at c strings) L (stmt_places x) ≡ false

@@ -1,11 +1,9 @@
 -- The places that a derivation names are such as a canonical text writes, where they have types and are written with those of their fields.
 use Rattle.mir_round_trip.specs.Names.{IsName, crate_paths, Proper, tree_depth}
 use Rattle.mir_round_trip.specs.Bodies.{AreFields, plain_shapes, names_at, field_type, IsVariant, Path, path_depth, depth_at, IsPlace}
-use Rattle.std.proofs.Common.{◌≡◌, ◌<◌, ◌≤◌, ◌+◌, ◌^◌, ℕ, zero, suc, max, Bool, true, false, not, ◌||◌, List, [], ◌∷◌, ◌++◌, map, length, get_or, refl, sym, ap, subst, ◌∙◌, arith, Option, Some, None, is_some, slice_get, if◌then◌else◌}
+use Rattle.std.proofs.Common.{◌≡◌, ◌<◌, ◌≤◌, ◌^◌, ℕ, zero, suc, max, Bool, true, false, not, List, [], ◌∷◌, ◌++◌, map, length, get_or, refl, sym, ap, subst, ◌∙◌, arith, Option, Some, None, is_some, slice_get}
 use Rattle.mir_syntax.specs.declared.body.Proj.{Proj}
 use Rattle.mir_syntax.specs.declared.body.Proj.TheVariants.{Field, Downcast, Deref}
-use Rattle.mir_syntax.specs.declared.body.Place.{Place}
-use Rattle.mir_syntax.specs.Tree as tree
 use Rattle.mir_syntax.specs.Tree.{Tree, named}
 use Rattle.mir_syntax.specs.Crate.{TypedVariant, TypedDef, Crate}
 use Rattle.mir_syntax.specs.Shapes.{◌>>=◌, pointee, proj_ty}
@@ -13,7 +11,7 @@ use Rattle.mir_text.specs.Words.{place_in}
 use Rattle.mir_text.specs.GrammarPlaces as p
 use Rattle.mir_text.specs.GrammarPlaces.{PlaceRule}
 use Rattle.mir_text.specs.GrammarTypes.{TypeRule}
-use Rattle.mir_text.specs.Names.{Strings, Names, string_at, type_named, is_known, same_type, ty_of}
+use Rattle.mir_text.specs.Names.{Strings, Names, string_at, type_named, same_type}
 use Rattle.mir_text.specs.NamedBodies.{Declared, declared_ty, variant_names, variant_in, variant_of_ty, place_ty_of, downcast_ty, variant_at_place, or_zero, local_in, projs_named, place_named}
 use Rattle.mir_text.specs.NameFaults.{unless, type_codes, place_codes}
 use Rattle.mir_text.specs.Nesting.{type_depth, place_depth, Small, PlaceGood}

@@ -1,8 +1,8 @@
 -- The paths and types that a derivation writes are such as a canonical text writes.
-use Rattle.mir_round_trip.specs.Names.{Clear, IsName, PathNames, one, more, joined, names_of_path, in_front, split, AllNames, IsPath, crate_paths, IsDef, Proper, AreProper, tree_depth, parts_depth, IsTy}
-use Rattle.std.proofs.Common.{◌≡◌, ◌<◌, ◌≤◌, ◌+◌, ℕ, zero, suc, max, Bool, true, false, ◌&&◌, ◌==◌, nat_eq, bytes_eq, List, [], ◌∷◌, ◌++◌, map, length, get_or, codes, refl, sym, ap, subst, ◌∙◌, arith, append_assoc, Option, Some, None, is_some, if◌then◌else◌}
+use Rattle.mir_round_trip.specs.Names.{IsName, PathNames, one, more, joined, in_front, split, AllNames, IsPath, crate_paths, IsDef, Proper, AreProper, tree_depth, parts_depth, IsTy}
+use Rattle.std.proofs.Common.{◌≡◌, ◌<◌, ◌≤◌, ◌+◌, ℕ, zero, suc, max, Bool, true, false, ◌==◌, nat_eq, bytes_eq, List, [], ◌∷◌, ◌++◌, map, length, get_or, codes, refl, sym, ap, subst, ◌∙◌, arith, append_assoc, Option, Some, None, is_some}
 use Rattle.std.proofs.lemmas.Bool.Decides.{nat_tests}
-use Rattle.std.specs.Char.{is_ascii_digit, is_ascii_alphabetic}
+use Rattle.std.specs.Char.{is_ascii_alphabetic}
 use Rattle.mir_syntax.specs.declared.types.IntTy.{IntTy}
 use Rattle.mir_syntax.specs.declared.types.IntTy.TheVariants as i
 use Rattle.mir_syntax.specs.declared.types.ScalarTy.{ScalarTy}
@@ -16,13 +16,13 @@ use Rattle.mir_text.specs.Words.{place_from, place_in}
 use Rattle.mir_text.specs.Symbols.{name, token_of}
 use Rattle.mir_text.specs.GrammarTypes as t
 use Rattle.mir_text.specs.GrammarTypes.{PathRule, TypeRule, TypesRule}
-use Rattle.mir_text.specs.Names.{Strings, string_at, path_bytes, named_or, ref_to, type_named, types_named, is_known, are_known, int_number, same_scalar, same_type}
+use Rattle.mir_text.specs.Names.{Strings, string_at, path_bytes, named_or, type_named, types_named, is_known, are_known, int_number, same_scalar, same_type}
 use Rattle.mir_text.specs.Nesting.{type_depth, types_depth}
 use Rattle.mir_text.specs.TypeText.{no_def, def_at}
 use Rattle.mir_rules.specs.Same as rule
 use Rattle.mir_rules.proofs.Same.{same_scalar_is}
 use Rattle.mir_rules.proofs.Lists.{and_true-left, and_true-right}
-use Rattle.mir_round_trip.proofs.Numbering.{StandsAt, stands-at}
+use Rattle.mir_round_trip.proofs.Numbering.{stands-at}
 use Rattle.mir_round_trip.proofs.Types.{max-zero}
 use Rattle.mir_round_trip.proofs.Rvalues.{two-same}
 use Rattle.mir_round_trip.proofs.Carried.{PathNice}
@@ -136,6 +136,7 @@ named-proper c bytes (Some d) paths e h = def_there c bytes d paths e
 
 mutual
   unfolding Proper AreProper
+
   pub type_proper : (c : Crate) (strings : Strings) → PathsWritten c → (u : TypeRule) → is_known strings (crate_paths c) u ≡ true → Proper c (type_named strings (crate_paths c) u)
   type_proper c strings paths (t.int x) h = tt
   type_proper c strings paths t.bool h = tt
@@ -143,16 +144,18 @@ mutual
   type_proper c strings paths (t.ref false u) h = type_proper c strings paths u h
   type_proper c strings paths (t.path q) h = named-proper c (path_bytes strings q) (place_in (crate_paths c) (path_bytes strings q)) paths refl h
   type_proper c strings paths t.unit h = tt
-  type_proper c strings paths (t.tuple u us) h =
-      (type_proper c strings paths u (and_true-left (is_known strings (crate_paths c) u) (are_known strings (crate_paths c) us) h),
-        types_proper c strings paths us (and_true-right (is_known strings (crate_paths c) u) (are_known strings (crate_paths c) us) h))
+  type_proper c strings paths (t.tuple u us) h = (
+    type_proper c strings paths u (and_true-left (is_known strings (crate_paths c) u) (are_known strings (crate_paths c) us) h),
+    types_proper c strings paths us (and_true-right (is_known strings (crate_paths c) u) (are_known strings (crate_paths c) us) h),
+  )
 
   pub types_proper : (c : Crate) (strings : Strings) → PathsWritten c → (us : TypesRule) → are_known strings (crate_paths c) us ≡ true → AreProper c (types_named strings (crate_paths c) us)
   types_proper c strings paths t.end h = tt
   types_proper c strings paths (t.last u) h = (type_proper c strings paths u h, tt)
-  types_proper c strings paths (t.more u us) h =
-      (type_proper c strings paths u (and_true-left (is_known strings (crate_paths c) u) (are_known strings (crate_paths c) us) h),
-        types_proper c strings paths us (and_true-right (is_known strings (crate_paths c) u) (are_known strings (crate_paths c) us) h))
+  types_proper c strings paths (t.more u us) h = (
+    type_proper c strings paths u (and_true-left (is_known strings (crate_paths c) u) (are_known strings (crate_paths c) us) h),
+    types_proper c strings paths us (and_true-right (is_known strings (crate_paths c) u) (are_known strings (crate_paths c) us) h),
+  )
 
 named-depth : (n : ℕ) (o : Option ℕ) → tree_depth (named_or n o) ≡ 1
 named-depth n None = refl

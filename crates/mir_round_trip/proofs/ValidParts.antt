@@ -1,5 +1,5 @@
 -- What the rules and the limits say of each function of an accepted crate.
-use Rattle.std.proofs.Common.{◌≡◌, ◌<◌, ◌≤◌, ◌+◌, ◌*◌, ◌^◌, ℕ, zero, suc, Bool, true, false, ◌||◌, nat_lt, List, [], ◌∷◌, ◌++◌, map, length, refl, sym, ap, subst, ◌∙◌, arith, Option, Some, None, is_none, slice_get}
+use Rattle.std.proofs.Common.{◌≡◌, ◌<◌, ◌≤◌, ◌+◌, ℕ, zero, suc, Bool, false, nat_lt, List, [], ◌∷◌, length, refl, arith, Some, is_none, slice_get}
 use Rattle.std.proofs.lemmas.Bool.Decides.{nat_tests}
 use Rattle.std.specs.List.{list_any}
 use Rattle.mir_syntax.specs.declared.body.Place.{Place}
@@ -7,12 +7,12 @@ use Rattle.mir_syntax.specs.declared.body.Term.{Term}
 use Rattle.mir_syntax.specs.Tree.{Tree}
 use Rattle.mir_syntax.specs.Crate as C
 use Rattle.mir_syntax.specs.Crate.{TypedStmt, TypedBlock, TypedBody, TypedFunction, Crate}
-use Rattle.mir_syntax.specs.Shapes.{Shape, shapes_of, place_ty}
+use Rattle.mir_syntax.specs.Shapes.{shapes_of, place_ty}
 use Rattle.mir_text.specs.Grammar.{AllOf}
-use Rattle.mir_rules.specs.Parts.{rvalue_operands, rvalue_places, term_places, term_operands}
-use Rattle.mir_rules.specs.BodyRules.{breaks_v05, breaks_v06, breaks_v14}
-use Rattle.mir_rules.specs.Broken.{gather, if_broken, at_spot, header, rvalue_broken, operands_broken, own_broken, statement_broken, terminator_broken}
-use Rattle.mir_rules.specs.Limits.{most_in_body, most_functions, most_statements, body_weight, blocks_count, locals_count, count_passed, bodies_passed, functions_passed, types_passed, statements_passed, passed}
+use Rattle.mir_rules.specs.Parts.{rvalue_places, term_places}
+use Rattle.mir_rules.specs.BodyRules.{breaks_v05, breaks_v06}
+use Rattle.mir_rules.specs.Broken.{gather, if_broken, at_spot, header, statement_broken, terminator_broken}
+use Rattle.mir_rules.specs.Limits.{most_in_body, most_functions, most_statements, blocks_count, locals_count, count_passed, bodies_passed, functions_passed, types_passed, statements_passed, passed}
 use Rattle.mir_rules.specs.Valid.{Valid, Within}
 use Rattle.mir_rules.proofs.Lists.{append_empty-left, append_empty-right, map_empty-source, gather_empty-at, if_broken_empty, or_false-left, or_false-right}
 use Rattle.mir_rules.proofs.ValidCrates.{first_block, args_below, keeps, body_formed_at}
