@@ -17,6 +17,8 @@ use Rattle.mir_text.specs.GrammarTerms.{UnwindRule, unwind_put, ArmRule, arm_put
 use Rattle.mir_text.specs.GrammarItems as m
 use Rattle.mir_text.specs.GrammarItems.{FieldRule, field_decl_put, FieldsRule, fields_put, struct_put, VariantRule, variant_decl_put, ArgRule, arg_put, AttrRule, attr_put, DebugSymbol, debug_put, inlined_put, DeclRule, DeclsRule, decl_put, decls_put, FnRule, drop_put, fn_put, ItemRule, item_put, FileRule, file_put}
 use Rattle.mir_text.specs.Names.{Strings, string_at}
+use Rattle.mir_text.specs.Naming.{lets_in, lets_of}
+use Rattle.mir_round_trip.proofs.Spelling.{all-append}
 use Rattle.mir_round_trip.proofs.Nice.{Nice}
 
 -- ---- what is asked of rules
@@ -34,7 +36,11 @@ TermNice strings (g.assert expected x message xs b u) = IsContent false (string_
 TermNice strings x = Unit {0}
 
 abbrev pub BlockNice : Strings → BlockRule → Type 0
-BlockNice strings b = TermNice strings b.term
+BlockNice strings b = (b.label < 2 ^ 32) × TermNice strings b.term
+
+-- a declared local
+abbrev pub LocalNice : ArgRule → Type 0
+LocalNice a = a.0 < 2 ^ 32
 
 abbrev pub FieldNice : Strings → FieldRule → Type 0
 FieldNice strings f = IsName (string_at strings f.0)
@@ -50,7 +56,7 @@ abbrev pub ItemNice : Strings → ItemRule → Type 0
 ItemNice strings (m.struct q fs) = PathNice strings q × FieldsNice strings fs
 ItemNice strings (m.enum q vs) = PathNice strings q × AllItems (VariantNice strings) vs
 ItemNice strings (m.extern q us u) = PathNice strings q
-ItemNice strings (m.function f) = PathNice strings f.path × AllOf (BlockNice strings) f.blocks
+ItemNice strings (m.function f) = PathNice strings f.path × AllItems LocalNice f.args × AllOf LocalNice (lets_of f.locals) × AllOf (BlockNice strings) f.blocks
 
 -- ---- what stands behind
 
@@ -203,7 +209,7 @@ block-both : (strings : Strings) (b : BlockRule) → Both strings block_put (Blo
 block-both strings b rest h =
     let k = each-behind strings ended_put (ended-behind strings) b.stmts _ h.1.1.1 in
     let l = term-both strings b.term _ k in
-    (l.0, l.1.1.1)
+    ((h.0, l.0), l.1.1.1)
 
 -- ---- fields and variants
 
@@ -225,8 +231,8 @@ struct-both strings (m.labelled fs) rest h = items-both strings field_decl_put (
 
 -- ---- functions
 
-arg-behind : (strings : Strings) (a : ArgRule) → Behind strings arg_put a
-arg-behind strings a rest h = type-behind strings a.1 rest h.1.1
+arg-both : (strings : Strings) (a : ArgRule) → Both strings arg_put LocalNice a
+arg-both strings a rest h = (h.0, type-behind strings a.1 rest h.1.1)
 
 attr-behind : (strings : Strings) (a : AttrRule) → Behind strings attr_put a
 attr-behind strings m.none rest h = h
@@ -242,17 +248,20 @@ inlined-behind strings None rest h = h
 inlined-behind strings (Some q) rest h = let k = path-behind strings q _ h.1.1 in k.1
 
 mutual
-  decl-behind : (strings : Strings) (d : DeclRule) → Behind strings decl_put d
-  decl-behind strings (m.«let» b x u) rest h = let k = mut-behind strings b _ h.1 in let l = type-behind strings u _ k.1.1 in l.1
-  decl-behind strings (m.debug xs) rest h = let k = each-behind strings debug_put (debug-behind strings) xs _ h.1 in k.1
-  decl-behind strings (m.scope n q ds) rest h =
+  decl-both : (strings : Strings) (d : DeclRule) → Both strings decl_put (λ e. AllOf LocalNice (lets_in e)) d
+  decl-both strings (m.«let» b x u) rest h = let k = mut-behind strings b _ h.1 in let l = type-behind strings u _ k.1.1 in ((k.0, tt), l.1)
+  decl-both strings (m.debug xs) rest h = let k = each-behind strings debug_put (debug-behind strings) xs _ h.1 in (tt, k.1)
+  decl-both strings (m.scope n q ds) rest h =
       let k = inlined-behind strings q _ h.1.1 in
-      let l = decls-behind strings ds _ k.1 in
-      l.1
+      let l = decls-both strings ds _ k.1 in
+      (l.0, l.1.1)
 
-  decls-behind : (strings : Strings) (ds : DeclsRule) → Behind strings decls_put ds
-  decls-behind strings m.no_decls rest h = h
-  decls-behind strings (m.decls d ds) rest h = decls-behind strings ds rest (decl-behind strings d _ h)
+  decls-both : (strings : Strings) (ds : DeclsRule) → Both strings decls_put (λ e. AllOf LocalNice (lets_of e)) ds
+  decls-both strings m.no_decls rest h = (tt, h)
+  decls-both strings (m.decls d ds) rest h =
+      let k = decl-both strings d _ h in
+      let l = decls-both strings ds rest k.1 in
+      (all-append LocalNice (lets_in d) (lets_of ds) k.0 l.0, l.1)
 
 drop-behind : (strings : Strings) (b : Bool) → Behind strings drop_put b
 drop-behind strings true rest h = h.1
@@ -272,11 +281,11 @@ item-both strings (m.extern q us u) rest h =
 item-both strings (m.function f) rest h =
     let k = drop-behind strings f.is_drop _ (attr-behind strings f.attr _ h) in
     let l = path-both strings f.path _ k.1 in
-    let args = items-behind strings arg_put s.Close (arg-behind strings) f.args _ l.1.1 in
-    let result = type-behind strings f.result _ args.1 in
-    let locals = decls-behind strings f.locals _ result.1 in
-    let blocks = each-both strings block_put (BlockNice strings) (block-both strings) f.blocks _ locals in
-    ((l.0, blocks.0), blocks.1.1)
+    let args = items-both strings arg_put LocalNice s.Close (arg-both strings) f.args _ l.1.1 in
+    let result = type-behind strings f.result _ args.1.1 in
+    let locals = decls-both strings f.locals _ result.1 in
+    let blocks = each-both strings block_put (BlockNice strings) (block-both strings) f.blocks _ locals.1 in
+    ((l.0, args.0, locals.0, blocks.0), blocks.1.1)
 
 pub file_nice : (strings : Strings) (file : FileRule) → AllOf (Nice strings) (file_put file []) → AllOf (ItemNice strings) file
 file_nice strings file h = let k = each-both strings item_put (ItemNice strings) (item-both strings) file [] h in k.0

@@ -24,12 +24,13 @@ use Rattle.mir_round_trip.proofs.Spelling.{all-append}
 use Rattle.mir_round_trip.proofs.Rvalues.{two-same}
 use Rattle.mir_round_trip.proofs.Blocks.{all-left, all-right}
 use Rattle.mir_round_trip.proofs.FunctionsBack.{map-append, map-length}
-use Rattle.mir_round_trip.proofs.Carried.{PathNice, BlockNice}
+use Rattle.mir_round_trip.proofs.Carried.{PathNice, BlockNice, LocalNice}
 use Rattle.mir_round_trip.proofs.TypesWritten.{path_written, ty_written}
 use Rattle.mir_round_trip.proofs.PlacesWritten.{DefsKnown, unless-met, Typed, Given, Read}
 use Rattle.mir_round_trip.proofs.BodiesWritten.{CallsKnown, Labelled, BlockRead, blocks_written}
 use Rattle.mir_round_trip.proofs.PlacesRead.{places_of_stmt, AllTyped, stmt_read, term_read}
-use Rattle.mir_round_trip.proofs.LocalsWritten.{declared_there, declared_typed, locals_written}
+use Rattle.mir_round_trip.proofs.LocalsWritten.{declared_there, declared_typed, locals_written, from-length}
+use Rattle.mir_round_trip.proofs.Counting.{declared_most, order_most}
 
 -- ---- without lines
 
@@ -94,7 +95,7 @@ blocks-read c strings L locals typed labels (b ∷ bs) h clean right good nice =
     term = term_read c strings L locals typed labels b.term h.0.term clean.0.term right.0.term;
     term_codes = clean.0.term;
     good = good.0;
-    nice = nice.0;
+    nice = nice.0.1;
   },
   blocks-read c strings L locals typed labels bs h.1 clean.1 right.1 good.1 nice.1,
 )
@@ -118,6 +119,24 @@ order-below (l ∷ ls) b h e = let k = labels-below 0 (l ∷ ls) b h e in omega 
 lined-length : (bs : List BlockRule) (lines : LinesFrom) → length (map (λ b. b.label) (blocks_lined bs lines)) ≡ length bs
 lined-length [] lines = refl
 lined-length (b ∷ bs) lines = ap suc (lined-length bs (past block_put b lines))
+
+lined-labels : (bs : List BlockRule) (lines : LinesFrom) → map (λ b. b.label) (blocks_lined bs lines) ≡ map (λ b. b.label) bs
+lined-labels [] lines = refl
+lined-labels (b ∷ bs) lines = ap (λ l. b.label ∷ l) (lined-labels bs (past block_put b lines))
+
+labels-nice : (strings : Strings) (bs : List BlockRule) → AllOf (BlockNice strings) bs → AllOf (λ n. n < 2 ^ 32) (map (λ b. b.label) bs)
+labels-nice strings [] h = tt
+labels-nice strings (b ∷ bs) h = (h.0.0, labels-nice strings bs h.1)
+
+order-most : (ls : List ℕ) → blocks_in_order ls ≡ true → AllOf (λ n. n < 2 ^ 32) ls → length ls ≤ 2 ^ 32
+order-most [] h all = absurd cc
+order-most (l ∷ ls) h all = let k = order_most (2 ^ 32) 0 (l ∷ ls) h all (omega arith) in omega (arith, k)
+
+labels-most : (strings : Strings) (bs : List BlockRule) (ls : List ℕ) → ls ≡ map (λ b. b.label) bs → AllOf (BlockNice strings) bs → blocks_in_order ls ≡ true → length bs ≤ 2 ^ 32
+labels-most strings bs ls same nice order =
+    let all = order-most ls order (subst (AllOf (λ n. n < 2 ^ 32)) (sym same) (labels-nice strings bs nice)) in
+    let many = ap length same ∙ map-length (λ b. b.label) bs in
+    omega (arith, all, many)
 
 -- ---- declarations
 
@@ -158,7 +177,7 @@ mutual
   lets-good n (m.decls d ds) h =
       all-append (λ a. type_depth a.1 ≤ n) (lets_in d) (lets_of ds) (let-good n d (max-left (decl_depth d) (decls_depth ds) n h)) (lets-good n ds (max-right (decl_depth d) (decls_depth ds) n h))
 
-items-all : {R : Type 0} (P : R → Type 0) (xs : Items R) → AllItems P xs → AllOf P (items_of (λ x. x) xs)
+pub items-all : {R : Type 0} (P : R → Type 0) (xs : Items R) → AllItems P xs → AllOf P (items_of (λ x. x) xs)
 items-all P G.end h = tt
 items-all P (G.last x) h = (h, tt)
 items-all P (G.more x xs) h = (h.0, items-all P xs h.1)
@@ -177,6 +196,7 @@ pub record FnRead (c : Crate) (strings : Strings) (f : FnRule) : Type 0 where
   pub wrong : each (wrong_in_block (names_at c strings) (declared (names_at c strings) f)) (fn_lined f lines).blocks ≡ []
   pub good : FnGood f
   pub path : PathNice strings f.path
+  pub numbers : AllOf LocalNice (declarations f)
   pub nice : AllOf (BlockNice strings) f.blocks
 
 -- what the rules say of a function
@@ -184,8 +204,6 @@ pub record FnValid (c : Crate) (g : TypedFunction) : Type 0 where
   pub args : g.body.args < length g.body.locals
   pub some : 0 < length g.body.blocks
   pub typed : AllOf (BlockTyped c g.body.locals) g.body.blocks
-  pub few : length g.body.locals ≤ 2 ^ 32
-  pub few_blocks : length g.body.blocks ≤ 2 ^ 32
 
 pub function_written : (c : Crate) (strings : Strings) → DefsKnown c → CallsKnown c → (f : FnRule) → FnRead c strings f → FnValid c (function_named (names_at c strings) f) → IsFn c (function_named (names_at c strings) f)
 function_written c strings known calls f read valid =
@@ -207,16 +225,24 @@ function_written c strings known calls f read valid =
     let codes : AllOf (λ a. type_codes N a.1 ≡ []) (declarations f) = subst (AllOf (λ a. type_codes N a.1 ≡ [])) rules (types-clean N (lined.args ++ lined.lets) types) in
     let deep : AllOf (λ a. type_depth a.1 ≤ 65) (declarations f) =
     all-append (λ a. type_depth a.1 ≤ 65) (items_of (λ a. a) f.args) (lets_of f.locals) (items-all ArgGood f.args read.good.0) (lets-good 65 f.locals read.good.2.0) in
-    let given : Given c strings L locals = record { defs = known; typed = declared_typed L; there = λ x h. declared_there L x missing h; few = valid.few } in
+    let once = append_empty-right _ (declared_once [] (lined.args ++ lined.lets)) four in
+    let listed = declared_most (2 ^ 32) (lined.args ++ lined.lets) once (subst (AllOf LocalNice) (sym rules) read.numbers) in
+    let all-listed = sym (map-length (λ a. a.1) (lined.args ++ lined.lets)) ∙ ap length rules ∙ sym (map-length (declares N) (declarations f)) in
+    let from = from-length L 0 (length L) in
+    let few : length locals ≤ 2 ^ 32 = omega (arith, listed, all-listed, from) in
+    let same : labels_of lined ≡ map (λ b. b.label) f.blocks = lined-labels f.blocks _ in
+    let marks = labels-most strings f.blocks (labels_of lined) same read.nice order in
+    let few-blocks : length (map (block_named N L) f.blocks) ≤ 2 ^ 32 = let n = map-length (block_named N L) f.blocks in omega (arith, n, marks) in
+    let given : Given c strings L locals = record { defs = known; typed = declared_typed L; there = λ x h. declared_there L x missing h; few = few } in
     let many : length (labels_of lined) ≡ length (map (block_named N L) f.blocks) = lined-length f.blocks _ ∙ sym (map-length (block_named N L) f.blocks) in
-    let labels : Labelled (labels_of lined) (length (map (block_named N L) f.blocks)) = record { below = λ b h. subst (λ n. b < n) many (order-below (labels_of lined) b order h); few = valid.few_blocks } in
+    let labels : Labelled (labels_of lined) (length (map (block_named N L) f.blocks)) = record { below = λ b h. subst (λ n. b < n) many (order-below (labels_of lined) b order h); few = few-blocks } in
     let all = blocks-read c strings L locals (declared_typed L) (labels_of lined) f.blocks valid.typed (blocks-clean N L (labels_of lined) f.blocks _ blocks) (blocks-right N L f.blocks _ read.wrong) read.good.3 read.nice in
     record {
       path = path_written strings f.path read.path;
       args = valid.args;
-      few = valid.few;
+      few = few;
       types = locals_written c L 0 (length L) (declared-types c strings known (declarations f) codes deep);
       some = valid.some;
-      few_blocks = valid.few_blocks;
+      few_blocks = few-blocks;
       blocks = blocks_written c strings L locals given calls (labels_of lined) (length (map (block_named N L) f.blocks)) labels f.blocks all;
     }

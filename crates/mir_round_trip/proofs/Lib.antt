@@ -37,4 +37,5 @@ pub mod FunctionsWritten
 pub mod DefinitionsWritten
 pub mod ValidParts
 pub mod PathsApart
-pub mod Accepted
+pub mod Counting
+pub mod Readings

@@ -89,7 +89,7 @@ all-below L zero h k y less = let e : y ≡ 0 = omega arith in subst (IsDeclared
 all-below L (suc x) h k y less =
     step-by L x y (nat_eq y (suc x)) refl k less (λ below. all-below L x h (declared-below L L x (and_true-right (is_some (declared_ty L 0)) (none_missing_in L L) h) k) y below)
 
-from-length : (L : Declared) (k n : ℕ) → length (locals_from L k n) ≡ n
+pub from-length : (L : Declared) (k n : ℕ) → length (locals_from L k n) ≡ n
 from-length L k zero = refl
 from-length L k (suc n) = ap suc (from-length L (suc k) n)
 

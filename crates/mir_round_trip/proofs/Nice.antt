@@ -1,6 +1,8 @@
--- What the symbols of a text carry: names are names, strings are closed in their line, numbers are below 2^128.
+-- What the symbols of a text carry: names are names, strings are closed in their line, numbers are below 2^128, and those of locals and
+-- blocks below 2^32.
 use Rattle.mir_round_trip.specs.Names.{IsName}
 use Rattle.std.proofs.Common.{◌≡◌, ◌<◌, ◌^◌, ℕ, zero, suc, Bool, true, false, List, [], ◌∷◌, refl, sym, subst, ◌∙◌, inl, inr, Option, Some, None, nat_lt, get_or}
+use Rattle.std.proofs.Common.{ltb-true}
 use Rattle.std.specs.List.{list_all}
 use Rattle.std.specs.Str.Parse.{digits_value}
 use Rattle.mir_text.specs.declared.symbol.Symbol.{Symbol}
@@ -19,6 +21,8 @@ abbrev pub Nice : Strings → Symbol → Type 0
 Nice strings (s.Name n) = IsName (string_at strings n)
 Nice strings (s.Text n) = IsContent false (string_at strings n)
 Nice strings (s.Number n) = n < 2 ^ 128
+Nice strings (s.Local n) = n < 2 ^ 32
+Nice strings (s.Block n) = n < 2 ^ 32
 Nice strings x = Unit {0}
 
 -- symbols that carry none of these
@@ -26,12 +30,16 @@ abbrev is_plain : Symbol → Bool
 is_plain (s.Name n) = false
 is_plain (s.Text n) = false
 is_plain (s.Number n) = false
+is_plain (s.Local n) = false
+is_plain (s.Block n) = false
 is_plain x = true
 
 plain-nice : (strings : Strings) (x : Symbol) → is_plain x ≡ true → Nice strings x
 plain-nice strings (s.Name n) h = absurd cc
 plain-nice strings (s.Text n) h = absurd cc
 plain-nice strings (s.Number n) h = absurd cc
+plain-nice strings (s.Local n) h = absurd cc
+plain-nice strings (s.Block n) h = absurd cc
 plain-nice strings x h = tt
 
 plain-at : (xs : List Symbol) (other : Symbol) (k : ℕ) → list_all is_plain xs ≡ true → is_plain other ≡ true → is_plain (get_or xs k other) ≡ true
@@ -42,9 +50,12 @@ plain-at (x ∷ xs) other (suc k) h o = plain-at xs other k (and_true-right (is_
 word-plain : (k : ℕ) → is_plain (word_symbol k) ≡ true
 word-plain k = plain-at used_symbols s.LeftOut k refl refl
 
-numbered-plain : (small : ℕ → Symbol) (large : Symbol) (n : ℕ) (b : Bool) → nat_lt n (2 ^ 32) ≡ b → is_plain (small n) ≡ true → is_plain large ≡ true → is_plain (numbered small large n) ≡ true
-numbered-plain small large n true e h k = rw e h
-numbered-plain small large n false e h k = rw e k
+below-limit : (n : ℕ) → nat_lt n (2 ^ 32) ≡ true → n < 2 ^ 32
+below-limit n h = ltb-true n (2 ^ 32) h
+
+numbered-nice : (strings : Strings) (small : ℕ → Symbol) (large : Symbol) (n : ℕ) (b : Bool) → nat_lt n (2 ^ 32) ≡ b → (n < 2 ^ 32 → Nice strings (small n)) → is_plain large ≡ true → Nice strings (numbered small large n)
+numbered-nice strings small large n true e h k = rw e (h (below-limit n e))
+numbered-nice strings small large n false e h k = rw e (plain-nice strings large k)
 
 mark-plain : (m : Mark) → is_plain (mark_symbol m) ≡ true
 mark-plain open_paren = refl
@@ -83,7 +94,7 @@ TokenNice strings (string bytes) = IsContent false bytes
 word-by : (strings : Strings) (p : Piece) (bytes : List ℕ) (o : Option (List ℕ)) (w : Option ℕ) → token_of p ≡ word_token bytes → block_digits bytes ≡ o → word_place bytes ≡ w
     → (token_of p ≡ name bytes → IsName bytes) → TokenNice strings (word_token bytes)
 unfolding word_token
-word-by strings p bytes (Some ds) w t e f is = rw e (plain-nice strings _ (numbered-plain s.Block s.LargeBlock (digits_value 10 ds) (nat_lt (digits_value 10 ds) (2 ^ 32)) refl refl refl))
+word-by strings p bytes (Some ds) w t e f is = rw e (numbered-nice strings s.Block s.LargeBlock (digits_value 10 ds) (nat_lt (digits_value 10 ds) (2 ^ 32)) refl (λ less. less) refl)
 word-by strings p bytes None (Some k) t e f is = rw (e, f) (plain-nice strings _ (word-plain k))
 word-by strings p bytes None None t e f is = rw (e, f) (is (t ∙ rw (e, f) refl))
 
@@ -91,7 +102,7 @@ token-nice : (strings : Strings) (p : Piece) → IsPiece p → TokenNice strings
 token-nice strings (blank b) h = tt
 token-nice strings line h = tt
 token-nice strings (comment bs) h = tt
-token-nice strings (local d ds) h = plain-nice strings _ (numbered-plain s.Local s.LargeLocal (digits_value 10 (d ∷ ds)) (nat_lt (digits_value 10 (d ∷ ds)) (2 ^ 32)) refl refl refl)
+token-nice strings (local d ds) h = numbered-nice strings s.Local s.LargeLocal (digits_value 10 (d ∷ ds)) (nat_lt (digits_value 10 (d ∷ ds)) (2 ^ 32)) refl (λ less. less) refl
 token-nice strings (number d ds) h = h.1
 token-nice strings (typed d ds t) h = tt
 token-nice strings (text bs) h = h

@@ -1,5 +1,5 @@
 use Rattle.mir_round_trip.proofs.round_trip.Goals as goal
-use Rattle.mir_round_trip.proofs.Accepted.{accepted_back}
+use Rattle.mir_round_trip.proofs.Readings.{reading_back}
 
 pub returns : goal.returns
-returns c = accepted_back
+returns c = reading_back

@@ -1,4 +1,4 @@
--- A crate that an accepted text names is such as a canonical text writes.
+-- A valid crate that a reading gave is such as a canonical text writes, where the text has each field with its type.
 use Rattle.mir_round_trip.specs.Names.{IsName, IsPath, crate_paths}
 use Rattle.mir_round_trip.specs.Bodies.{names_at, AreFields, IsFn}
 use Rattle.mir_round_trip.specs.Readable.{IsField, IsFields, IsShape, IsDefinition, IsOutside, def_defined, outside_defined, fn_defined, crate_defined, AreApart, Readable}
@@ -7,22 +7,21 @@ use Rattle.mir_syntax.specs.declared.types.Form.{Form}
 use Rattle.mir_syntax.specs.declared.types.Form.TheVariants as form
 use Rattle.mir_syntax.specs.Crate.{TypedField, TypedVariant, TypedDef, TypedOutside, TypedFunction, Crate}
 use Rattle.mir_text.specs.Symbols.{strings_of}
-use Rattle.mir_text.specs.Grammar.{AllOf}
+use Rattle.mir_text.specs.Grammar.{AllOf, items_of}
 use Rattle.mir_text.specs.GrammarItems as m
 use Rattle.mir_text.specs.GrammarItems.{ItemRule, item_put, FileRule}
 use Rattle.mir_text.specs.Nesting.{ItemGood}
 use Rattle.mir_text.specs.Names.{Strings, Names, names_of, def_in, defs_in, def_paths, def_named}
-use Rattle.mir_text.specs.Naming.{outside_in, outsides_in, functions_in, crate_named}
+use Rattle.mir_text.specs.Naming.{lets_of, outside_in, outsides_in, functions_in, crate_named}
 use Rattle.mir_text.specs.PartLines.{LinesFrom, past, item_lined, file_lined}
 use Rattle.mir_text.specs.NameFaults.{each, other_codes, item_faults, field_names, path_faults, defined_by, name_faults}
 use Rattle.mir_text.specs.ReadLines.{wrong_in_item, first_of}
-use Rattle.mir_text.specs.Reads.{Reads, symbol_lines}
+use Rattle.mir_text.specs.Reads.{wrong_field, Reads, symbol_lines}
 use Rattle.mir_text.specs.TermText.{function_paths, outside_paths}
 use Rattle.mir_text.specs.Text.{text}
 use Rattle.mir_text.specs.TypeText.{no_def, def_at}
 use Rattle.mir_text.specs.PlaceText.{no_variant}
-use Rattle.mir_rules.specs.Valid.{Valid, Within}
-use Rattle.mir_rules.specs.Accepted.{Accepted}
+use Rattle.mir_rules.specs.Valid.{Valid}
 use Rattle.mir_rules.proofs.Lists.{append_empty-left, append_empty-right}
 use Rattle.mir_round_trip.proofs.Spelling.{all-map, all-append}
 use Rattle.mir_round_trip.proofs.Rvalues.{two-same}
@@ -30,11 +29,11 @@ use Rattle.mir_round_trip.proofs.TermsBack.{all-at}
 use Rattle.mir_round_trip.proofs.FunctionsBack.{map-append}
 use Rattle.mir_round_trip.proofs.ReadBack.{read_back}
 use Rattle.mir_round_trip.proofs.Nice.{Nice, nice_symbols}
-use Rattle.mir_round_trip.proofs.Carried.{ItemNice, file_nice}
+use Rattle.mir_round_trip.proofs.Carried.{ItemNice, file_nice, LocalNice}
 use Rattle.mir_round_trip.proofs.TypesWritten.{PathsWritten, path_written}
 use Rattle.mir_round_trip.proofs.PlacesWritten.{DefsKnown}
 use Rattle.mir_round_trip.proofs.BodiesWritten.{CallsKnown}
-use Rattle.mir_round_trip.proofs.FunctionsWritten.{line-codes, FnValid, function_written}
+use Rattle.mir_round_trip.proofs.FunctionsWritten.{line-codes, FnValid, function_written, items-all}
 use Rattle.mir_round_trip.proofs.DefinitionsWritten.{Sound, def-written, outside-written, names-is}
 use Rattle.mir_round_trip.proofs.ValidParts.{functions_valid}
 use Rattle.mir_round_trip.proofs.PathsApart.{paths_apart}
@@ -146,7 +145,7 @@ functions-of c strings defs calls (m.struct q fs ∷ items) h valid = functions-
 functions-of c strings defs calls (m.enum q vs ∷ items) h valid = functions-of c strings defs calls items h.1 valid
 functions-of c strings defs calls (m.extern q us u ∷ items) h valid = functions-of c strings defs calls items h.1 valid
 functions-of c strings defs calls (m.function f ∷ items) h valid = (
-  function_written c strings defs calls f (record { lines = h.0.clean.lines; faults = h.0.clean.faults; wrong = h.0.clean.wrong; good = h.0.good; path = h.0.nice.0; nice = h.0.nice.1 }) valid.0,
+  function_written c strings defs calls f (record { lines = h.0.clean.lines; faults = h.0.clean.faults; wrong = h.0.clean.wrong; good = h.0.good; path = h.0.nice.0; numbers = all-append LocalNice (items_of (λ a. a) f.args) (lets_of f.locals) (items-all LocalNice f.args h.0.nice.1) h.0.nice.2; nice = h.0.nice.3 }) valid.0,
   functions-of c strings defs calls items h.1 valid.1,
 )
 
@@ -161,8 +160,8 @@ same-defined : (c : Crate) (ds : List TypedDef) (os : List TypedOutside) (fs : L
 same-defined c ds os fs e h k = two-same (λ a b. a ++ b) (ap (map def_defined) e) (two-same (λ a b. a ++ b) (ap (map outside_defined) h) (ap (map fn_defined) k))
 
 readable-of : (strings : Strings) (file : FileRule) (lines : LinesFrom) → AllOf ItemGood file → AllOf (ItemNice strings) file → name_faults (names_of strings file) (file_lined file lines) ≡ []
-    → each (wrong_in_item (names_of strings file)) (file_lined file lines) ≡ [] → Valid (crate_named strings file) → Within (crate_named strings file) → Readable (crate_named strings file)
-readable-of strings file lines good nice faults wrong valid within =
+    → each (wrong_in_item (names_of strings file)) (file_lined file lines) ≡ [] → Valid (crate_named strings file) → Readable (crate_named strings file)
+readable-of strings file lines good nice faults wrong valid =
     let c = crate_named strings file in
     let N = names_at c strings in
     let names = names-is strings file in
@@ -180,7 +179,7 @@ readable-of strings file lines good nice faults wrong valid within =
       functions = subst (λ l. AllOf IsPath (function_paths l)) (sym functions) (function-paths c strings file known);
       outsides = subst (λ l. AllOf IsPath (outside_paths l)) (sym outsides) (outside-paths c strings file known);
     } in
-    let bodies = functions-of c strings defs-are calls file known (subst (AllOf (FnValid c)) functions (functions_valid c valid within)) in
+    let bodies = functions-of c strings defs-are calls file known (subst (AllOf (FnValid c)) functions (functions_valid c valid)) in
     let apart = paths_apart c strings file lines (append_empty-left (path_faults [] (map (defined_by N) (file_lined file lines))) _ all-faults) in
     record {
       written = record {
@@ -191,14 +190,12 @@ readable-of strings file lines good nice faults wrong valid within =
       apart = subst (AreApart []) (sym (same-defined c (map (def_named strings (crate_paths c)) (defs_in file)) (outsides_in N file) (functions_in N file) defs outsides functions)) apart;
     }
 
-pub accepted_readable : (bytes : List ℕ) (c : Crate) → Accepted bytes c → Readable c
-accepted_readable bytes c a =
-    let d = a.reads.derivation in
+pub reading_readable : (bytes : List ℕ) (c : Crate) (r : Reads bytes c) → wrong_field r.derivation ≡ None → Valid c → Readable c
+reading_readable bytes c r right valid =
+    let d = r.derivation in
     let strings = strings_of d.pieces in
     let nice = file_nice strings d.file (subst (AllOf (Nice strings)) d.derives (nice_symbols d.pieces d.stand)) in
-    let valid = subst Valid (sym a.reads.named) a.valid in
-    let within = subst Within (sym a.reads.named) a.within in
-    subst Readable a.reads.named (readable-of strings d.file (symbol_lines d.pieces) d.good nice d.faultless (none-first _ a.fields) valid within)
+    subst Readable r.named (readable-of strings d.file (symbol_lines d.pieces) d.good nice d.faultless (none-first _ right) (subst Valid (sym r.named) valid))
 
-pub accepted_back : (bytes : List ℕ) (c : Crate) → Accepted bytes c → Reads (text c) c
-accepted_back bytes c a = read_back c (accepted_readable bytes c a)
+pub reading_back : (bytes : List ℕ) (c : Crate) (r : Reads bytes c) → wrong_field r.derivation ≡ None → Valid c → Reads (text c) c
+reading_back bytes c r right valid = read_back c (reading_readable bytes c r right valid)
