@@ -1,6 +1,6 @@
 -- Words, names, numbers, blocks and strings are spelt by one piece each.
 use Rattle.mir_round_trip.specs.Names.{IsName, Clear}
-use Rattle.std.proofs.Common.{◌≡◌, ◌<◌, ◌^◌, ℕ, Bool, true, false, ◌==◌, List, [], ◌∷◌, ◌++◌, length, codes, refl, sym, ap, subst, ◌∙◌, arith, rules, append_assoc, inl, inr, is_some, decimal, nat_eq, nat_lt, None}
+use Rattle.std.proofs.Common.{Option, ◌≡◌, ◌<◌, ◌^◌, ℕ, Bool, true, false, ◌==◌, List, [], ◌∷◌, ◌++◌, length, codes, refl, sym, ap, subst, ◌∙◌, arith, rules, append_assoc, inl, inr, is_some, decimal, nat_eq, nat_lt, None}
 use Rattle.std.proofs.lemmas.List.{append-nil}
 use Rattle.std.proofs.lemmas.Fmt.{decimal_is_IsNumeral_wide}
 use Rattle.std.proofs.lemmas.Str.Parse.{IsNumeralModel, numerals_by_value}
@@ -35,7 +35,8 @@ clear-suffix [] h = refl
 clear-suffix (b ∷ bs) h =
     let e : is_name_byte b ≡ false = h in
     let k : nat_eq 95 b ≡ false = grind (arith, nat_tests) in
-    rw k refl
+    let none : Option (IntTy × List ℕ) = None in
+    rw k (refl {a = none})
 
 -- ---- one piece
 
