@@ -12,6 +12,14 @@ pub fn line_at(lines: &[u32], symbols: &[Symbol]) -> u32
     if place < lines.len() { lines[place] } else { 0 }
 }
 
+/// The lines of the symbols.
+pub fn lines_of<'a>(lines: &'a [u32], symbols: &[Symbol]) -> &'a [u32]
+    ensures { result.now ≡ spec.lines_at lines.now symbols.now }
+{
+    let place = lines.len().saturating_sub(symbols.len());
+    &lines[place..]
+}
+
 /// The fault, in a part that begins with the first symbol, if it is in none inside.
 #[tactic(auto, unfolding(crate::specs::Lines::fault_within))]
 pub fn fault_within(fault: SyntaxFault, symbols: &[Symbol]) -> SyntaxFault

@@ -1,0 +1,12 @@
+-- The laws of the parser.
+use Rattle.mir_items.proofs.FilesRead.{file-derives, file-once, file-refuses}
+use Rattle.mir_items.proofs.file.parse_file.Goals as goal
+
+pub returns-clause-derives : goal.returns-clause-derives
+returns-clause-derives c = file-derives c.args.lines.now c.args.symbols.now c.read_file.result c.requires c.read_file.ensures
+
+pub returns-clause-once : goal.returns-clause-once
+returns-clause-once c = file-once c.args.lines.now c.args.symbols.now c.read_file.result c.requires c.read_file.ensures
+
+pub returns-clause-refuses : goal.returns-clause-refuses
+returns-clause-refuses c = file-refuses c.args.lines.now c.args.symbols.now c.read_file.result c.requires c.read_file.ensures
