@@ -1,5 +1,5 @@
 -- A byte string keeps the number under which it was first seen.
-use Rattle.std.proofs.Common.{◌≡◌, ℕ, suc, zero, ◌+◌, Bool, true, false, List, [], ◌∷◌, ◌++◌, map, length, get_or, Option, Some, None, refl, sym, ap, subst, ◌∙◌, arith, append_assoc, ◌⊎◌, inl, inr, bytes_eq, if◌then◌else◌}
+use Rattle.std.proofs.Common.{◌≡◌, ℕ, suc, ◌+◌, Bool, true, false, List, [], ◌∷◌, ◌++◌, map, length, get_or, Option, Some, None, refl, sym, ap, ◌∙◌, arith, append_assoc, inl, inr, bytes_eq}
 use Rattle.std.proofs.lemmas.List.{append-nil}
 use Rattle.std.proofs.lemmas.Slice.Eq.{bytes_eq-Decides}
 use Rattle.mir_text.specs.declared.symbol.Symbol.{Symbol}
@@ -112,7 +112,7 @@ stands-at : (k n : ℕ) (strings : Strings) (bytes : List ℕ) → place_from k 
 stands-at k n [] bytes h = absurd cc
 stands-at k n (x ∷ strings) bytes h = at-step k n x strings bytes (bytes_eq x bytes) (stands-at (suc k) n strings bytes) refl h
 
-number-back : (strings : Strings) (bytes : List ℕ) (n : ℕ) → place_in strings bytes ≡ Some n → string_at strings (number_in strings bytes) ≡ bytes
+pub number-back : (strings : Strings) (bytes : List ℕ) (n : ℕ) → place_in strings bytes ≡ Some n → string_at strings (number_in strings bytes) ≡ bytes
 number-back strings bytes n h =
     let p = stands-at 0 n strings bytes h in
     let same : n ≡ p.0 = omega (arith, p.1) in
