@@ -172,5 +172,5 @@ module _ {A : Type 0} (Ok : A → Type 0) (Below : A → A → Type 0) (rank : A
   least_holds R first joins = least_has Ok Below rank h (problem join start flow n es) (laws_of Ok Below rank h start join flow l n es) R
       (λ b s gs. subst (R b) (ap start (let z : b ≡ 0 + b = omega arith in z) ∙ sym (start_at start 0 n b s gs)) (first b))
       (λ i a x y is ox oy rx ry. (let k = arrow_is flow es i a is in
-        subst (λ t. R t (join y (a.flow x))) (sym k.to) (subst (λ (f : A → A). R k.edge.to (join y (f x))) (sym k.flows) (joins i k.edge x y k.at ox oy (subst (λ t. R t x) k.from rx) (subst (λ t. R t y) k.to ry)))))
+      subst (λ t. R t (join y (a.flow x))) (sym k.to) (subst (λ (f : A → A). R k.edge.to (join y (f x))) (sym k.flows) (joins i k.edge x y k.at ox oy (subst (λ t. R t x) k.from rx) (subst (λ t. R t y) k.to ry)))))
       xs least
