@@ -157,6 +157,11 @@ module _ (D : List Shape) (tuples : Tuples D) (one : OneVariant D) where
 
 -- ---- terminators
 
+pub body_there : (fs : List TypedFunction) (i : ℕ) (g : TypedFunction) → slice_get fs i ≡ Some g → slice_get (map body_in fs) i ≡ Some g.body
+body_there [] i g e = absurd (grind arith)
+body_there (x ∷ fs) zero g e = ap (λ (y : TypedFunction). Some y.body) (some_is x g e)
+body_there (x ∷ fs) (suc i) g e = body_there fs i g e
+
 module _ (C : Crate) (ts : List Tree) (f : ℕ) where
   abbrev at_frame : Here
   at_frame = record { shapes = shapes_of C; locals = ts; frame = f }
@@ -197,11 +202,6 @@ module _ (C : Crate) (ts : List Tree) (f : ℕ) where
   all_fit : (os : List Operand) → ((i : ℕ) (o : Operand) → slice_get os i ≡ Some o → (s : ScalarTy) × (rules.operand_ty (shapes_of C) ts o ≡ Some (scalar s))) → SomeTys at_frame os
   all_fit [] h = tt
   all_fit (o ∷ os) h = let (s, e) = h 0 o refl in ((scalar s, operand_as o (scalar s) e), all_fit os (λ i o e. h (suc i) o e))
-
-  body_there : (fs : List TypedFunction) (i : ℕ) (g : TypedFunction) → slice_get fs i ≡ Some g → slice_get (map body_in fs) i ≡ Some g.body
-  body_there [] i g e = absurd (grind arith)
-  body_there (x ∷ fs) zero g e = ap (λ (y : TypedFunction). Some y.body) (some_is x g e)
-  body_there (x ∷ fs) (suc i) g e = body_there fs i g e
 
   result_first : (b : TypedBody) (t : Tree) → slice_get b.locals 0 ≡ Some t → result_of b ≡ t
   result_first b t e = go b.locals e
@@ -289,6 +289,6 @@ valid_code C valid = record {
     destroys : (d : ℕ) (df : Shape) → slice_get (shapes_of C) d ≡ Some df → DestructorTy (code_of C) d df
     destroys d df e g eg b eb =
         let (h, at, is) = destructor_found C d g (some_bind _ e eg) in
-        let same : h.body ≡ b = some_is h.body b (sym (body_there C [] 0 C.functions g h at) ∙ eb) in
+        let same : h.body ≡ b = some_is h.body b (sym (body_there C.functions g h at) ∙ eb) in
         let locals : b.locals ≡ empty ∷ ref_mut (named d) ∷ is.others = ap (λ (b : TypedBody). b.locals) (sym same) ∙ is.locals in
         rw locals refl

@@ -1,0 +1,5 @@
+pub mod Needs
+pub mod Reading
+pub mod Laws
+pub mod Kept
+pub mod Refined
