@@ -30,7 +30,8 @@ use Rattle.mir_live.proofs.Items.{DropPlain}
 use Rattle.mir_live.proofs.Prune as prune
 use Rattle.mir_live.proofs.Prune.{NoDrop, MoveCalm, MovesCalm, RvalueCalm, Laws}
 use Rattle.valid_runs.proofs.Codes.{body_there, body_back}
-use Rattle.prune_refines.specs.Pruned.{Judged, is_drop, NoDrops}
+use Rattle.prune_refines.specs.Drops.{is_drop, NoDrops}
+use Rattle.prune_refines.proofs.Gone.{Judged}
 use Rattle.prune_refines.proofs.Reading.{reads_stmt, fills_stmt, ResultTyped, reads_term, leads_to, fills_result}
 
 -- ---- dereferences
@@ -195,7 +196,7 @@ module _ (C : Crate) (valid : Valid C) (f : ℕ) (g : TypedFunction) (there : sl
   judge i n (storage_live x) false h = tt
   judge i n (storage_dead x) true h = absurd h
   judge i n (storage_dead x) false h = tt
-  judge i n (set_discriminant p k) true h = absurd h
+  judge i n (set_discriminant p k) true (nd, nb, nl) = (sym (same_deref p.proj) ∙ nd, nb, nl)
   judge i n (set_discriminant p k) false h = tt
 
   lends : (i n : ℕ) (k : TypedBlock) (p q : Place) → slice_get g.body.blocks i ≡ Some k → (slice_get k.stmts n ≡ Some (assign p (rvalue.ref q))) ⊎ (slice_get k.stmts n ≡ Some (assign p (rvalue.ref_mut q))) → semantics.has_deref q.proj ≡ false → borrowed D g.body q.local ≡ true

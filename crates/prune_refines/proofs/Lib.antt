@@ -1,5 +1,6 @@
 pub mod Needs
 pub mod Reading
-pub mod Laws
 pub mod Kept
+pub mod Gone
+pub mod Laws
 pub mod Refined

@@ -23,7 +23,9 @@ use Rattle.valid_runs.proofs.Blanks.{shapes_tupled}
 use Rattle.valid_runs.proofs.Codes.{valid_code}
 use Rattle.valid_runs.proofs.Starts.{args_plain, start_typed}
 use Rattle.valid_runs.proofs.Shown.{Known, step_flat, step_known, start_known}
-use Rattle.prune_refines.specs.Pruned.{Judged, PrunedOnce, IsPruned, NoDrops}
+use Rattle.prune_refines.specs.Drops.{NoDrops}
+use Rattle.prune_refines.specs.Pruned.{IsPrunedOnce, IsPruned}
+use Rattle.prune_refines.proofs.Gone.{Judged, decided}
 use Rattle.prune_refines.proofs.Needs.{needs_ok}
 use Rattle.prune_refines.proofs.Laws.{plain, calm_sets, set_there, bodies2, is1, is2, others, laws}
 use Rattle.prune_refines.proofs.Kept.{blocks_long, formed_left, keeps_left, drops_left}
@@ -83,8 +85,10 @@ module _ (C : Crate) (valid : Valid C) (f : ℕ) (g : TypedFunction) (there : sl
       (λ e k answers. start_typed (code_of C) valid1 (shapes_tupled C) e k answers)
       (λ e k answers. start_typed code2 valid2 (shapes_tupled C) e (entry2 e k) answers)
 
-once_at : (C : Crate) → Valid C → (f : ℕ) (g : TypedFunction) → slice_get C.functions f ≡ Some g → NoDrops g.body → (b : TypedBody) → PrunedOnce (shapes_of C) b g.body → Refines (at_function C f g b) C
-once_at C valid f g there no_drops b p = subst (λ b. Refines (at_function C f g b) C) (sym p.is) (once_refines C valid f g there no_drops p.gone p.judged)
+once_at : (C : Crate) → Valid C → (f : ℕ) (g : TypedFunction) → slice_get C.functions f ≡ Some g → NoDrops g.body → (b : TypedBody) → IsPrunedOnce (shapes_of C) g.body b → Refines (at_function C f g b) C
+once_at C valid f g there no_drops b p =
+    let d = decided (shapes_of C) g.body b p in
+    subst (λ b. Refines (at_function C f g b) C) (sym d.is) (once_refines C valid f g there no_drops d.gone d.judged)
 
 -- ---- what a round keeps of a body
 
@@ -96,49 +100,51 @@ pub record Same (C : Crate) (b2 b : TypedBody) : Type 0 where
   pub kept : BodyKeeps C b → BodyKeeps C b2
   pub no_drops : NoDrops b → NoDrops b2
 
-once_same : (C : Crate) (D : List Shape) (b2 b : TypedBody) → PrunedOnce D b2 b → Same C b2 b
-once_same C D b2 b p = subst (λ b2. Same C b2 b) (sym p.is) (record { args = refl; locals = refl; blocks = blocks_long p.gone 0 b.blocks; formed = formed_left C p.gone b; kept = keeps_left C p.gone b; no_drops = drops_left C p.gone b })
+once_same : (C : Crate) (D : List Shape) (b2 b : TypedBody) → IsPrunedOnce D b b2 → Same C b2 b
+once_same C D b2 b p =
+    let d = decided D b b2 p in
+    subst (λ b2. Same C b2 b) (sym d.is) (record { args = refl; locals = refl; blocks = blocks_long d.gone 0 b.blocks; formed = formed_left C d.gone b; kept = keeps_left C d.gone b; no_drops = drops_left C d.gone b })
 
 same_trans : (C : Crate) (c b a : TypedBody) → Same C c b → Same C b a → Same C c a
 same_trans C c b a p q = record { args = p.args ∙ q.args; locals = p.locals ∙ q.locals; blocks = p.blocks ∙ q.blocks; formed = λ h. p.formed (q.formed h); kept = λ h. p.kept (q.kept h); no_drops = λ h. p.no_drops (q.no_drops h) }
 
-pub pruned_same : (C : Crate) (D : List Shape) (b2 b : TypedBody) → IsPruned D b2 b → Same C b2 b
-pruned_same C D b2 b p = same_trans C b2 p.twice b (once_same C D b2 p.twice p.third) (same_trans C p.twice p.once b (once_same C D p.twice p.once p.second) (once_same C D p.once b p.first))
+pub pruned_same : (C : Crate) (D : List Shape) (b2 b : TypedBody) → IsPruned D b b2 → Same C b2 b
+pruned_same C D b2 b (once, (twice, first, second, third)) = same_trans C b2 twice b (once_same C D b2 twice third) (same_trans C twice once b (once_same C D twice once second) (once_same C D once b first))
 
 -- ---- three rounds
 
 module _ (C : Crate) (valid : Valid C) (f : ℕ) (g : TypedFunction) (there : slice_get C.functions f ≡ Some g) (no_drops : NoDrops g.body) where
   -- from a body that some rounds left
-  then_refines : (b b2 : TypedBody) → Same C b g.body → Refines (at_function C f g b) C → PrunedOnce (shapes_of C) b2 b → Refines (at_function C f g b2) C
+  then_refines : (b b2 : TypedBody) → Same C b g.body → Refines (at_function C f g b) C → IsPrunedOnce (shapes_of C) b b2 → Refines (at_function C f g b2) C
   then_refines b b2 s r p =
       let C1 = at_function C f g b in
       let alike : Alike (with_body g b) g = record { is_drop = refl; args = s.args; start = ap (λ ts. take (suc g.body.args) ts) s.locals } in
       let v1 = valid_put C f g b valid there alike (s.formed (body_formed_at C valid f g there)) (s.kept ((keeps C valid).bodies f g there)) in
       let at : slice_get C1.functions f ≡ Some (with_body g b) = set_there C.functions f (with_body g b) g there in
       let D1 : shapes_of C1 ≡ shapes_of C = shapes_alike C (set C.functions f (with_body g b)) (set_alike C.functions f g (with_body g b) there alike) in
-      let p1 : PrunedOnce (shapes_of C1) b2 b = subst (λ D. PrunedOnce D b2 b) (sym D1) p in
+      let p1 : IsPrunedOnce (shapes_of C1) b b2 = subst (λ D. IsPrunedOnce D b b2) (sym D1) p in
       let step = once_at C1 v1 f (with_body g b) at (s.no_drops no_drops) b2 p1 in
       let again : Refines (at_function C f g b2) C1 = subst (λ fs. Refines (record C { functions = fs }) C1) (set_again C.functions f (with_body g b) (with_body g b2)) step in
       refines_trans (at_function C f g b2) C1 C again r
 
-  pub three_refine : (b : TypedBody) → IsPruned (shapes_of C) b g.body → Refines (at_function C f g b) C
-  three_refine b p =
-      let s1 = once_same C (shapes_of C) p.once g.body p.first in
-      let s2 = same_trans C p.twice p.once g.body (once_same C (shapes_of C) p.twice p.once p.second) s1 in
-      let r1 = once_at C valid f g there no_drops p.once p.first in
-      let r2 = then_refines p.once p.twice s1 r1 p.second in
-      then_refines p.twice b s2 r2 p.third
+  pub three_refine : (b : TypedBody) → IsPruned (shapes_of C) g.body b → Refines (at_function C f g b) C
+  three_refine b (once, (twice, first, second, third)) =
+      let s1 = once_same C (shapes_of C) once g.body first in
+      let s2 = same_trans C twice once g.body (once_same C (shapes_of C) twice once second) s1 in
+      let r1 = once_at C valid f g there no_drops once first in
+      let r2 = then_refines once twice s1 r1 second in
+      then_refines twice b s2 r2 third
 
-pub pruned_refines : (C : Crate) → Valid C → (f : ℕ) (g : TypedFunction) → slice_get C.functions f ≡ Some g → NoDrops g.body → (b : TypedBody) → IsPruned (shapes_of C) b g.body → Refines (at_function C f g b) C
+pub pruned_refines : (C : Crate) → Valid C → (f : ℕ) (g : TypedFunction) → slice_get C.functions f ≡ Some g → NoDrops g.body → (b : TypedBody) → IsPruned (shapes_of C) g.body b → Refines (at_function C f g b) C
 pruned_refines C v f g e n b p = three_refine C v f g e n b p
 
-pub pruned_refines_again : (C : Crate) (f : ℕ) (b : TypedBody) (v : ValidAt C f b) → NoDrops b → (b2 : TypedBody) → IsPruned (shapes_of (at_function C f v.function b)) b2 b → Refines (at_function C f v.function b2) (at_function C f v.function b)
+pub pruned_refines_again : (C : Crate) (f : ℕ) (b : TypedBody) (v : ValidAt C f b) → NoDrops b → (b2 : TypedBody) → IsPruned (shapes_of (at_function C f v.function b)) b b2 → Refines (at_function C f v.function b2) (at_function C f v.function b)
 pruned_refines_again C f b v n b2 p =
     let C2 = at_function C f v.function b in
     subst (λ fs. Refines (record C { functions = fs }) C2) (set_again C.functions f (with_body v.function b) (with_body v.function b2))
     (pruned_refines C2 v.valid f (with_body v.function b) (holds_body C f b v) n b2 p)
 
-pub pruned_stays_valid : (C : Crate) (f : ℕ) (b : TypedBody) (v : ValidAt C f b) → (b2 : TypedBody) → IsPruned (shapes_of (at_function C f v.function b)) b2 b → ValidAt C f b2
+pub pruned_stays_valid : (C : Crate) (f : ℕ) (b : TypedBody) (v : ValidAt C f b) → (b2 : TypedBody) → IsPruned (shapes_of (at_function C f v.function b)) b b2 → ValidAt C f b2
 pruned_stays_valid C f b v b2 p =
     let C2 = at_function C f v.function b in
     let at = holds_body C f b v in

@@ -1,1 +1,2 @@
 pub mod Pruned
+pub mod Drops

@@ -1,45 +1,45 @@
--- A body without the assignments that nobody reads. This project's own.
-use Rattle.std.specs.Prelude.{◌≡◌, ◌⊎◌, ℕ, suc, Bool, true, false, Some, List, slice_get}
-use Rattle.mir_syntax.specs.declared.body.Term.{Term}
-use Rattle.mir_syntax.specs.declared.body.Term.TheVariants.{Drop}
-use Rattle.mir_syntax.specs.Crate.{TypedStmt, assign, TypedBlock, TypedBody}
+-- A body without the assignments whose value nobody reads.
+use Rattle.std.specs.Prelude.{◌≡◌, ◌⊎◌, ℕ, suc, true, false, List, [], ◌∷◌, length, Some, slice_get}
+use Rattle.mir_syntax.specs.declared.body.Place.{Place}
+use Rattle.mir_syntax.specs.Crate.{TypedStmt, assign, storage_live, storage_dead, set_discriminant, TypedBlock, TypedBody}
 use Rattle.mir_syntax.specs.Shapes.{Shape}
 use Rattle.escape_info.specs.Borrowed.{has_deref, borrowed}
 use Rattle.liveness.specs.Live.{Live}
-use Rattle.mir_live.specs.Reads.{pruned_by}
 
--- an assignment, to a place without a dereference, of a local that is neither borrowed nor live after it
-abbrev pub Useless : List Shape → TypedBody → ℕ → ℕ → TypedStmt → Type 0
-Useless D b i n (assign p r) = (has_deref p.proj ≡ false) × (borrowed D b p.local ≡ false) × (Live D b i (suc n) p.local → ⊥)
-Useless D b i n _ = ⊥
+-- to write a place at a statement of a block changes nothing that is read: the place isn't behind a reference, and its local is neither
+-- borrowed nor live after the statement
+abbrev pub IsIdle : List Shape → TypedBody → ℕ → ℕ → Place → Type 0
+IsIdle D b i n p = (has_deref p.proj ≡ false) × (borrowed D b p.local ≡ false) × (Live D b i (suc n) p.local → ⊥)
 
--- any other statement
-abbrev pub Useful : List Shape → TypedBody → ℕ → ℕ → TypedStmt → Type 0
-Useful D b i n (assign p r) = (has_deref p.proj ≡ true) ⊎ (borrowed D b p.local ≡ true) ⊎ Live D b i (suc n) p.local
-Useful D b i n _ = Unit {0}
+abbrev pub IsRead : List Shape → TypedBody → ℕ → ℕ → Place → Type 0
+IsRead D b i n p = (has_deref p.proj ≡ true) ⊎ ((borrowed D b p.local ≡ true) ⊎ Live D b i (suc n) p.local)
 
-abbrev pub Judged : List Shape → TypedBody → ℕ → ℕ → TypedStmt → Bool → Type 0
-Judged D b i n s true = Useless D b i n s
-Judged D b i n s false = Useful D b i n s
+-- an assignment, or the setting of a discriminant, that is idle
+abbrev pub IsUseless : List Shape → TypedBody → ℕ → ℕ → TypedStmt → Type 0
+IsUseless D b i n (assign p r) = IsIdle D b i n p
+IsUseless D b i n (set_discriminant p k) = IsIdle D b i n p
+IsUseless D b i n (storage_live x) = ⊥
+IsUseless D b i n (storage_dead x) = ⊥
 
--- one round: the n-th statement of block i goes exactly where it is useless
-pub record PrunedOnce (D : List Shape) (b2 b1 : TypedBody) : Type 0 where
-  pub gone : ℕ → ℕ → Bool
-  pub judged : (i n : ℕ) (k : TypedBlock) (s : TypedStmt) → slice_get b1.blocks i ≡ Some k → slice_get k.stmts n ≡ Some s → Judged D b1 i n s (gone i n)
-  pub is : b2 ≡ pruned_by gone b1
+abbrev pub IsUseful : List Shape → TypedBody → ℕ → ℕ → TypedStmt → Type 0
+IsUseful D b i n (assign p r) = IsRead D b i n p
+IsUseful D b i n (set_discriminant p k) = IsRead D b i n p
+IsUseful D b i n (storage_live x) = Unit {0}
+IsUseful D b i n (storage_dead x) = Unit {0}
+
+-- of the statements of block i from the n-th on, the useful ones are kept, in order
+abbrev pub KeptFrom : List Shape → TypedBody → ℕ → ℕ → List TypedStmt → List TypedStmt → Type 0
+KeptFrom D b i n [] kept = kept ≡ []
+KeptFrom D b i n (s ∷ ss) kept =
+    (IsUseless D b i n s × KeptFrom D b i (suc n) ss kept) ⊎ (IsUseful D b i n s × ((rest : List TypedStmt) × (kept ≡ s ∷ rest) × KeptFrom D b i (suc n) ss rest))
+
+-- one round: what is borrowed and live is judged of the body as the round finds it
+pub record IsPrunedOnce (D : List Shape) (b b2 : TypedBody) : Type 0 where
+  pub args : b2.args ≡ b.args
+  pub locals : b2.locals ≡ b.locals
+  pub count : length b2.blocks ≡ length b.blocks
+  pub blocks : (i : ℕ) (k k2 : TypedBlock) → slice_get b.blocks i ≡ Some k → slice_get b2.blocks i ≡ Some k2 → (k2.term ≡ k.term) × KeptFrom D b i 0 k.stmts k2.stmts
 
 -- three rounds
-pub record IsPruned (D : List Shape) (b2 b1 : TypedBody) : Type 0 where
-  pub once : TypedBody
-  pub twice : TypedBody
-  pub first : PrunedOnce D once b1
-  pub second : PrunedOnce D twice once
-  pub third : PrunedOnce D b2 twice
-
-abbrev pub is_drop : Term → Bool
-is_drop (Drop p u) = true
-is_drop _ = false
-
--- no block ends in `drop`
-pub record NoDrops (b : TypedBody) : Type 0 where
-  pub none : (i : ℕ) (k : TypedBlock) → slice_get b.blocks i ≡ Some k → is_drop k.term ≡ false
+abbrev pub IsPruned : List Shape → TypedBody → TypedBody → Type 0
+IsPruned D b b4 = (b2 : TypedBody) × ((b3 : TypedBody) × IsPrunedOnce D b b2 × IsPrunedOnce D b2 b3 × IsPrunedOnce D b3 b4)
