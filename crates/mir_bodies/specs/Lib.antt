@@ -1,0 +1,4 @@
+pub mod Locals
+pub mod Labels
+pub mod Scope
+pub mod Places
