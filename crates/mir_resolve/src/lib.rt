@@ -26,7 +26,7 @@ mod types;
 pub use definitions::{copy_path, read_enum, read_struct};
 pub use draft::Draft;
 pub use faults::{NameFault, Noted};
-pub use fields::{both, copy_name};
+pub use fields::{both, copy_name, read_noted};
 pub use headers::read_outside;
 pub use index::{Added, PathIndex};
 pub use laws::faults_in_any_order;
