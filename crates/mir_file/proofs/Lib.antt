@@ -1,0 +1,5 @@
+pub mod Steps
+pub mod FirstItems
+pub mod Clashing
+pub mod Scopes
+pub mod AllFaults
