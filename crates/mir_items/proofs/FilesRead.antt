@@ -18,7 +18,7 @@ use Rattle.mir_parse.proofs.Laws.{in_steps, ok_same}
 use Rattle.mir_items.specs.Lines.{line_of, lines_at}
 use Rattle.mir_items.specs.Decls.{with_line}
 use Rattle.mir_items.specs.Functions.{fn_item}
-use Rattle.mir_items.specs.Files.{item_part, item, goes_on, file, IsFile, IsOnlyFile, NoFile}
+use Rattle.mir_items.specs.Files.{item_part, item, more_symbols, file, IsFile, IsOnlyFile, NoFile}
 use Rattle.mir_items.proofs.Sizes.{item_size, some_item, first-line, past-lines, all-lines}
 use Rattle.mir_items.proofs.EachRead.{IsReadAt, each_text, EachLaws, each-complete, each-sound}
 use Rattle.mir_items.proofs.DeclsSound.{part_ok}
@@ -106,20 +106,20 @@ item-sound lines ts x rest fits h =
 
 -- ---- files
 
-begins-function : (r : AttrRule) (is : Bool) (ts : List Symbol) → goes_on (attr_put r (drop_put is (s.Fn ∷ ts))) ≡ true
+begins-function : (r : AttrRule) (is : Bool) (ts : List Symbol) → more_symbols (attr_put r (drop_put is (s.Fn ∷ ts))) ≡ true
 begins-function m.none true ts = refl
 begins-function m.none false ts = refl
 begins-function m.hint is ts = refl
 begins-function m.always is ts = refl
 begins-function m.never is ts = refl
 
-begins-item : (x : ItemRule) (rest : List Symbol) → goes_on (item_put x rest) ≡ true
+begins-item : (x : ItemRule) (rest : List Symbol) → more_symbols (item_put x rest) ≡ true
 begins-item (m.struct p fs) rest = refl
 begins-item (m.enum p vs) rest = refl
 begins-item (m.extern p us u) rest = refl
 begins-item (m.function f) rest = begins-function f.attr f.is_drop _
 
-item_laws : (lines : List ℕ) → EachLaws (length lines) goes_on (item lines) item_put (item_here lines) ItemGood
+item_laws : (lines : List ℕ) → EachLaws (length lines) more_symbols (item lines) item_put (item_here lines) ItemGood
 item_laws lines = record {
   begin = begins-item;
   complete = item-complete lines;
@@ -131,7 +131,7 @@ abbrev items_text : List ℕ → FileRule → List (Lined ItemText)
 items_text lines xs = each_text item_put (item_here lines) xs []
 
 file-complete : (lines : List ℕ) (xs : FileRule) → FileGood xs → length (file_put xs []) ≤ length lines → file lines (file_put xs []) ≡ Ok (items_text lines xs, [])
-file-complete lines xs good fits = each-complete (length lines) goes_on (item lines) item_put (item_here lines) ItemGood (item_laws lines) xs [] good fits refl
+file-complete lines xs good fits = each-complete (length lines) more_symbols (item lines) item_put (item_here lines) ItemGood (item_laws lines) xs [] good fits refl
 
 items-at : (lines : List ℕ) (xs : FileRule) → length (file_put xs []) ≤ length lines → items_text lines xs ≡ file_tree xs (lines_at lines (file_put xs []))
 items-at lines [] fits = refl
@@ -160,7 +160,7 @@ is-only lines ts tree same h = λ xs good stands.
 is-file : (lines : List ℕ) (ts : List Symbol) (tree : FileText) → length lines ≡ length ts → file lines ts ≡ Ok (tree.items, []) → IsFile ts lines tree
 is-file lines ts tree same h =
     let fits : length ts ≤ length lines = omega arith in
-    let q = each-sound (length lines) goes_on (item lines) item_put (item_here lines) ItemGood (item_laws lines) ts tree.items [] fits h in
+    let q = each-sound (length lines) more_symbols (item lines) item_put (item_here lines) ItemGood (item_laws lines) ts tree.items [] fits h in
     record { rule = q.rules; derives = q.yields; good = q.good; tree_of = is-only lines ts tree same h q.rules q.good q.yields }
 
 pub file-derives : (lines : List ℕ) (ts : List Symbol) (result : Result FileText ParseRefused) → length lines ≡ length ts → Gives (λ tree. (tree.items, [])) result (file lines ts) → IfOk result (λ tree. IsFile ts lines tree)

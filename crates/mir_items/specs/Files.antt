@@ -33,12 +33,12 @@ unfoldable pub item : List ℕ → Parse (Lined ItemText)
 item lines ts = in_part ts (and_then (item_part lines ts) (λ x rest. Ok (with_line (line_of lines ts) x, rest)))
 
 -- a symbol comes next
-abbrev pub goes_on : List Symbol → Bool
-goes_on [] = false
-goes_on (x ∷ ts) = true
+abbrev pub more_symbols : List Symbol → Bool
+more_symbols [] = false
+more_symbols (x ∷ ts) = true
 
 abbrev pub file : List ℕ → Parse (List (Lined ItemText))
-file lines ts = each_at goes_on (item lines) ts
+file lines ts = each_at more_symbols (item lines) ts
 
 -- ---- what is promised
 
