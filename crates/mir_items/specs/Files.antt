@@ -1,5 +1,5 @@
 -- Parsing items and files, and what the tree of a file promises.
-use Rattle.std.specs.Prelude.{◌≡◌, ℕ, Bool, true, false, List, [], ◌∷◌, Result, Ok, Err}
+use Rattle.std.specs.Prelude.{◌≡◌, ℕ, Bool, true, false, List, [], ◌∷◌, Result, Ok, Err, IsSome}
 use Rattle.mir_text.specs.declared.symbol.Symbol.{Symbol}
 use Rattle.mir_text.specs.declared.symbol.Symbol.TheVariants as s
 use Rattle.mir_text.specs.GrammarItems.{FileRule, file_put}
@@ -58,3 +58,9 @@ abbrev pub NoFile : List Symbol → Result FileText ParseRefused → Type 0
 NoFile symbols (Ok tree) = Unit {0}
 NoFile symbols (Err refused.OutOfMemory) = Unit {0}
 NoFile symbols (Err (refused.Fault fault)) = (rule : FileRule) → FileGood rule → symbols ≡ file_put rule [] → ⊥
+
+-- a fault lies in an item, or in a part of one
+abbrev pub InItem : Result FileText ParseRefused → Type 0
+InItem (Ok tree) = Unit {0}
+InItem (Err refused.OutOfMemory) = Unit {0}
+InItem (Err (refused.Fault fault)) = IsSome fault.part
