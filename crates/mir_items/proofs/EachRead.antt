@@ -1,8 +1,9 @@
 -- Lists that end where no item begins are read by the grammar's rule, both ways. What an item is read as may depend on where it stands.
-use Rattle.std.proofs.Common.{◌≡◌, ℕ, zero, suc, ◌<◌, ◌≤◌, Bool, true, false, List, [], ◌∷◌, ◌++◌, length, Ok, refl, sym, ap, ◌∙◌, arith, append_assoc, append-nil}
+use Rattle.std.proofs.Common.{◌≡◌, ℕ, zero, suc, ◌<◌, ◌≤◌, Bool, true, false, List, [], ◌∷◌, ◌++◌, length, Ok, Err, refl, sym, ap, ◌∙◌, arith, append_assoc, append-nil}
 use Rattle.mir_text.specs.declared.symbol.Symbol.{Symbol}
 use Rattle.mir_text.specs.Grammar.{Put, each_put, AllOf}
-use Rattle.mir_parse.specs.Parser.{Found, Parse}
+use Rattle.mir_parse.specs.declared.fault.SyntaxFault.{SyntaxFault}
+use Rattle.mir_parse.specs.Parser.{Found, Parse, and_then}
 use Rattle.mir_parse.proofs.Laws.{in_steps, ok_same, on}
 use Rattle.mir_items.specs.Each.{each_from, each_at}
 
@@ -17,6 +18,14 @@ pub record IsReadAt {R A : Type 0} (put : Put R) (of : R → List Symbol → A) 
 abbrev pub each_text : {R A : Type 0} → Put R → (R → List Symbol → A) → List R → List Symbol → List A
 each_text put of [] rest = []
 each_text put of (r ∷ rs) rest = of r (put r (each_put put rs rest)) ∷ each_text put of rs rest
+
+pub err_same : {A : Type 0} (d e : SyntaxFault) → ◌≡◌ {A = Found A} (Err d) (Err e) → d ≡ e
+err_same d e h = cc
+
+-- a fault of two steps is one of either
+fault_steps : {A B R : Type 0} (found : Found A) (f : A → Parse B) (e : SyntaxFault) → and_then found f ≡ Err e → (found ≡ Err e → R) → ((a : A) (rest : List Symbol) → found ≡ Ok (a, rest) → f a rest ≡ Err e → R) → R
+fault_steps (Ok p) f e h first_k then_k = then_k p.0 p.1 refl h
+fault_steps (Err d) f e h first_k then_k = first_k (ap (λ x. Err x) (err_same d e h))
 
 -- an item's parser reads what its rule puts, and nothing else, where so many symbols stand at most
 pub record EachLaws {R A : Type 0} (most : ℕ) (begins : List Symbol → Bool) (item : Parse A) (put : Put R) (of : R → List Symbol → A) (Good : R → Type 0) : Type 0 where
@@ -87,6 +96,18 @@ module _ {R A : Type 0} (most : ℕ) (begins : List Symbol → Bool) (item : Par
 
   pub each-sound : (ts : List Symbol) (us : List A) (rest : List Symbol) → length ts ≤ most → each_at begins item ts ≡ Ok (us, rest) → AreEach ts [] us rest
   each-sound ts us rest fits h = each_from-sound (suc (length ts)) ts [] us rest fits h
+
+  -- what holds of each fault of an item holds of a fault of items
+  pub each-fault : (P : SyntaxFault → Type 0) → ((ts : List Symbol) (e : SyntaxFault) → item ts ≡ Err e → P e)
+      → (n : ℕ) (ts : List Symbol) (before : List A) (e : SyntaxFault) → length ts ≤ most → length ts < n → each_from begins item n before ts ≡ Err e → P e
+  unfolding each_from
+  each-fault P holds zero ts before e fits few_turns h = absurd (omega arith)
+  each-fault P holds (suc n) ts before e fits few_turns h = on (begins ts)
+      (λ b. fault_steps _ _ e (rw b at h) (holds ts e) (λ x past found went.
+      let first = laws.sound ts x past fits found in
+      let less : length past < length ts = omega (arith, ap length first.yields, laws.grows first.rule past) in
+      each-fault P holds n past (before ++ x ∷ []) e (omega arith) (omega arith) went))
+      (λ b. let none = rw b at h in absurd cc)
 
 -- an item that is read leaves one turn less
 pub one-turn : {A : Type 0} (begins : List Symbol → Bool) (item : Parse A) (turns : ℕ) (before after : List A) (ts past : List Symbol) (x : A) (found : Found (List A))

@@ -1,5 +1,5 @@
 -- Parsing items and files is the grammar's rule, both ways.
-use Rattle.std.proofs.Common.{◌≡◌, ℕ, ◌≤◌, Bool, true, false, List, [], ◌∷◌, map, length, Result, Ok, Err, IfOk, refl, sym, ap, subst, ◌∙◌, arith}
+use Rattle.std.proofs.Common.{◌≡◌, ℕ, suc, ◌≤◌, Bool, true, false, List, [], ◌∷◌, map, length, Option, Some, None, IsSome, Result, Ok, Err, IfOk, refl, sym, ap, subst, ◌∙◌, arith}
 use Rattle.mir_text.specs.declared.symbol.Symbol.{Symbol}
 use Rattle.mir_text.specs.declared.symbol.Symbol.TheVariants as s
 use Rattle.mir_text.specs.GrammarItems as m
@@ -11,16 +11,17 @@ use Rattle.mir_tree.specs.declared.item.ItemText.{ItemText}
 use Rattle.mir_tree.specs.declared.item.ItemText.TheVariants as i
 use Rattle.mir_tree.specs.declared.item.FileText.{FileText}
 use Rattle.mir_tree.specs.Rules.{lined_item}
+use Rattle.mir_parse.specs.declared.fault.SyntaxFault.{SyntaxFault}
 use Rattle.mir_parse.specs.declared.fault.ParseRefused.{ParseRefused}
 use Rattle.mir_parse.specs.declared.fault.ParseRefused.TheVariants as refused
-use Rattle.mir_parse.specs.Parser.{and_then, Gives}
+use Rattle.mir_parse.specs.Parser.{Found, and_then, Gives}
 use Rattle.mir_parse.proofs.Laws.{in_steps, ok_same}
-use Rattle.mir_items.specs.Lines.{line_of, lines_at}
+use Rattle.mir_items.specs.Lines.{line_of, lines_at, part_or, fault_within, in_part}
 use Rattle.mir_items.specs.Decls.{with_line}
 use Rattle.mir_items.specs.Functions.{fn_item}
-use Rattle.mir_items.specs.Files.{item_part, item, goes_on, file, IsFile, IsOnlyFile, NoFile}
+use Rattle.mir_items.specs.Files.{item_part, item, more_symbols, file, IsFile, IsOnlyFile, NoFile, InItem}
 use Rattle.mir_items.proofs.Sizes.{item_size, some_item, first-line, past-lines, all-lines}
-use Rattle.mir_items.proofs.EachRead.{IsReadAt, each_text, EachLaws, each-complete, each-sound}
+use Rattle.mir_items.proofs.EachRead.{IsReadAt, each_text, EachLaws, err_same, each-complete, each-sound, each-fault}
 use Rattle.mir_items.proofs.DeclsSound.{part_ok}
 use Rattle.mir_items.proofs.OthersRead.{struct_item-complete, struct_item-sound, enum_item-complete, enum_item-sound, extern_item-complete, extern_item-sound}
 use Rattle.mir_items.proofs.TreesOf.{part_tree, item_tree, file_tree, file-lined}
@@ -106,20 +107,20 @@ item-sound lines ts x rest fits h =
 
 -- ---- files
 
-begins-function : (r : AttrRule) (is : Bool) (ts : List Symbol) → goes_on (attr_put r (drop_put is (s.Fn ∷ ts))) ≡ true
+begins-function : (r : AttrRule) (is : Bool) (ts : List Symbol) → more_symbols (attr_put r (drop_put is (s.Fn ∷ ts))) ≡ true
 begins-function m.none true ts = refl
 begins-function m.none false ts = refl
 begins-function m.hint is ts = refl
 begins-function m.always is ts = refl
 begins-function m.never is ts = refl
 
-begins-item : (x : ItemRule) (rest : List Symbol) → goes_on (item_put x rest) ≡ true
+begins-item : (x : ItemRule) (rest : List Symbol) → more_symbols (item_put x rest) ≡ true
 begins-item (m.struct p fs) rest = refl
 begins-item (m.enum p vs) rest = refl
 begins-item (m.extern p us u) rest = refl
 begins-item (m.function f) rest = begins-function f.attr f.is_drop _
 
-item_laws : (lines : List ℕ) → EachLaws (length lines) goes_on (item lines) item_put (item_here lines) ItemGood
+item_laws : (lines : List ℕ) → EachLaws (length lines) more_symbols (item lines) item_put (item_here lines) ItemGood
 item_laws lines = record {
   begin = begins-item;
   complete = item-complete lines;
@@ -131,7 +132,7 @@ abbrev items_text : List ℕ → FileRule → List (Lined ItemText)
 items_text lines xs = each_text item_put (item_here lines) xs []
 
 file-complete : (lines : List ℕ) (xs : FileRule) → FileGood xs → length (file_put xs []) ≤ length lines → file lines (file_put xs []) ≡ Ok (items_text lines xs, [])
-file-complete lines xs good fits = each-complete (length lines) goes_on (item lines) item_put (item_here lines) ItemGood (item_laws lines) xs [] good fits refl
+file-complete lines xs good fits = each-complete (length lines) more_symbols (item lines) item_put (item_here lines) ItemGood (item_laws lines) xs [] good fits refl
 
 items-at : (lines : List ℕ) (xs : FileRule) → length (file_put xs []) ≤ length lines → items_text lines xs ≡ file_tree xs (lines_at lines (file_put xs []))
 items-at lines [] fits = refl
@@ -160,7 +161,7 @@ is-only lines ts tree same h = λ xs good stands.
 is-file : (lines : List ℕ) (ts : List Symbol) (tree : FileText) → length lines ≡ length ts → file lines ts ≡ Ok (tree.items, []) → IsFile ts lines tree
 is-file lines ts tree same h =
     let fits : length ts ≤ length lines = omega arith in
-    let q = each-sound (length lines) goes_on (item lines) item_put (item_here lines) ItemGood (item_laws lines) ts tree.items [] fits h in
+    let q = each-sound (length lines) more_symbols (item lines) item_put (item_here lines) ItemGood (item_laws lines) ts tree.items [] fits h in
     record { rule = q.rules; derives = q.yields; good = q.good; tree_of = is-only lines ts tree same h q.rules q.good q.yields }
 
 pub file-derives : (lines : List ℕ) (ts : List Symbol) (result : Result FileText ParseRefused) → length lines ≡ length ts → Gives (λ tree. (tree.items, [])) result (file lines ts) → IfOk result (λ tree. IsFile ts lines tree)
@@ -177,3 +178,27 @@ file-refuses lines ts (Err refused.OutOfMemory) same h = tt
 file-refuses lines ts (Err (refused.Fault fault)) same h = λ xs good stands.
     let ok = whole-complete lines ts xs same good stands in
     absurd cc
+
+-- ---- each fault lies in an item
+
+part_some : (n : ℕ) (part : Option ℕ) → IsSome (part_or n part)
+part_some n None = refl
+part_some n (Some part) = refl
+
+within-some : (ts : List Symbol) (fault : SyntaxFault) → IsSome (fault_within ts fault).part
+unfolding fault_within
+within-some ts fault = part_some (length ts) fault.part
+
+part-fault : {A : Type 0} (ts : List Symbol) (found : Found A) (e : SyntaxFault) → in_part ts found ≡ Err e → IsSome e.part
+part-fault ts (Ok q) e h = absurd cc
+part-fault ts (Err d) e h = subst (λ (x : SyntaxFault). IsSome x.part) (err_same _ _ h) (within-some ts d)
+
+item-fault : (lines : List ℕ) (ts : List Symbol) (e : SyntaxFault) → item lines ts ≡ Err e → IsSome e.part
+unfolding item
+item-fault lines ts e h = part-fault ts _ e h
+
+pub file-in_item : (lines : List ℕ) (ts : List Symbol) (result : Result FileText ParseRefused) → length lines ≡ length ts → Gives (λ tree. (tree.items, [])) result (file lines ts) → InItem result
+file-in_item lines ts (Ok tree) same h = tt
+file-in_item lines ts (Err refused.OutOfMemory) same h = tt
+file-in_item lines ts (Err (refused.Fault fault)) same h =
+    each-fault (length lines) more_symbols (item lines) item_put (item_here lines) ItemGood (item_laws lines) (λ e. IsSome e.part) (item-fault lines) (suc (length ts)) ts [] fault (omega arith) (omega arith) h

@@ -1,5 +1,5 @@
 -- Parsing items and files, and what the tree of a file promises.
-use Rattle.std.specs.Prelude.{◌≡◌, ℕ, Bool, true, false, List, [], ◌∷◌, Result, Ok, Err}
+use Rattle.std.specs.Prelude.{◌≡◌, ℕ, Bool, true, false, List, [], ◌∷◌, Result, Ok, Err, IsSome}
 use Rattle.mir_text.specs.declared.symbol.Symbol.{Symbol}
 use Rattle.mir_text.specs.declared.symbol.Symbol.TheVariants as s
 use Rattle.mir_text.specs.GrammarItems.{FileRule, file_put}
@@ -33,12 +33,12 @@ unfoldable pub item : List ℕ → Parse (Lined ItemText)
 item lines ts = in_part ts (and_then (item_part lines ts) (λ x rest. Ok (with_line (line_of lines ts) x, rest)))
 
 -- a symbol comes next
-abbrev pub goes_on : List Symbol → Bool
-goes_on [] = false
-goes_on (x ∷ ts) = true
+abbrev pub more_symbols : List Symbol → Bool
+more_symbols [] = false
+more_symbols (x ∷ ts) = true
 
 abbrev pub file : List ℕ → Parse (List (Lined ItemText))
-file lines ts = each_at goes_on (item lines) ts
+file lines ts = each_at more_symbols (item lines) ts
 
 -- ---- what is promised
 
@@ -58,3 +58,9 @@ abbrev pub NoFile : List Symbol → Result FileText ParseRefused → Type 0
 NoFile symbols (Ok tree) = Unit {0}
 NoFile symbols (Err refused.OutOfMemory) = Unit {0}
 NoFile symbols (Err (refused.Fault fault)) = (rule : FileRule) → FileGood rule → symbols ≡ file_put rule [] → ⊥
+
+-- a fault lies in an item, or in a part of one
+abbrev pub InItem : Result FileText ParseRefused → Type 0
+InItem (Ok tree) = Unit {0}
+InItem (Err refused.OutOfMemory) = Unit {0}
+InItem (Err (refused.Fault fault)) = IsSome fault.part

@@ -1,15 +1,8 @@
-ghost use Rattle.std.specs.Prelude.{◌≡◌, ◌<◌, ◌≤◌, length};
+ghost use Rattle.std.specs.Prelude.{◌≡◌};
 ghost use Rattle.mir_items.specs.FaultLines as spec;
 
+use crate::line::line_with;
 use mir_parse::SyntaxFault;
-
-/// The line of the symbol from which on so many are left.
-fn line_with(lines: &[u32], left: usize) -> u32
-    ensures { result ≡ spec.line_with lines.now left }
-{
-    let place = lines.len().saturating_sub(left);
-    if place < lines.len() { lines[place] } else { 0 }
-}
 
 /// The line of the part in which a fault is, or 0 where it is in none.
 fn part_line(lines: &[u32], part: Option<usize>) -> u32

@@ -1,7 +1,7 @@
 ghost use Rattle.std.specs.Prelude.{◌≡◌, ◌<◌, ◌≤◌, [], length, IfOk};
 ghost use Rattle.mir_parse.specs.Parser.{Gives};
 ghost use Rattle.mir_items.specs.Files as spec;
-ghost use Rattle.mir_items.specs.Files.{IsFile, IsOnlyFile, NoFile};
+ghost use Rattle.mir_items.specs.Files.{InItem, IsFile, IsOnlyFile, NoFile};
 
 use crate::function::read_fn;
 use crate::item::{read_enum, read_extern, read_struct};
@@ -91,6 +91,7 @@ pub fn parse_file(
     ensures derives { IfOk result (λ file. IsFile symbols.now lines.now file) }
     ensures once { IfOk result (λ file. IsOnlyFile symbols.now lines.now file) }
     ensures refuses { NoFile symbols.now result }
+    ensures in_item { InItem result }
     ensures read { Gives (λ file. (file.items, [])) result (spec.file lines.now symbols.now) }
 {
     read_file(alloc, lines, symbols)

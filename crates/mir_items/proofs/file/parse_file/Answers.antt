@@ -1,5 +1,5 @@
 -- The laws of the parser.
-use Rattle.mir_items.proofs.FilesRead.{file-derives, file-once, file-refuses}
+use Rattle.mir_items.proofs.FilesRead.{file-derives, file-once, file-refuses, file-in_item}
 use Rattle.mir_items.proofs.file.parse_file.Goals as goal
 
 pub returns-clause-derives : goal.returns-clause-derives
@@ -10,3 +10,6 @@ returns-clause-once c = file-once c.args.lines.now c.args.symbols.now c.read_fil
 
 pub returns-clause-refuses : goal.returns-clause-refuses
 returns-clause-refuses c = file-refuses c.args.lines.now c.args.symbols.now c.read_file.result c.requires c.read_file.ensures
+
+pub returns-clause-in_item : goal.returns-clause-in_item
+returns-clause-in_item c = file-in_item c.args.lines.now c.args.symbols.now c.read_file.result c.requires c.read_file.ensures
