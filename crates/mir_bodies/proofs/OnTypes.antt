@@ -64,11 +64,11 @@ struct_def trees defs d def h e =
 
 -- ---- variants by name
 
-names_same : (trees : List Tree) (vs : List Variant) → map name_of vs ≡ map (λ (v : TypedVariant). v.name) (map (variant_of trees) vs)
+pub names_same : (trees : List Tree) (vs : List Variant) → map name_of vs ≡ map (λ (v : TypedVariant). v.name) (map (variant_of trees) vs)
 names_same trees [] = refl
 names_same trees (v ∷ vs) = ap (λ l. v.name ∷ l) (names_same trees vs)
 
-abbrev by_name : List ℕ → List TypedVariant → Option ℕ
+abbrev pub by_name : List ℕ → List TypedVariant → Option ℕ
 by_name bytes vs = place_in (map (λ v. v.name) vs) bytes
 
 in_enum : (bytes : List ℕ) (e : Bool) (d : TypedDef) → d.is_enum ≡ e → variants_if_enum d >>= by_name bytes ≡ variant_in bytes d

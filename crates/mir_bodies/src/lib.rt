@@ -4,13 +4,21 @@
 //!   its first one (`first_ty`, `specs/Locals.antt`).
 #![tactic(auto)]
 
+mod build;
 mod locals;
+mod operand;
 mod place;
+mod rvalue;
 mod scope;
+mod stmt;
+mod value;
 
 pub use locals::Locals;
+pub use operand::{read_named, read_operand, read_operands};
 pub use place::read_place;
+pub use rvalue::read_rvalue;
 pub use scope::{Labels, Scope};
+pub use stmt::read_stmt;
 
 /// A part that was read, and whether a field of one of its places is written with another type than the definition's.
 #[derive(Debug, Drop)]
