@@ -8,3 +8,4 @@ pub mod PlaceSteps
 pub mod Reading
 pub mod Building
 pub mod Calling
+pub mod Blocks

@@ -1,5 +1,5 @@
 -- Parts that are read one after another.
-use Rattle.std.proofs.Common.{◌≡◌, ℕ, ◌<◌, ◌≤◌, Bool, true, false, ◌||◌, List, [], ◌∷◌, ◌++◌, map, length, Option, refl, sym, ap, ap₂, ◌∙◌, append-nil, append_assoc, arith}
+use Rattle.std.proofs.Common.{◌≡◌, ℕ, ◌<◌, ◌≤◌, Bool, true, false, ◌||◌, List, [], ◌∷◌, ◌++◌, map, length, get_or, Option, refl, sym, ap, ap₂, ◌∙◌, append-nil, append_assoc, arith}
 use Rattle.mir_text.specs.GrammarPlaces.{PlaceRule}
 use Rattle.mir_text.specs.Names.{Names}
 use Rattle.mir_text.specs.NamedBodies.{Declared}
@@ -89,3 +89,8 @@ coded_then line a b c xs ys same coded w = record {
 pub map-map : {X Y Z : Type 0} (f : Y → Z) (h : X → Y) (xs : List X) → map f (map h xs) ≡ map (λ x. f (h x)) xs
 map-map f h [] = refl
 map-map f h (x ∷ xs) = ap (λ l. f (h x) ∷ l) (map-map f h xs)
+
+-- where there is a first one, it doesn't matter what stands in for it
+pub first_any : {X : Type 0} (left : List X) (d e : X) → 1 ≤ length left → get_or left 0 d ≡ get_or left 0 e
+first_any [] d e h = absurd (omega arith)
+first_any (x ∷ left) d e h = refl
