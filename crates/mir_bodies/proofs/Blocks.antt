@@ -1,5 +1,5 @@
 -- Statements and blocks that are read one after another.
-use Rattle.std.proofs.Common.{IsTrue, ◌≡◌, ℕ, ◌≤◌, ◌<◌, Bool, true, false, ◌&&◌, List, [], ◌∷◌, ◌++◌, map, length, Option, Some, None, refl, sym, ap, ap₂, ◌∙◌, append_assoc, append-nil, rules, arith}
+use Rattle.std.proofs.Common.{IsTrue, ◌≡◌, ℕ, ◌<◌, Bool, true, false, List, [], ◌∷◌, ◌++◌, map, length, Option, Some, None, refl, sym, ap, ap₂, ◌∙◌, append_assoc, append-nil, rules, arith}
 use Rattle.std.proofs.lemmas.List.{map-append}
 use Rattle.std.specs.List.{list_all}
 use Rattle.mir_syntax.specs.declared.types.Ty.{Ty}
@@ -13,7 +13,7 @@ use Rattle.mir_text.specs.GrammarStatements as r
 use Rattle.mir_text.specs.GrammarStatements.{StmtRule}
 use Rattle.mir_text.specs.Names.{Names}
 use Rattle.mir_text.specs.NamedBodies.{Declared, or_else, stmt_named, stmts_named}
-use Rattle.mir_text.specs.NameFaults.{Fault, concat, each}
+use Rattle.mir_text.specs.NameFaults.{Fault, each}
 use Rattle.mir_text.specs.ReadLines.{stmt_line_in, line_if, first_of}
 use Rattle.mir_tree.specs.declared.Lined.{Lined}
 use Rattle.mir_tree.specs.declared.body.StmtText.{StmtText}
@@ -21,7 +21,7 @@ use Rattle.mir_tree.specs.Bodies.{lined, stmt_rule}
 use Rattle.mir_resolve.specs.Faults.{noted}
 use Rattle.mir_resolve.proofs.Noting.{noted-append}
 use Rattle.mir_bodies.specs.Scope.{Sense}
-use Rattle.mir_bodies.specs.Statements.{listed, stmts_in, first_kept, text_stmts, text_line, text_faults}
+use Rattle.mir_bodies.specs.Statements.{listed, stmts_in, first_kept, text_stmts, text_line}
 
 -- statements mean the same in a larger table
 pub stmts_kept : (old new : List Ty) (stmts : List Stmt) → Extends old new → IsTrue (list_all (stmt_below (length old)) stmts)

@@ -1,5 +1,5 @@
 -- What a path builds.
-use Rattle.std.proofs.Common.{◌≡◌, ℕ, zero, suc, ◌+◌, ◌-◌, Bool, true, false, nat_eq, List, [], ◌∷◌, ◌++◌, map, length, take, codes, slice_get, Option, Some, None, refl, sym, ap, ap₂, ◌∙◌, append_assoc, arith, length-append}
+use Rattle.std.proofs.Common.{◌≡◌, ℕ, zero, suc, ◌+◌, ◌-◌, Bool, true, false, List, [], ◌∷◌, ◌++◌, map, length, take, codes, slice_get, Option, Some, None, refl, sym, ap, ap₂, ◌∙◌, append_assoc, arith, length-append}
 use Rattle.std.specs.Option.{option_map}
 use Rattle.std.proofs.lemmas.Option.{slice_get-map}
 use Rattle.std.proofs.Math.Seq.{take-append_seam}
@@ -7,9 +7,8 @@ use Rattle.mir_syntax.specs.declared.types.Def.{Def}
 use Rattle.mir_syntax.specs.declared.types.Field.{Field}
 use Rattle.mir_syntax.specs.declared.types.Variant.{Variant}
 use Rattle.mir_syntax.specs.Tree.{Tree, named}
-use Rattle.mir_syntax.specs.Crate.{TypedDef, TypedVariant, TypedField, def_of, variant_of, field_of}
+use Rattle.mir_syntax.specs.Crate.{TypedDef, TypedVariant, def_of, variant_of, field_of}
 use Rattle.mir_syntax.specs.Shapes.{◌>>=◌}
-use Rattle.mir_text.specs.GrammarTypes.{PathRule, name, name_in}
 use Rattle.mir_text.specs.Words.{place_in}
 use Rattle.mir_text.specs.Names.{Names, Strings, string_at, path_bytes, last_name, without_last, within}
 use Rattle.mir_text.specs.NamedBodies.{struct_at, enum_variant_at, variant_in, or_else}

@@ -1,14 +1,13 @@
 -- Parts that are read one after another.
-use Rattle.std.proofs.Common.{◌≡◌, ℕ, ◌<◌, ◌≤◌, Bool, true, false, ◌||◌, List, [], ◌∷◌, ◌++◌, map, length, get_or, Option, refl, sym, ap, ap₂, ◌∙◌, append-nil, append_assoc, arith}
+use Rattle.std.proofs.Common.{◌≡◌, ℕ, ◌<◌, ◌≤◌, Bool, true, false, ◌||◌, List, [], ◌∷◌, ◌++◌, map, length, get_or, refl, sym, ap, ap₂, ◌∙◌, append_assoc, arith}
 use Rattle.mir_text.specs.GrammarPlaces.{PlaceRule}
 use Rattle.mir_text.specs.Names.{Names}
 use Rattle.mir_text.specs.NamedBodies.{Declared}
-use Rattle.mir_text.specs.NameFaults.{Fault, on_line, concat, each, each_item}
+use Rattle.mir_text.specs.NameFaults.{on_line, concat, each, each_item}
 use Rattle.mir_tree.specs.Lists.{listed}
 use Rattle.mir_resolve.proofs.Listed.{items_listed}
 use Rattle.mir_text.specs.ReadLines.{is_wrong, any_wrong}
 use Rattle.mir_resolve.specs.declared.draft.Draft.{Draft}
-use Rattle.mir_resolve.specs.Types.{Grown}
 use Rattle.mir_resolve.specs.Faults.{noted}
 use Rattle.mir_resolve.specs.Definitions.{Went}
 use Rattle.mir_resolve.proofs.Growing.{grown_then}

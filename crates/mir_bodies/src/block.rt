@@ -44,13 +44,7 @@ fn first_wrong(first: Option<u32>, wrong: bool, line: u32) -> Option<u32>
 {
     match first {
         Some(first) => Some(first),
-        None => {
-            if wrong {
-                Some(line)
-            } else {
-                None
-            }
-        }
+        None => { if wrong { Some(line) } else { None } }
     }
 }
 

@@ -229,7 +229,9 @@ pub fn read_term(
             read_switch(alloc, scope, draft, line, operand, arms.as_slice(), *block)
         }
         TermText::Call(place, path, args, block, unwind) => {
-            read_call(alloc, scope, draft, line, place, path, args, *block, *unwind)
+            read_call(
+                alloc, scope, draft, line, place, path, args, *block, *unwind,
+            )
         }
         TermText::Drop(place, block, _) => {
             let place = read_place(alloc, scope, draft, line, place)?;

@@ -1,7 +1,6 @@
-use Rattle.std.proofs.Common.{◌≡◌, ℕ, List, ◌++◌, ◌∙◌, map, ap, ap₂, sym, length}
+use Rattle.std.proofs.Common.{ℕ, List, ◌∙◌, map, ap, ap₂, sym}
 use Rattle.mir_syntax.specs.declared.body.Term.{Term}
 use Rattle.mir_syntax.specs.declared.lines.BlockLines.{BlockLines}
-use Rattle.mir_syntax.specs.Tree.{trees_of}
 use Rattle.mir_syntax.specs.Crate.{TypedStmt, TypedBlock}
 use Rattle.mir_text.specs.NameFaults.{each, on_line, term_codes, stmt_faults}
 use Rattle.mir_text.specs.ReadLines.{first_of, any_wrong, term_places, stmt_line_in, wrong_stmt}
@@ -33,10 +32,10 @@ returns-clause-wrong g c =
     let text = c.args.text.now in
     c.first_wrong.ensures
     ∙ kept_last c.in_ok-stmts.stmts.wrong c.in_ok-term.term.wrong (any_wrong g.sense.names g.sense.locals (term_places (term_rule text.term.part))) text.term.line
-      (each (wrong_stmt g.sense.names g.sense.locals) (map (lined stmt_rule) text.stmts))
-      (c.in_ok-stmts.ensures.wrong
-      ∙ ap first_of (ap (each (text_wrong g.sense)) c.as_slice.ensures ∙ each_mapped (wrong_stmt g.sense.names g.sense.locals) (lined stmt_rule) text.stmts))
-      c.in_ok-term.ensures.wrong
+    (each (wrong_stmt g.sense.names g.sense.locals) (map (lined stmt_rule) text.stmts))
+    (c.in_ok-stmts.ensures.wrong
+    ∙ ap first_of (ap (each (text_wrong g.sense)) c.as_slice.ensures ∙ each_mapped (wrong_stmt g.sense.names g.sense.locals) (lined stmt_rule) text.stmts))
+    c.in_ok-term.ensures.wrong
 
 pub returns-clause-inside : goal.returns-clause-inside
 returns-clause-inside g c =
@@ -49,8 +48,8 @@ returns-clause-notes g c =
     let term = on_line text.term.line (term_codes g.sense.names g.sense.locals g.sense.labels (term_rule text.term.part)) in
     c.in_ok-term.ensures.went.notes
     ∙ ap (λ k. noted k term)
-      (c.in_ok-stmts.ensures.notes
-      ∙ ap (noted start) (ap (each (text_faults g.sense)) c.as_slice.ensures ∙ each_mapped (stmt_faults g.sense.names g.sense.locals) (lined stmt_rule) text.stmts))
+    (c.in_ok-stmts.ensures.notes
+    ∙ ap (noted start) (ap (each (text_faults g.sense)) c.as_slice.ensures ∙ each_mapped (stmt_faults g.sense.names g.sense.locals) (lined stmt_rule) text.stmts))
     ∙ sym (noted-append start (each (stmt_faults g.sense.names g.sense.locals) (map (lined stmt_rule) text.stmts)) term)
 
 pub returns-clause-grown : goal.returns-clause-grown

@@ -1,4 +1,4 @@
-use Rattle.std.proofs.Common.{◌≡◌, ap, sym, ◌∙◌}
+use Rattle.std.proofs.Common.{ap, sym, ◌∙◌}
 use Rattle.mir_text.specs.Names.{path_bytes}
 use Rattle.mir_tree.specs.Types.{path_rule}
 use Rattle.mir_bodies.specs.Builds.{pair_of, struct_by_path, variant_by_rule}

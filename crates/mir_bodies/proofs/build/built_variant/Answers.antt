@@ -22,4 +22,4 @@ returns c = λ names is.
     let some : c.args.built ≡ Some b = c.in_ok-built.was in
     rw some
     (pair_built names (pair_of b) _
-      (built_at names (trees_of c.args.program.now.types) c.args.program.now.defs b.def b.variant c.in_ok-def.def.now (option_copied c.get-2.result) is c.in_ok-def.ensures c.get-2.ensures))
+    (built_at names (trees_of c.args.program.now.types) c.args.program.now.defs b.def b.variant c.in_ok-def.def.now (option_copied c.get-2.result) is c.in_ok-def.ensures c.get-2.ensures))

@@ -15,8 +15,8 @@ returns-in_ok-number-in-Some g c =
     let d = c.args.def in
     c.with_variant.ensures
     ∙ ap (option_map (pair_with d))
-      (c.in_ok-number-in-Some.ensures
-      ∙ ap (place_in (map name_of c.in-Some.variants.now)) (c.string_of.ensures ∙ ap (λ s. string_at s c.args.name) (sym c.requires.strings)))
+    (c.in_ok-number-in-Some.ensures
+    ∙ ap (place_in (map name_of c.in-Some.variants.now)) (c.string_of.ensures ∙ ap (λ s. string_at s c.args.name) (sym c.requires.strings)))
     ∙ variant_built g.sense.names (string_at g.sense.names.strings c.args.name) trees d (map (def_of trees) c.args.program.now.defs) c.in-Some.variants.now c.requires.defs c.in-Some.ensures
 
 pub returns-in-None : goal.returns-in-None

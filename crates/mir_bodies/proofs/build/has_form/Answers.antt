@@ -15,5 +15,5 @@ returns-in-Labelled c = λ names trees e.
     rw (c.in-Named.is, c.in-Labelled.is)
     (c.same_names.ensures
     ∙ ap₂ same_texts
-      (ap (map (name_before c.args.strings.now)) c.as_slice.ensures ∙ ap (λ s. map (name_before s) xs.items) (sym e) ∙ sym (items_listed text named_rule xs.items xs.trailing))
-      (ap (map field_name) c.as_slice-in-Labelled.ensures ∙ names_of_fields trees c.args.variant.now.fields))
+    (ap (map (name_before c.args.strings.now)) c.as_slice.ensures ∙ ap (λ s. map (name_before s) xs.items) (sym e) ∙ sym (items_listed text named_rule xs.items xs.trailing))
+    (ap (map field_name) c.as_slice-in-Labelled.ensures ∙ names_of_fields trees c.args.variant.now.fields))

@@ -1,4 +1,4 @@
-use Rattle.std.proofs.Common.{◌≡◌, ℕ, Some, None, Option, ap, sym, ◌∙◌}
+use Rattle.std.proofs.Common.{Some, None, ap, sym, ◌∙◌}
 use Rattle.mir_syntax.specs.Tree.{trees_of}
 use Rattle.mir_text.specs.Words.{place_in}
 use Rattle.mir_text.specs.NamedBodies.{struct_at}
@@ -9,14 +9,14 @@ pub returns-in_err-def : goal.returns-in_err-def
 returns-in_err-def g c =
     rw c.from_residual.ensures
     (none_on (struct_at g.sense.names) (place_in g.sense.names.paths c.args.path.now)
-      (c.in_err-def.ensures ∙ ap (λ ps. place_in ps c.args.path.now) (sym c.requires.paths)))
+    (c.in_err-def.ensures ∙ ap (λ ps. place_in ps c.args.path.now) (sym c.requires.paths)))
 
 pub returns-in_err-found : goal.returns-in_err-found
 returns-in_err-found g c =
     rw c.from_residual-in_err-found.ensures
     (some_on (struct_at g.sense.names) (place_in g.sense.names.paths c.args.path.now) c.in_ok-def.def None
-      (c.in_ok-def.ensures ∙ ap (λ ps. place_in ps c.args.path.now) (sym c.requires.paths))
-      (struct_none g.sense.names (trees_of c.args.program.now.types) c.args.program.now.defs c.in_ok-def.def c.requires.defs c.in_err-found.ensures))
+    (c.in_ok-def.ensures ∙ ap (λ ps. place_in ps c.args.path.now) (sym c.requires.paths))
+    (struct_none g.sense.names (trees_of c.args.program.now.types) c.args.program.now.defs c.in_ok-def.def c.requires.defs c.in_err-found.ensures))
 
 pub returns-then-found : goal.returns-then-found
 returns-then-found g c =

@@ -1,4 +1,4 @@
-use Rattle.std.proofs.Common.{◌≡◌, List, map, ap, sym, ◌∙◌}
+use Rattle.std.proofs.Common.{List, map, ap, sym, ◌∙◌}
 use Rattle.mir_syntax.specs.declared.body.Operand.{Operand}
 use Rattle.mir_text.specs.GrammarPlaces.{OperandRule, PlaceRule}
 use Rattle.mir_text.specs.GrammarStatements.{NamedRule}
@@ -34,7 +34,7 @@ returns-in_ok-read-in-Tupled-clause-went g c =
     let xs = c.in-Tupled.operands in
     rw c.in-Tupled.is
     (went_as c.in_ok-read-in-Tupled.ensures.went
-      (ap (each (text_codes g.sense)) c.as_slice.ensures ∙ sym (each_listed (operand_codes g.sense.names g.sense.locals) operand_rule xs.items xs.trailing)))
+    (ap (each (text_codes g.sense)) c.as_slice.ensures ∙ sym (each_listed (operand_codes g.sense.names g.sense.locals) operand_rule xs.items xs.trailing)))
 
 pub returns-in_ok-read-in-Labelled-clause-parts : goal.returns-in_ok-read-in-Labelled-clause-parts
 returns-in_ok-read-in-Labelled-clause-parts g c =
@@ -51,13 +51,13 @@ returns-in_ok-read-in-Labelled-clause-wrong g c =
     rw c.in-Labelled.is
     (c.in_ok-read-in-Labelled.ensures.wrong
     ∙ ap (any_wrong g.sense.names g.sense.locals)
-      (ap (λ l. each text_places (map behind_name l)) c.as_slice-in-Labelled.ensures
-      ∙ ap concat (map-map text_places behind_name xs.items) ∙ sym (each_listed places named_rule xs.items xs.trailing)))
+    (ap (λ l. each text_places (map behind_name l)) c.as_slice-in-Labelled.ensures
+    ∙ ap concat (map-map text_places behind_name xs.items) ∙ sym (each_listed places named_rule xs.items xs.trailing)))
 
 pub returns-in_ok-read-in-Labelled-clause-went : goal.returns-in_ok-read-in-Labelled-clause-went
 returns-in_ok-read-in-Labelled-clause-went g c =
     let xs = c.in-Labelled.named in
     rw c.in-Labelled.is
     (went_as c.in_ok-read-in-Labelled.ensures.went
-      (ap (λ l. each (text_codes g.sense) (map behind_name l)) c.as_slice-in-Labelled.ensures
-      ∙ ap concat (map-map (text_codes g.sense) behind_name xs.items) ∙ sym (each_listed (named_operand_codes g.sense.names g.sense.locals) named_rule xs.items xs.trailing)))
+    (ap (λ l. each (text_codes g.sense) (map behind_name l)) c.as_slice-in-Labelled.ensures
+    ∙ ap concat (map-map (text_codes g.sense) behind_name xs.items) ∙ sym (each_listed (named_operand_codes g.sense.names g.sense.locals) named_rule xs.items xs.trailing)))

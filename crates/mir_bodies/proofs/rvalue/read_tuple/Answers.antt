@@ -22,7 +22,7 @@ returns-clause-rvalue g c =
     ap typed.tuple
     (put_front _ c.push.new.self c.append.new.self c.in_ok-a.a.part c.in_ok-more.more.part c.new-parts.ensures c.in_ok-push.ensures.ok c.in_ok-append.ensures.ok
     ∙ ap₂ (λ x xs. x ∷ xs) c.in_ok-a.ensures.operand
-      (c.in_ok-more.ensures.operands ∙ ap (map (text_operand g.sense)) c.as_slice.ensures ∙ sym (items_listed name operand_rule others.items others.trailing)))
+    (c.in_ok-more.ensures.operands ∙ ap (map (text_operand g.sense)) c.as_slice.ensures ∙ sym (items_listed name operand_rule others.items others.trailing)))
 
 pub returns-clause-wrong : goal.returns-clause-wrong
 returns-clause-wrong g c =
@@ -37,4 +37,4 @@ returns-clause-went g c =
     let others = c.args.others.now in
     went_then c.in_ok-a.ensures.went
     (went_as c.in_ok-more.ensures.went
-      (ap (each (text_codes g.sense)) c.as_slice.ensures ∙ sym (each_listed (operand_codes g.sense.names g.sense.locals) operand_rule others.items others.trailing)))
+    (ap (each (text_codes g.sense)) c.as_slice.ensures ∙ sym (each_listed (operand_codes g.sense.names g.sense.locals) operand_rule others.items others.trailing)))

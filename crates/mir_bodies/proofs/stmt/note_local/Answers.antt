@@ -18,5 +18,5 @@ returns-clause-went g c =
       grown = grown_same c.args.draft.now.program;
       notes = c.note_unless.ensures
           ∙ ap (λ b. noted c.args.draft.now.notes (on_line c.args.line (unless b 14)))
-            (c.is_some.ensures ∙ sym (is_some-map (at_id trees) c.get-ty.result) ∙ ap (λ o. is_some o) stands);
+          (c.is_some.ensures ∙ sym (is_some-map (at_id trees) c.get-ty.result) ∙ ap (λ o. is_some o) stands);
     }

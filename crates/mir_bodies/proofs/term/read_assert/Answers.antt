@@ -16,7 +16,7 @@ returns-clause-term g c =
     ap₂ (λ x xs. term.Assert x c.args.expected c.in_ok-message.message xs c.args.block) c.in_ok-operand.ensures.operand
     (c.in_ok-args.ensures.operands ∙ sym (map-map name operand_rule c.args.args.now))
     ∙ ap (λ m. term.Assert (name (operand_rule c.args.operand.now)) c.args.expected m (map name (map operand_rule c.args.args.now)) c.args.block)
-      (c.in_ok-message.ensures ∙ c.string_of.ensures ∙ ap (λ s. string_at s c.args.message) (sym c.requires.strings))
+    (c.in_ok-message.ensures ∙ c.string_of.ensures ∙ ap (λ s. string_at s c.args.message) (sym c.requires.strings))
 
 pub returns-clause-wrong : goal.returns-clause-wrong
 returns-clause-wrong g c =
@@ -28,5 +28,5 @@ pub returns-clause-went : goal.returns-clause-went
 returns-clause-went g c =
     went_then
     (went_then c.in_ok-operand.ensures.went
-      (went_as c.in_ok-args.ensures.went (ap concat (sym (map-map (operand_codes g.sense.names g.sense.locals) operand_rule c.args.args.now)))))
+    (went_as c.in_ok-args.ensures.went (ap concat (sym (map-map (operand_codes g.sense.names g.sense.locals) operand_rule c.args.args.now)))))
     c.note_target.ensures.went

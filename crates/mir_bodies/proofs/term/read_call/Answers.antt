@@ -19,7 +19,7 @@ returns-clause-term g c =
     let name : OperandRule → Operand = operand_named g.sense.names g.sense.locals in
     ap (λ p. term.Call p c.in_ok-callee.callee c.in_ok-args.args.part block) c.in_ok-place.ensures.place
     ∙ ap₂ (λ f xs. term.Call (place_named g.sense.names g.sense.locals (place_rule c.args.place.now)) f xs block) c.in_ok-callee.ensures.callee
-      (c.in_ok-args.ensures.operands ∙ ap (map (text_operand g.sense)) c.as_slice.ensures ∙ sym (items_listed name operand_rule args.items args.trailing))
+    (c.in_ok-args.ensures.operands ∙ ap (map (text_operand g.sense)) c.as_slice.ensures ∙ sym (items_listed name operand_rule args.items args.trailing))
 
 pub returns-clause-wrong : goal.returns-clause-wrong
 returns-clause-wrong g c =
@@ -34,6 +34,6 @@ returns-clause-went g c =
     let args = c.args.args.now in
     went_then
     (went_then (went_then c.in_ok-place.ensures.went c.in_ok-callee.ensures.went)
-      (went_as c.in_ok-args.ensures.went
-        (ap (each (text_codes g.sense)) c.as_slice.ensures ∙ sym (each_listed (operand_codes g.sense.names g.sense.locals) operand_rule args.items args.trailing))))
+    (went_as c.in_ok-args.ensures.went
+    (ap (each (text_codes g.sense)) c.as_slice.ensures ∙ sym (each_listed (operand_codes g.sense.names g.sense.locals) operand_rule args.items args.trailing))))
     c.note_target.ensures.went

@@ -1,5 +1,4 @@
-use Rattle.std.proofs.Common.{◌≡◌, Option, is_some, ap, ◌∙◌}
-use Rattle.mir_syntax.specs.declared.body.Callee.{Callee}
+use Rattle.std.proofs.Common.{◌≡◌, is_some, ap, ◌∙◌}
 use Rattle.mir_text.specs.NamedBodies.{called_by, or_first_function}
 use Rattle.mir_text.specs.NameFaults.{on_line, unless}
 use Rattle.mir_tree.specs.Types.{path_rule}
