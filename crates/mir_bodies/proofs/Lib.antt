@@ -5,3 +5,7 @@ pub mod SameTypes
 pub mod TellsOn
 pub mod OnTypes
 pub mod PlaceSteps
+pub mod Reading
+pub mod Building
+pub mod Calling
+pub mod Blocks

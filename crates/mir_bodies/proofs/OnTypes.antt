@@ -1,11 +1,10 @@
 -- What stands at the type so far.
-use Rattle.std.proofs.Common.{◌≡◌, ℕ, ◌<◌, ◌⊎◌, Bool, true, false, List, [], ◌∷◌, map, length, slice_get, Option, Some, None, option_copied, Bor, refl, sym, ap, ◌∙◌}
+use Rattle.std.proofs.Common.{◌≡◌, ℕ, Bool, true, false, List, [], ◌∷◌, map, slice_get, Option, Some, None, refl, sym, ap, ◌∙◌}
 use Rattle.std.proofs.lemmas.Option.{slice_get-map}
 use Rattle.std.specs.Option.{option_map}
 use Rattle.mir_syntax.specs.declared.types.TyId.{TyId}
 use Rattle.mir_syntax.specs.declared.types.Ty.{Ty}
 use Rattle.mir_syntax.specs.declared.types.Ty.TheVariants.{Scalar, Tuple, Ref, RefMut, Named}
-use Rattle.mir_syntax.specs.declared.types.ScalarTy.TheVariants as scalar_ty
 use Rattle.mir_syntax.specs.declared.types.Field.{Field}
 use Rattle.mir_syntax.specs.declared.types.Def.{Def}
 use Rattle.mir_syntax.specs.declared.types.Variant.{Variant}
@@ -16,7 +15,7 @@ use Rattle.mir_syntax.specs.Shapes.{Shape, fields_tree, field_ty_of, field_id, f
 use Rattle.mir_syntax.proofs.Places.{field-of-fields}
 use Rattle.mir_text.specs.Words.{place_in}
 use Rattle.mir_text.specs.Names.{Names}
-use Rattle.mir_text.specs.NamedBodies.{variant_names, variant_in, variant_of_ty}
+use Rattle.mir_text.specs.NamedBodies.{variant_in, variant_of_ty}
 use Rattle.mir_bodies.specs.Places.{name_of, variants_if_enum, enum_variants_of, variants_of, downcast_by, variant_field_of}
 
 -- where there is no type, nothing stands there
@@ -64,11 +63,11 @@ struct_def trees defs d def h e =
 
 -- ---- variants by name
 
-names_same : (trees : List Tree) (vs : List Variant) → map name_of vs ≡ map (λ (v : TypedVariant). v.name) (map (variant_of trees) vs)
+pub names_same : (trees : List Tree) (vs : List Variant) → map name_of vs ≡ map (λ (v : TypedVariant). v.name) (map (variant_of trees) vs)
 names_same trees [] = refl
 names_same trees (v ∷ vs) = ap (λ l. v.name ∷ l) (names_same trees vs)
 
-abbrev by_name : List ℕ → List TypedVariant → Option ℕ
+abbrev pub by_name : List ℕ → List TypedVariant → Option ℕ
 by_name bytes vs = place_in (map (λ v. v.name) vs) bytes
 
 in_enum : (bytes : List ℕ) (e : Bool) (d : TypedDef) → d.is_enum ≡ e → variants_if_enum d >>= by_name bytes ≡ variant_in bytes d

@@ -1,20 +1,20 @@
 -- A place that is read, one projection after another.
-use Rattle.std.proofs.Common.{IsTrue, ◌≡◌, ℕ, ◌<◌, Bool, ◌||◌, List, [], ◌∷◌, ◌++◌, map, length, Option, Some, None, IfSome, is_some, refl, sym, ap, ap₂, ◌∙◌, append_assoc, arith}
+use Rattle.std.proofs.Common.{◌≡◌, ℕ, ◌<◌, Bool, ◌||◌, List, [], ◌∷◌, ◌++◌, length, Option, Some, None, IfSome, is_some, refl, sym, ap, ap₂, ◌∙◌, append_assoc, arith}
 use Rattle.std.specs.Option.{option_map, unwrap_or}
 use Rattle.mir_syntax.specs.declared.types.TyId.{TyId}
 use Rattle.mir_syntax.specs.declared.body.Proj.{Proj}
 use Rattle.mir_syntax.specs.declared.body.Proj.TheVariants.{Field, Downcast, Deref}
 use Rattle.mir_syntax.specs.declared.program.Program.{Program}
 use Rattle.mir_syntax.specs.Tree.{Tree, at_id, trees_of}
-use Rattle.mir_syntax.specs.Crate.{crate_of, def_of}
-use Rattle.mir_syntax.specs.Shapes.{Shape, shapes_of, shapes_from, pointee, ◌>>=◌}
+use Rattle.mir_syntax.specs.Crate.{crate_of}
+use Rattle.mir_syntax.specs.Shapes.{shapes_of, shapes_from, ◌>>=◌}
 use Rattle.mir_text.specs.GrammarTypes.{TypeRule}
 use Rattle.mir_text.specs.GrammarPlaces as g
 use Rattle.mir_text.specs.GrammarPlaces.{PlaceRule}
 use Rattle.mir_text.specs.Names.{Names, string_at, ty_of}
 use Rattle.mir_text.specs.NamedBodies.{place_ty_of, projs_named, variant_at_place, variant_of_ty, or_zero, local_in, downcast_ty}
 use Rattle.mir_text.specs.NameFaults.{Fault, on_line, unless, type_codes, place_codes}
-use Rattle.mir_text.specs.ReadLines.{is_wrong, differs}
+use Rattle.mir_text.specs.ReadLines.{differs}
 use Rattle.mir_tree.specs.declared.operand.ProjText.{ProjText}
 use Rattle.mir_tree.specs.declared.operand.ProjText.TheVariants as p
 use Rattle.mir_tree.specs.Types.{type_rule}
@@ -126,7 +126,7 @@ variant_step scope sense start line q walk old between new v n u k ty d wrong on
       wrong = or ∙ ap₂ (λ a b. a || b) r.wrong (differ ∙ ap (λ o. differs o (ty_of names u)) stands);
       notes = went.notes
           ∙ ap (λ kept. noted kept (on_line line (type_codes names u)))
-            (coded ∙ ap₂ (λ kept i. noted kept (on_line line (unless (is_some i) 13))) r.notes number ∙ sym (noted_on start line codes missing))
+          (coded ∙ ap₂ (λ kept i. noted kept (on_line line (unless (is_some i) 13))) r.notes number ∙ sym (noted_on start line codes missing))
           ∙ sym (noted_on start line (codes ++ missing) (type_codes names u));
     }
 

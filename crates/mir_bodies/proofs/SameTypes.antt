@@ -83,6 +83,6 @@ differ_ids types a b table ha hb =
     let u = at_id (trees_of types) b in
     ap not
     (both_true (nat_eq a.0 b.0) (same_type t u)
-      (λ e. let one : ℕ → Tree = λ n. get_or (trees_of types) n (scalar s.Bool) in
-        ap (same_type t) (sym (ap one (eqb-true a.0 b.0 e))) ∙ same_type_refl t)
-      (λ e. eq-eqb a.0 b.0 (ap (λ id. id.0) (one-id-each types a b table ha hb (same_type_is t u e)))))
+    (λ e. let one : ℕ → Tree = λ n. get_or (trees_of types) n (scalar s.Bool) in
+    ap (same_type t) (sym (ap one (eqb-true a.0 b.0 e))) ∙ same_type_refl t)
+    (λ e. eq-eqb a.0 b.0 (ap (λ id. id.0) (one-id-each types a b table ha hb (same_type_is t u e)))))

@@ -1,5 +1,5 @@
 -- Types of fields and variants don't look at destructors.
-use Rattle.std.proofs.Common.{◌≡◌, ℕ, suc, zero, List, [], ◌∷◌, slice_get, Option, Some, None, refl, sym, ap, ◌∙◌}
+use Rattle.std.proofs.Common.{◌≡◌, ℕ, suc, zero, List, [], ◌∷◌, slice_get, Option, Some, None, refl, ap, ◌∙◌}
 use Rattle.mir_syntax.specs.declared.body.Proj.{Proj}
 use Rattle.mir_syntax.specs.declared.body.Proj.TheVariants as proj
 use Rattle.mir_syntax.specs.Tree.{Tree, scalar, empty, more, ref, ref_mut, named}

@@ -1,5 +1,5 @@
 -- A place while it is read, from its local outwards.
-use Rattle.std.specs.Prelude.{◌≡◌, ℕ, ◌<◌, nat_eq, Bool, List, [], ◌∷◌, map, length, Option, Some, None, IfSome, if◌then◌else◌, option_map}
+use Rattle.std.specs.Prelude.{◌≡◌, ℕ, ◌<◌, List, length, Option, Some, None, IfSome, if◌then◌else◌, option_map}
 use Rattle.mir_syntax.specs.Tree.{Tree, named, at_id, trees_of}
 use Rattle.mir_syntax.specs.Crate.{TypedVariant, TypedDef}
 use Rattle.mir_syntax.specs.declared.types.Variant.{Variant}

@@ -1,5 +1,5 @@
 ghost use Rattle.std.specs.Prelude.{◌≡◌, ◌||◌, ℕ, ◌<◌, ◌+◌, length, map, Option, IfOk, IfSome, OnOk, option_copied, option_map, slice_get};
-ghost use Rattle.mir_syntax.specs.Tree.{at_id, trees_of};
+ghost use Rattle.mir_syntax.specs.Tree.{named, at_id, trees_of};
 ghost use Rattle.mir_syntax.specs.Crate.{crate_of, variant_of, def_of};
 ghost use Rattle.mir_syntax.specs.Ids.{IdsInTable};
 ghost use Rattle.mir_syntax.specs.Shapes.{shapes_of, field_id};
@@ -37,6 +37,7 @@ pub struct Walk {
     pub wrong: bool,
 }
 
+/// Whether one of two facts holds.
 pub fn either(a: bool, b: bool) -> bool
     ensures { result ≡ (a || b) }
 {
@@ -44,7 +45,7 @@ pub fn either(a: bool, b: bool) -> bool
 }
 
 /// The number of the variant with a name.
-fn variant_number(variants: &[Variant], name: &[u8]) -> Result<Option<u32>, OutOfMemory>
+pub fn variant_number(variants: &[Variant], name: &[u8]) -> Result<Option<u32>, OutOfMemory>
     ensures { IfOk result (λ number. number ≡ place_in (map name_of variants.now) name.now) }
 {
     if variants.len() >= MOST_VARIANTS {
@@ -62,15 +63,12 @@ fn variant_number(variants: &[Variant], name: &[u8]) -> Result<Option<u32>, OutO
     Ok(None)
 }
 
-/// The variants of an enum.
-fn enum_variants<'a>(program: &'a Program, id: TyId) -> Option<&'a [Variant]>
+/// The variants of the enum with a number.
+pub fn variants_of_def(program: &Program, def: u32) -> Option<&[Variant]>
     ensures { option_map (map (variant_of (trees_of program.now.types))) (option_copied result)
-        ≡ enum_variants_of (map (def_of (trees_of program.now.types)) program.now.defs) (at_id (trees_of program.now.types) id) }
+        ≡ enum_variants_of (map (def_of (trees_of program.now.types)) program.now.defs) (named def) }
 {
-    let Ty::Named(def) = program.ty_at(id)? else {
-        return None;
-    };
-    let def = program.defs.get(*def as usize)?;
+    let def = program.defs.get(def as usize)?;
     if def.is_enum {
         Some(def.variants.as_slice())
     } else {
@@ -78,7 +76,18 @@ fn enum_variants<'a>(program: &'a Program, id: TyId) -> Option<&'a [Variant]>
     }
 }
 
-fn variants_at<'a>(program: &'a Program, ty: Option<TyId>) -> Option<&'a [Variant]>
+/// The variants of an enum.
+fn enum_variants(program: &Program, id: TyId) -> Option<&[Variant]>
+    ensures { option_map (map (variant_of (trees_of program.now.types))) (option_copied result)
+        ≡ enum_variants_of (map (def_of (trees_of program.now.types)) program.now.defs) (at_id (trees_of program.now.types) id) }
+{
+    let Ty::Named(def) = program.ty_at(id)? else {
+        return None;
+    };
+    variants_of_def(program, *def)
+}
+
+fn variants_at(program: &Program, ty: Option<TyId>) -> Option<&[Variant]>
     ensures { option_map (map (variant_of (trees_of program.now.types))) (option_copied result)
         ≡ variants_of (map (def_of (trees_of program.now.types)) program.now.defs) (option_map (at_id (trees_of program.now.types)) ty) }
 {

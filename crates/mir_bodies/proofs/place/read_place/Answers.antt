@@ -12,8 +12,6 @@ use Rattle.mir_resolve.proofs.Growing.{grown_same}
 use Rattle.mir_bodies.proofs.TellsOn.{first_declared, first_inside, is_some-map}
 use Rattle.mir_bodies.proofs.PlaceSteps.{place_ended, local_kept}
 use Rattle.mir_bodies.proofs.place.read_place.Goals as goal
-use Rattle.mir_syntax.specs.declared.types.TyId.{TyId}
-use Rattle.mir_syntax.specs.Tree.{Tree}
 use Rattle.std.proofs.Common.{◌≡◌, length}
 
 pub projs-init : goal.projs-init
@@ -31,7 +29,7 @@ projs-init g c =
         wrong = refl;
         notes = c.note_unless.ensures
             ∙ ap (λ b. noted c.args.draft.now.notes (on_line c.args.line (unless b 14)))
-              (c.is_some.ensures ∙ sym (is_some-map (at_id trees) c.get-ty.result) ∙ ap (λ o. is_some o) stands);
+            (c.is_some.ensures ∙ sym (is_some-map (at_id trees) c.get-ty.result) ∙ ap (λ o. is_some o) stands);
       };
       whole = ap (place_from (gr.local x)) c.as_slice-left.ensures;
       grown = grown_same c.args.draft.now.program;

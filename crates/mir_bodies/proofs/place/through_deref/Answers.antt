@@ -1,7 +1,6 @@
-use Rattle.std.proofs.Common.{◌≡◌, ◌<◌, IfSome, length, ap, sym, ◌∙◌}
+use Rattle.std.proofs.Common.{◌≡◌, ◌<◌, IfSome, length}
 use Rattle.std.specs.Option.{option_map}
 use Rattle.mir_syntax.specs.declared.types.TyId.{TyId}
-use Rattle.mir_syntax.specs.declared.program.Program.{Program}
 use Rattle.mir_syntax.specs.Tree.{at_id, trees_of}
 use Rattle.mir_bodies.specs.Places.{pointee_of}
 use Rattle.mir_bodies.proofs.PlaceSteps.{deref_step}

@@ -1,4 +1,4 @@
-use Rattle.std.proofs.Common.{◌∷◌, ◌++◌, [], refl, ap, ◌∙◌, is_some}
+use Rattle.std.proofs.Common.{◌∷◌, ◌++◌, [], refl, ap, ◌∙◌}
 use Rattle.mir_syntax.specs.declared.body.Proj.TheVariants.{Downcast}
 use Rattle.mir_text.specs.NameFaults.{on_line, unless}
 use Rattle.mir_tree.specs.Types.{type_rule}

@@ -1,4 +1,4 @@
-use Rattle.std.proofs.Common.{map, ap, ap₂, sym, ◌∙◌}
+use Rattle.std.proofs.Common.{map, ap, sym, ◌∙◌}
 use Rattle.std.specs.Option.{option_map}
 use Rattle.mir_syntax.specs.Tree.{at_id, trees_of}
 use Rattle.mir_syntax.specs.Crate.{def_of}
@@ -14,7 +14,7 @@ returns-in_ok-number-in-Some g c =
     c.in_ok-number-in-Some.ensures
     ∙ ap (place_in (map name_of c.in-Some.variants.now)) (c.string_of.ensures ∙ ap (λ s. string_at s c.args.name) (sym c.requires.strings))
     ∙ variant_found g.sense.names (string_at g.sense.names.strings c.args.name) trees (option_map (at_id trees) c.args.ty) (map (def_of trees) c.args.program.now.defs)
-      c.in-Some.variants.now c.requires.defs c.in-Some.ensures
+    c.in-Some.variants.now c.requires.defs c.in-Some.ensures
 
 pub returns-in-None : goal.returns-in-None
 returns-in-None g c =

@@ -1,4 +1,4 @@
-use Rattle.std.proofs.Common.{◌≡◌, length, Some, None, ap, sym, ◌∙◌}
+use Rattle.std.proofs.Common.{◌≡◌, length, Some, None, ap, ◌∙◌}
 use Rattle.std.specs.Option.{option_map}
 use Rattle.mir_syntax.specs.Tree.{at_id, trees_of}
 use Rattle.mir_syntax.specs.Crate.{crate_of}
@@ -26,7 +26,7 @@ returns-in_err-variant_fields-clause-ty c =
     let some : c.args.variant ≡ Some c.in_ok-variant.field-0 = c.in_ok-variant.was in
     rw (c.from_residual-in_err-variant_fields.ensures, some)
     (some_then (at_id trees) (λ u. downcast_by D u c.args.index (Some c.in_ok-variant.field-0)) c.args.ty c.in_ok-ty.field-0 None c.in_ok-ty.was
-      (no_variant D (at_id trees c.in_ok-ty.field-0) c.in_ok-variant.field-0 c.args.index c.in_err-variant_fields.ensures.fields))
+    (no_variant D (at_id trees c.in_ok-ty.field-0) c.in_ok-variant.field-0 c.args.index c.in_err-variant_fields.ensures.fields))
 
 pub returns-clause-ty : goal.returns-clause-ty
 returns-clause-ty c =
@@ -35,8 +35,8 @@ returns-clause-ty c =
     let some : c.args.variant ≡ Some c.in_ok-variant.field-0 = c.in_ok-variant.was in
     rw some
     (some_then (at_id trees) (λ u. downcast_by D u c.args.index (Some c.in_ok-variant.field-0)) c.args.ty c.in_ok-ty.field-0 _ c.in_ok-ty.was
-      (ap (option_map (at_id trees)) c.field_at.ensures
-      ∙ field_in D trees (at_id trees c.in_ok-ty.field-0) c.in_ok-variant.field-0 c.args.index c.in_ok-variant_fields.field-0.now c.in_ok-variant_fields.ensures.fields))
+    (ap (option_map (at_id trees)) c.field_at.ensures
+    ∙ field_in D trees (at_id trees c.in_ok-ty.field-0) c.in_ok-variant.field-0 c.args.index c.in_ok-variant_fields.field-0.now c.in_ok-variant_fields.ensures.fields))
 
 pub returns-clause-in_table : goal.returns-clause-in_table
 returns-clause-in_table c =

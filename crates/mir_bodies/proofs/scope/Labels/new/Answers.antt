@@ -13,8 +13,8 @@ labels-preserved c =
     let first : left ≡ item ∷ later_of left = first_left left item c.in-len1-up.len_at_least c.block-item.is in
     let set = c.labels.numbers in
     λ b. label_added (contains nat_eq set b) _ item (later_of left) b _
-        (ap (λ l. contains nat_eq set b || is_among (map label_of l) b) (sym first) ∙ c.labels.invariant b)
-        (c.in_ok-insert.ensures.updates.0 b)
+    (ap (λ l. contains nat_eq set b || is_among (map label_of l) b) (sym first) ∙ c.labels.invariant b)
+    (c.in_ok-insert.ensures.updates.0 b)
 
 pub returns : goal.returns
 returns c = record { among = λ b. labels_ended _ c.labels.left.now b _ c.in_default.len_below (c.labels.invariant b) }
