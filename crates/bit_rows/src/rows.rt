@@ -75,6 +75,14 @@ impl BitRows {
         (word >> (bit % 64)) & 1 == 1
     }
 
+    /// The bit of a row; false past its end.
+    pub fn has(&self, row: u32, bit: u32) -> bool
+        requires { row < length self.now }
+        ensures { result ≡ flag self.now row bit }
+    {
+        bit < self.bits && self.get(row, bit)
+    }
+
     /// Sets a bit of a row, or clears it.
     pub fn set(&mut self, row: u32, bit: u32, on: bool)
         requires row_in { row < length self.old }

@@ -12,5 +12,5 @@ mod rows;
 mod terminator;
 mod turned;
 
-pub use backward::back;
+pub use backward::{back, read_operand, read_operands, read_rvalue};
 pub use rows::{LiveRows, live};
