@@ -1,0 +1,4 @@
+pub mod Lifts
+pub mod Slots
+pub mod Twins
+pub mod Steps
