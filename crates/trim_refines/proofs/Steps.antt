@@ -22,6 +22,7 @@ use Rattle.mir_renaming.proofs.Memory.{bind_some, some_bind, further_rel}
 use Rattle.mir_renaming.proofs.Statements.{ValuesRel, Linked, Got, got_at, DestRel, number_rel, read_number_rel, scalar_ty_rel}
 use Rattle.mir_renaming.proofs.Ghosts.{addr_mono, value_mono, ren_is, extend, extend_sub, extend_new, extend_old, open_linked, close_linked, plain_same}
 use Rattle.mir_relate.proofs.Aligned.{Flat, new_control}
+use Rattle.mir_live.proofs.Paths.{drop_some, drop_none, get_drop}
 use Rattle.trim_refines.specs.Renumbered.{Numbering, PlaceSame, OperandSame, OperandsSame, StmtSame, TermSame, Gone, StmtsSame}
 use Rattle.trim_refines.proofs.Lifts.{operand_lift}
 use Rattle.trim_refines.proofs.Slots.{NonEmpty, slots_of, same_length}
@@ -420,3 +421,224 @@ module _ (C1 : Code) (bodies2 : List TypedBody) (Bor Back : ℕ → ℕ → Opti
   return_rel F s2 s1 m2 m1 (Some d2) None (c ∷ cs) (d ∷ ds) v w x b k hd hs hv e fl = absurd hd
   return_rel F s2 s1 m2 m1 d2 d1 [] (d ∷ ds) v w x b k hd hs hv e fl = absurd hs
   return_rel F s2 s1 m2 m1 d2 d1 (c ∷ cs) [] v w x b k hd hs hv e fl = absurd hs
+
+  -- ---- a drop that goes on
+
+  module _ (F : Ghosts) (n : ℕ) (s2 s1 : State) (b : Base F s2 s1) (cs : FramesRel F s2.callers s1.callers) (k : MM F s2.memory s1.memory) (top : FrameRel F n s2.top s1.top) where
+    visit_rel : (d e : Dropping) (i j : Visit) (is js : List Visit) (v w : Value) (g : Option ℕ) (x : Next) → DropRel F d e → VisitRel F i j → VisitsRel F is js → TT F v w → destructor_of D i.ty ≡ g → visit C1 s1 d i is v g ≡ Some x → Follows (visit C2 s2 e j js w g) x
+    unfolding visit
+    visit_rel d e i j is js v w None x r h vs t eg q = work_on_rel F n s2 s1 s2.top s1.top d e (visits_of D i.addr i.ty v ++ is) (visits_of D j.addr j.ty w ++ js) x b cs k top r (more_parts F i j v w is js h t vs) q
+    visit_rel d e i j is js v w (Some g) x r h vs t eg q =
+        let dr : DropRel F (record d { items = i ∷ is }) (record e { items = j ∷ js }) = record { place = r.place; target = r.target; items = (h, vs) } in
+        enter_rel F n s2 s1 s2.memory s1.memory (record s2.top { dropping = Some (record e { items = j ∷ js }) }) (record s1.top { dropping = Some (record d { items = i ∷ is }) }) g (pointer i.addr ∷ []) (pointer j.addr ∷ []) None None x b cs k (dropping_rel F n s2.top s1.top (record d { items = i ∷ is }) (record e { items = j ∷ js }) dr top)
+        ((h.addr, tt), (addr_back D Bor Back to_back to_bor F i.addr j.addr h.addr, tt)) tt (λ b1 eb. destroys i.ty g b1 eg eb) q
+
+    unless_rel : (d e : Dropping) (i j : Visit) (is js : List Visit) (v w : Value) (c : Bool) (x : Next) → DropRel F d e → VisitRel F i j → VisitsRel F is js → TT F v w → visit_unless C1 s1 d i is v c ≡ Some x → Follows (visit_unless C2 s2 e j js w c) x
+    unfolding visit_unless
+    unless_rel d e i j is js v w true x r h vs t q = work_on_rel F n s2 s1 s2.top s1.top d e is js x b cs k top r vs q
+    unless_rel d e i j is js v w false x r h vs t q = follows_by _ _ x (ap (λ u. visit C2 s2 e j js w (destructor_of D u)) (sym h.ty)) (visit_rel d e i j is js v w (destructor_of D i.ty) x r h vs t refl q)
+
+    if_rel : (d e : Dropping) (i j : Visit) (is js : List Visit) (c : Bool) (x : Next) → DropRel F d e → VisitRel F i j → VisitsRel F is js → visit_if C1 s1 d i is c ≡ Some x → Follows (visit_if C2 s2 e j js c) x
+    unfolding visit_if
+    if_rel d e i j is js false x r h vs q = work_on_rel F n s2 s1 s2.top s1.top d e is js x b cs k top r vs q
+    if_rel d e i j is js true x r h vs q =
+        let (v, e1, k1) = bind_some q in
+        let (w, g1, t) = value_twin D Bor Back to_back to_bor F s2.memory s1.memory i.addr j.addr v k h.addr e1 in
+        follows_by _ _ x (some_bind _ g1 (ap (λ c. visit_unless C2 s2 e j js w c) (sym (hole_twin D Bor Back to_back to_bor F v w t)))) (unless_rel d e i j is js v w (is_hole v) x r h vs t k1)
+
+    work_rel : (d e : Dropping) (is js : List Visit) (x : Next) → DropRel F d e → VisitsRel F is js → work_off C1 s1 d is ≡ Some x → Follows (work_off C2 s2 e js) x
+    unfolding work_off
+    work_rel d e [] js x r vs q = absurd (grind arith)
+    work_rel d e (i ∷ is) (j ∷ js) x r vs q = follows_by _ _ x (ap (λ u. visit_if C2 s2 e j js (needs_drop D u)) (sym vs.0.ty)) (if_rel d e i j is js (needs_drop D i.ty) x r vs.0 vs.1 q)
+    work_rel d e (i ∷ is) [] x r vs q = absurd vs
+
+    -- ---- the running function
+
+    module _ (b1 b2 : TypedBody) (e1 : slice_get C1.bodies s1.top.function ≡ Some b1) (e2 : slice_get bodies2 s1.top.function ≡ Some b2) (same : BodySame (Bor s1.top.function) b2 b1) where
+      abbrev RR : Numbering
+      RR = R s1.top.function
+
+      abbrev HA : Here
+      HA = record { shapes = D; locals = b1.locals; frame = s1.top.frame }
+
+      abbrev HB : Here
+      HB = record { shapes = D; locals = b2.locals; frame = s1.top.frame }
+
+      lifts : (x y : ℕ) → RR x y → (JJ F s1.top.frame x ≡ Some (s1.top.frame, y)) × (slice_get b1.locals x ≡ slice_get b2.locals y)
+      lifts x y r = (ren_is Bor (once D Bor Back to_back to_bor) F s1.top.frame x s1.top.function y top.ghost r, same.types x y r)
+
+      integers_rel : (os ps : List Operand) (m2 m1 : Memory) (r : List ℤ × Memory) → OperandsSame RR os ps → MM F m2 m1 → integers HA m1 os ≡ Some r → (r2 : List ℤ × Memory) × (integers HB m2 ps ≡ Some r2) × (r.0 ≡ r2.0)
+      unfolding integers
+      integers_rel [] [] m2 m1 r h l q = (([], m2), refl, ap (λ (r : List ℤ × Memory). r.0) (sym (one q)))
+      integers_rel (o ∷ os) (p ∷ ps) m2 m1 r h l q =
+          let (t, q1, k1) = bind_some q in
+          let (u, q2, k2) = bind_some k1 in
+          let (us, q3, k3) = bind_some k2 in
+          let (w, g2, n2, l2) = read_number_twin D Bor Back to_back to_bor F b1.locals b2.locals s1.top.frame RR lifts m2 m1 o p u h.0 l q2 in
+          let (ws, g3, n3) = integers_rel os ps w.1 u.1 us h.1 l2 q3 in
+          ((integer_of t w.0 ∷ ws.0, ws.1), some_bind _ (sym (scalar_ty_rel D b1.locals b2.locals s1.top.frame s1.top.frame (JJ F) (JJ F) (λ f x r e. e) o p (operand_lift D b1.locals b2.locals s1.top.frame (JJ F) RR lifts o p h.0)) ∙ q1) (some_bind _ g2 (some_bind _ g3 refl)), ap (λ (r : List ℤ × Memory). r.0) (sym (one k3)) ∙ ap₂ (λ n ns. integer_of t n ∷ ns) n2 n3)
+      integers_rel [] (p ∷ ps) m2 m1 r h l q = absurd h
+      integers_rel (o ∷ os) [] m2 m1 r h l q = absurd h
+
+      block_rel : (m2 m1 : Memory) (t u : ℕ) (x : Next) → t ≡ u → MM F m2 m1 → go_on s1 m1 (to_block t s1.top) ≡ Some x → Follows (go_on s2 m2 (to_block u s2.top)) x
+      block_rel m2 m1 t u x z l q =
+          let (m, h) = to_block_rel F n s2.top s1.top t u z top in
+          follows_at _ x _ q (go_rel F m s2 s1 m2 m1 (to_block u s2.top) (to_block t s1.top) b cs l h)
+
+      check_rel : (m2 m1 : Memory) (c : Bool) (text : List ℕ) (os ps : List Operand) (t u : ℕ) (x : Next) → MM F m2 m1 → OperandsSame RR os ps → t ≡ u → check HA s1 m1 c text os t ≡ Some x → Follows (check HB s2 m2 c text ps u) x
+      unfolding check
+      check_rel m2 m1 true text os ps t u x l ho z q = block_rel m2 m1 t u x z l q
+      check_rel m2 m1 false text os ps t u x l ho z q =
+          let (r, q1, k1) = bind_some q in
+          let (r2, g1, h1) = integers_rel os ps m2 m1 r ho l q1 in
+          follows_by _ _ x (some_bind _ g1 refl) (follows_at _ x (stop (aborted text r.0)) k1 (ap (λ vs. Some (stop (aborted text vs))) (sym h1)))
+
+      begun_rel : (p q : Place) (t u : ℕ) (o1 o2 : Option Dropping) (d : Dropping) → PlaceSame RR p q → t ≡ u → DropsRel F o1 o2 → begun HA s1 p t o1 ≡ Some d → (e : Dropping) × (begun HB s2 q u o2 ≡ Some e) × DropRel F d e
+      unfolding begun
+      begun_rel p q t u (Some d') (Some e') d h z r g = (e', refl, subst (λ d. DropRel F d e') (one g) r)
+      begun_rel p q t u None None d h z r g =
+          let (a, q1, k1) = bind_some g in
+          let (ty, q2, k2) = bind_some k1 in
+          let (c, g1, ac) = resolve_twin D Bor Back to_back to_bor F b1.locals b2.locals s1.top.frame RR lifts s2.memory s1.memory p q a h k q1 in
+          let vr : VisitRel F (record { addr = a; ty = ty }) (record { addr = c; ty = ty }) = record { addr = ac; ty = refl } in
+          (record { place = record { addr = c; ty = ty }; target = u; items = record { addr = c; ty = ty } ∷ [] }, some_bind _ g1 (some_bind _ (sym (type_twin D Bor Back to_back to_bor F b1.locals b2.locals s1.top.frame RR lifts p q h) ∙ q2) refl), subst (λ d. DropRel F d (record { place = record { addr = c; ty = ty }; target = u; items = record { addr = c; ty = ty } ∷ [] })) (one k2) (record { place = vr; target = z; items = (vr, tt) }))
+      begun_rel p q t u None (Some e') d h z r g = absurd r
+      begun_rel p q t u (Some d') None d h z r g = absurd r
+
+      few_of : (p : Place) (g : Callee) (os : List Operand) (t : ℕ) (vs : List Value) → FewArgs C1 (Call p g os t) → length vs ≡ length os → Few g vs
+      few_of p (callee.Local g) os t vs h l = λ b eb. (let f = h b eb in omega (arith, f, l))
+      few_of p (callee.Outside o) os t vs h l = tt
+
+      finish_rel : (t u : Term) (x : Next) → TermSame RR t u → FewArgs C1 t → finish C1 HA s1 t ≡ Some x → Flat x → Follows (finish C2 HB s2 u) x
+      unfolding finish local_addr
+      finish_rel (Goto t) (Goto u) x h few q fl = block_rel s2.memory s1.memory t u x h k q
+      finish_rel (Switch o arms t) (Switch p arms2 u) x (ho, ha, hz) few q fl =
+          let (r, q1, k1) = bind_some q in
+          let (r2, g1, num, l) = read_number_twin D Bor Back to_back to_bor F b1.locals b2.locals s1.top.frame RR lifts s2.memory s1.memory o p r ho k q1 in
+          let z : take_arm r.0 arms t ≡ take_arm r2.0 arms2 u = ap₂ (λ n as'. take_arm n as' t) num ha ∙ ap (take_arm r2.0 arms2) hz in
+          follows_by _ _ x (some_bind _ g1 refl) (block_rel r2.1 r.1 (take_arm r.0 arms t) (take_arm r2.0 arms2 u) x z l k1)
+      finish_rel Return Return x h few q fl =
+          let (v, q1, k1) = bind_some q in
+          let root : JJ F s1.top.frame 0 ≡ Some (s1.top.frame, 0) = (lifts 0 0 (same.fixed 0 (omega arith))).0 in
+          let (w, g1, t) = result_twin D Bor Back to_back to_bor F b1.locals b2.locals s1.top.frame RR lifts s2.memory s1.memory (record { frame = s1.top.frame; local = 0; path = [] }) (record { frame = s1.top.frame; local = 0; path = [] }) v (record { root = root; path = refl }) k q1 in
+          let l : MM F (close_frame s2.memory s1.top.frame) (close_frame s1.memory s1.top.frame) = record { to = close_linked Bor (once D Bor Back to_back to_bor) F s2.memory s1.memory s1.top.frame k.to; from = close_linked Back (once2 D Bor Back to_back to_bor) F s1.memory s2.memory s1.top.frame k.from } in
+          follows_by _ _ x (some_bind _ g1 refl) (return_rel F s2 s1 _ _ s2.top.dest s1.top.dest s2.callers s1.callers v w x b l top.dest cs t k1 fl)
+      finish_rel Unreachable Unreachable x h few q fl = absurd (grind arith)
+      finish_rel (Drop p t) (Drop p2 u) x (hp, hz) few q fl =
+          let (d, q1, k1) = bind_some q in
+          let (e, g1, r) = begun_rel p p2 t u s1.top.dropping s2.top.dropping d hp hz top.drops q1 in
+          follows_by _ _ x (some_bind _ g1 refl) (work_rel d e d.items e.items x r r.items k1)
+      finish_rel (Call p g os t) (Call p2 g2 ps u) x (hp, hg, ho, hz) few q fl =
+          let (d, q1, k1) = bind_some q in
+          let (r, q2, k2) = bind_some k1 in
+          let (d2, g1, hd) = dest_twin D Bor Back to_back to_bor F b1.locals b2.locals s1.top.frame RR lifts s2.memory s1.memory p p2 d hp k q1 in
+          let (r2, gr, hv, l) = read_all_twin D Bor Back to_back to_bor F b1.locals b2.locals s1.top.frame RR lifts os ps s2.memory s1.memory r ho k q2 in
+          let (m, h) = to_block_rel F n s2.top s1.top t u hz top in
+          follows_by _ _ x (some_bind _ g1 (some_bind _ gr (ap (λ g. call C2 s2 r2.1 (to_block u s2.top) d2 g r2.0) (sym hg)))) (call_rel F m s2 s1 r2.1 r.1 (to_block u s2.top) (to_block t s1.top) d2 d g r.0 r2.0 x b cs l h hv hd (few_of p g os t r.0 few (read_long HA os s1.memory r q2)) k2)
+      finish_rel (Assert o c text os t) (Assert p c2 text2 ps u) x (hp, hc, hx, ho, hz) few q fl =
+          let (r, q1, k1) = bind_some q in
+          let (r2, g1, num, l) = read_number_twin D Bor Back to_back to_bor F b1.locals b2.locals s1.top.frame RR lifts s2.memory s1.memory o p r hp k q1 in
+          follows_by _ _ x (some_bind _ g1 (ap₂ (λ c text. check HB s2 r2.1 (nat_eq r2.0 (flag c)) text ps u) (sym hc) (sym hx) ∙ ap (λ n. check HB s2 r2.1 (nat_eq n (flag c)) text ps u) (sym num))) (check_rel r2.1 r.1 (nat_eq r.0 (flag c)) text os ps t u x l ho hz k1)
+      finish_rel t u x h few q fl = absurd h
+
+      -- ---- statements
+
+      module _ (k1 k2 : TypedBlock) (i1 : slice_get b1.blocks s1.top.block ≡ Some k1) (i2 : slice_get b2.blocks s1.top.block ≡ Some k2) where
+        in_block : (m : ℕ) (c2 c1 : Control) → c1.function ≡ s1.top.function → c1.block ≡ s1.top.block → StmtsSame RR (drop c1.at k1.stmts) (drop c2.at k2.stmts) → m ≡ length (drop c1.at k1.stmts) → InBlock m c2 c1
+        in_block m c2 c1 f i ss len b1' b2' k1' k2' e1' e2' i1' i2' =
+            let sb1 : b1 ≡ b1' = one (sym e1 ∙ ap (slice_get C1.bodies) (sym f) ∙ e1') in
+            let sb2 : b2 ≡ b2' = one (sym e2 ∙ ap (slice_get bodies2) (sym f) ∙ e2') in
+            let sk1 : k1 ≡ k1' = one (sym i1 ∙ ap₂ (λ (b : TypedBody) i. slice_get b.blocks i) sb1 (sym i) ∙ i1') in
+            let sk2 : k2 ≡ k2' = one (sym i2 ∙ ap₂ (λ (b : TypedBody) i. slice_get b.blocks i) sb2 (sym i) ∙ i2') in (
+              subst (λ g. StmtsSame (R g) (drop c1.at k1'.stmts) (drop c2.at k2'.stmts)) (sym f) (subst (λ (k : TypedBlock). StmtsSame RR (drop c1.at k.stmts) (drop c2.at k2'.stmts)) sk1 (subst (λ (k : TypedBlock). StmtsSame RR (drop c1.at k1.stmts) (drop c2.at k.stmts)) sk2 ss)),
+              len ∙ ap (λ (k : TypedBlock). length (drop c1.at k.stmts)) sk1,
+            )
+
+        moved : (m : ℕ) (c2 c1 : Control) → c2.frame ≡ s2.top.frame → c1.frame ≡ s1.top.frame → c2.function ≡ s2.top.function → c1.function ≡ s1.top.function → c2.block ≡ s2.top.block → c1.block ≡ s1.top.block → c2.dest ≡ s2.top.dest → c1.dest ≡ s1.top.dest → c2.dropping ≡ s2.top.dropping → c1.dropping ≡ s1.top.dropping → InBlock m c2 c1 → FrameRel F m c2 c1
+        moved m c2 c1 a2 a1 f2 f1 l2 l1 d2 d1 g2 g1 h = record {
+          frame = a2 ∙ top.frame ∙ sym a1;
+          function = f2 ∙ top.function ∙ sym f1;
+          block = l2 ∙ top.block ∙ sym l1;
+          ghost = ap F a1 ∙ top.ghost ∙ ap Some (sym f1);
+          dest = subst (λ o. DestsRel F c1.dest o) (sym d2) (subst (λ o. DestsRel F o s2.top.dest) (sym d1) top.dest);
+          here = h;
+          drops = subst (λ o. DropsRel F c1.dropping o) (sym g2) (subst (λ o. DropsRel F o s2.top.dropping) (sym g1) top.drops);
+        }
+
+        -- the target follows, or the source alone makes a local blank
+        abbrev Done : Next → Type 0
+        Done (on s) = Follows (perform C2 HB s2 k2.term (slice_get k2.stmts s2.top.at)) (on s) ⊎ ((m : ℕ) × Rel m s2 s × (m < n))
+        Done x = Follows (perform C2 HB s2 k2.term (slice_get k2.stmts s2.top.at)) x
+
+        followed : (x : Next) → Follows (perform C2 HB s2 k2.term (slice_get k2.stmts s2.top.at)) x → Done x
+        followed (on s) h = inl h
+        followed (stop o) h = h
+        followed (fail t) h = h
+
+        out : (x : ℕ) → ((y : ℕ) → RR x y → ⊥) → Bor s1.top.function x ≡ None
+        out x none = go (Bor s1.top.function x) refl
+          where
+            go : (o : Option ℕ) → Bor s1.top.function x ≡ o → Bor s1.top.function x ≡ None
+            go None q = q
+            go (Some y) q = absurd (none y q)
+
+        tails : (a c : TypedStmt) (as' cs' : List TypedStmt) → a ∷ as' ≡ c ∷ cs' → as' ≡ cs'
+        tails a c as' cs' e = grind arith
+
+        done_at : (x : Next) (s1' : State) → on s1' ≡ x → Follows (perform C2 HB s2 k2.term (slice_get k2.stmts s2.top.at)) (on s1') ⊎ ((m : ℕ) × Rel m s2 s1' × (m < n)) → Done x
+        done_at x s1' q h = subst Done q h
+
+        stmt_done : (st : TypedStmt) (x : Next) → slice_get k1.stmts s1.top.at ≡ Some st → n ≡ length (drop s1.top.at k1.stmts) → StmtsSame RR (st ∷ drop (suc s1.top.at) k1.stmts) (drop s2.top.at k2.stmts) → perform C1 HA s1 k1.term (Some st) ≡ Some x → Done x
+        unfolding perform
+        stmt_done st x at len (inl (gone, ss)) q =
+            let (m1', q1, q2) = bind_some q in
+            let m = length (drop (suc s1.top.at) k1.stmts) in
+            let less : m < n = (let z : n ≡ suc m = len ∙ ap length (drop_some k1.stmts s1.top.at st at) in omega arith) in
+            let l = gone_alone D Bor Back to_back to_bor F b1.locals b2.locals s1.top.frame RR lifts s2.memory s1.memory m1' st s1.top.function top.ghost out gone k q1 in
+            done_at x (record s1 { memory = m1'; top = next_stmt s1.top }) (one q2)
+            (inr (m, record { ghost = F; base = record { fresh = b.fresh; next = b.next; answers = b.answers; trace = b.trace }; mems = l; top = moved m s2.top (next_stmt s1.top) refl refl refl refl refl refl refl refl refl refl (in_block m s2.top (next_stmt s1.top) refl refl ss refl); callers = cs }, less))
+        stmt_done st x at len (inr (t, rest2, z, st_same, ss)) q =
+            let (m1', q1, q2) = bind_some q in
+            let m = length (drop (suc s1.top.at) k1.stmts) in
+            let at2 : slice_get k2.stmts s2.top.at ≡ Some t = get_drop k2.stmts s2.top.at ∙ ap (λ ss. slice_get ss 0) z in
+            let next : rest2 ≡ drop (suc s2.top.at) k2.stmts = tails t t rest2 (drop (suc s2.top.at) k2.stmts) (sym z ∙ drop_some k2.stmts s2.top.at t at2) in
+            let (m2', g1, l) = exec_twin D Bor Back to_back to_bor F b1.locals b2.locals s1.top.frame RR lifts s2.memory s1.memory m1' st t st_same k q1 in
+            let h = moved m (next_stmt s2.top) (next_stmt s1.top) refl refl refl refl refl refl refl refl refl refl (in_block m (next_stmt s2.top) (next_stmt s1.top) refl refl (subst (λ ts. StmtsSame RR (drop (suc s1.top.at) k1.stmts) ts) next ss) refl) in
+            done_at x (record s1 { memory = m1'; top = next_stmt s1.top }) (one q2)
+            (inl (follows_by _ _ (on (record s1 { memory = m1'; top = next_stmt s1.top })) (ap (perform C2 HB s2 k2.term) at2 ∙ some_bind _ g1 refl) (go_rel F m s2 s1 m2' m1' (next_stmt s2.top) (next_stmt s1.top) b cs l h)))
+
+        end_done : (x : Next) → slice_get k1.stmts s1.top.at ≡ None → StmtsSame RR (drop s1.top.at k1.stmts) (drop s2.top.at k2.stmts) → TermSame RR k1.term k2.term → FewArgs C1 k1.term → perform C1 HA s1 k1.term None ≡ Some x → Flat x → Done x
+        unfolding perform
+        end_done x none ss ts few q fl =
+            let nil2 : drop s2.top.at k2.stmts ≡ [] = subst (λ xs. StmtsSame RR xs (drop s2.top.at k2.stmts)) (drop_none k1.stmts s1.top.at none) ss in
+            let none2 : slice_get k2.stmts s2.top.at ≡ None = get_drop k2.stmts s2.top.at ∙ ap (λ ss. slice_get ss 0) nil2 in
+            followed x (follows_by _ _ x (ap (perform C2 HB s2 k2.term) none2) (finish_rel k1.term k2.term x ts few q fl))
+
+  -- ---- a step
+
+  abbrev pub Answer : ℕ → State → Next → Type 0
+  Answer n s2 (on s) = Follows (step C2 s2) (on s) ⊎ ((m : ℕ) × Rel m s2 s × (m < n))
+  Answer n s2 x = Follows (step C2 s2) x
+
+  pub step_rel : (n : ℕ) (s2 s1 : State) (x : Next) → Rel n s2 s1 → step C1 s1 ≡ Some x → Flat x → Answer n s2 x
+  unfolding step
+  step_rel n s2 s1 x r e fl =
+      let (b1, e1, q1) = bind_some e in
+      let (k1, i1, q2) = bind_some q1 in
+      let (b2, e2, same) = bodies s1.top.function b1 e1 in
+      let (k2, i2, _, ts) = same.blocks s1.top.block k1 i1 in
+      let (ss, len) = r.top.here b1 b2 k1 k2 e1 e2 i1 i2 in
+      at_place b1 k1 b2 k2 same e1 e2 i1 i2 ts ss len (slice_get k1.stmts s1.top.at) refl q2
+    where
+      target : (b2 : TypedBody) (k2 : TypedBlock) → slice_get bodies2 s1.top.function ≡ Some b2 → slice_get b2.blocks s1.top.block ≡ Some k2 → step C2 s2 ≡ perform C2 (record { shapes = D; locals = b2.locals; frame = s1.top.frame }) s2 k2.term (slice_get k2.stmts s2.top.at)
+      target b2 k2 e2 i2 = some_bind _ (ap (slice_get bodies2) r.top.function ∙ e2) (some_bind _ (ap (slice_get b2.blocks) r.top.block ∙ i2) (ap (λ f. perform C2 (record { shapes = D; locals = b2.locals; frame = f }) s2 k2.term (slice_get k2.stmts s2.top.at)) r.top.frame))
+
+      answer : (b1 b2 : TypedBody) (e1 : slice_get C1.bodies s1.top.function ≡ Some b1) (e2 : slice_get bodies2 s1.top.function ≡ Some b2) (same : BodySame (Bor s1.top.function) b2 b1) (k1 k2 : TypedBlock) (i1 : slice_get b1.blocks s1.top.block ≡ Some k1) (i2 : slice_get b2.blocks s1.top.block ≡ Some k2) (x : Next) → Done r.ghost n s2 s1 r.base r.callers r.mems r.top b1 b2 e1 e2 same k1 k2 i1 i2 x → Answer n s2 x
+      answer b1 b2 e1 e2 same k1 k2 i1 i2 (on s) (inl h) = inl (follows_by _ _ (on s) (target b2 k2 e2 i2) h)
+      answer b1 b2 e1 e2 same k1 k2 i1 i2 (on s) (inr h) = inr h
+      answer b1 b2 e1 e2 same k1 k2 i1 i2 (stop o) h = follows_by _ _ (stop o) (target b2 k2 e2 i2) h
+      answer b1 b2 e1 e2 same k1 k2 i1 i2 (fail t) h = tt
+
+      at_place : (b1 : TypedBody) (k1 : TypedBlock) (b2 : TypedBody) (k2 : TypedBlock) (same : BodySame (Bor s1.top.function) b2 b1) (e1 : slice_get C1.bodies s1.top.function ≡ Some b1) (e2 : slice_get bodies2 s1.top.function ≡ Some b2) (i1 : slice_get b1.blocks s1.top.block ≡ Some k1) (i2 : slice_get b2.blocks s1.top.block ≡ Some k2) → TermSame (R s1.top.function) k1.term k2.term → StmtsSame (R s1.top.function) (drop s1.top.at k1.stmts) (drop s2.top.at k2.stmts) → n ≡ length (drop s1.top.at k1.stmts) → (o : Option TypedStmt) → slice_get k1.stmts s1.top.at ≡ o → perform C1 (record { shapes = D; locals = b1.locals; frame = s1.top.frame }) s1 k1.term o ≡ Some x → Answer n s2 x
+      at_place b1 k1 b2 k2 same e1 e2 i1 i2 ts ss len None at q = answer b1 b2 e1 e2 same k1 k2 i1 i2 x (end_done r.ghost n s2 s1 r.base r.callers r.mems r.top b1 b2 e1 e2 same k1 k2 i1 i2 x at ss ts (calls s1.top.function b1 s1.top.block k1 e1 i1) q fl)
+      at_place b1 k1 b2 k2 same e1 e2 i1 i2 ts ss len (Some st) at q = answer b1 b2 e1 e2 same k1 k2 i1 i2 x (stmt_done r.ghost n s2 s1 r.base r.callers r.mems r.top b1 b2 e1 e2 same k1 k2 i1 i2 st x at len (subst (λ xs. StmtsSame (R s1.top.function) xs (drop s2.top.at k2.stmts)) (drop_some k1.stmts s1.top.at st at) ss) q)
