@@ -56,31 +56,31 @@ module _ (C1 : Code) (bodies2 : List TypedBody) (Bor Back : ℕ → ℕ → Opti
   abbrev D : List Shape
   D = C1.shapes
 
-  abbrev Ghosts : Type 0
+  abbrev pub Ghosts : Type 0
   Ghosts = ℕ → Option ℕ
 
-  abbrev JJ : Ghosts → Renaming
+  abbrev pub JJ : Ghosts → Renaming
   JJ F = J D Bor Back to_back to_bor F
 
-  abbrev KK : Ghosts → Renaming
+  abbrev pub KK : Ghosts → Renaming
   KK F = K D Bor Back to_back to_bor F
 
-  abbrev MM : Ghosts → Memory → Memory → Type 0
+  abbrev pub MM : Ghosts → Memory → Memory → Type 0
   MM F m2 m1 = Mems D Bor Back to_back to_bor F m2 m1
 
-  abbrev TT : Ghosts → Value → Value → Type 0
+  abbrev pub TT : Ghosts → Value → Value → Type 0
   TT F v w = Twin D Bor Back to_back to_bor F v w
 
-  abbrev TTs : Ghosts → List Value → List Value → Type 0
+  abbrev pub TTs : Ghosts → List Value → List Value → Type 0
   TTs F vs ws = Twins D Bor Back to_back to_bor F vs ws
 
-  abbrev R : ℕ → Numbering
+  abbrev pub R : ℕ → Numbering
   R g x y = Bor g x ≡ Some y
 
   -- ---- controls
 
   -- as far in the block, but for the statements that go; the number is of those that are left in the source's block
-  abbrev InBlock : ℕ → Control → Control → Type 0
+  abbrev pub InBlock : ℕ → Control → Control → Type 0
   InBlock n c2 c1 = (b1 b2 : TypedBody) (k1 k2 : TypedBlock) → slice_get C1.bodies c1.function ≡ Some b1 → slice_get bodies2 c1.function ≡ Some b2 → slice_get b1.blocks c1.block ≡ Some k1 → slice_get b2.blocks c1.block ≡ Some k2 → StmtsSame (R c1.function) (drop c1.at k1.stmts) (drop c2.at k2.stmts) × (n ≡ length (drop c1.at k1.stmts))
 
   left_there : Option TypedBlock → ℕ
@@ -91,7 +91,7 @@ module _ (C1 : Code) (bodies2 : List TypedBody) (Bor Back : ℕ → ℕ → Opti
   left_from None i = 0
   left_from (Some b) i = left_there (slice_get b.blocks i)
 
-  begins : (c2 c1 : Control) → c2.at ≡ 0 → c1.at ≡ 0 → (n : ℕ) × InBlock n c2 c1
+  pub begins : (c2 c1 : Control) → c2.at ≡ 0 → c1.at ≡ 0 → (n : ℕ) × InBlock n c2 c1
   unfolding left_there left_from
   begins c2 c1 a2 a1 = (
     left_from (slice_get C1.bodies c1.function) c1.block,
@@ -109,7 +109,7 @@ module _ (C1 : Code) (bodies2 : List TypedBody) (Bor Back : ℕ → ℕ → Opti
     pub addr : AddrRel (JJ F) i.addr j.addr
     pub ty : i.ty ≡ j.ty
 
-  abbrev VisitsRel : Ghosts → List Visit → List Visit → Type 0
+  abbrev pub VisitsRel : Ghosts → List Visit → List Visit → Type 0
   VisitsRel F [] [] = Unit {0}
   VisitsRel F (i ∷ is) (j ∷ js) = VisitRel F i j × VisitsRel F is js
   VisitsRel F _ _ = ⊥
@@ -119,12 +119,12 @@ module _ (C1 : Code) (bodies2 : List TypedBody) (Bor Back : ℕ → ℕ → Opti
     pub target : d.target ≡ e.target
     pub items : VisitsRel F d.items e.items
 
-  abbrev DropsRel : Ghosts → Option Dropping → Option Dropping → Type 0
+  abbrev pub DropsRel : Ghosts → Option Dropping → Option Dropping → Type 0
   DropsRel F None None = Unit {0}
   DropsRel F (Some d) (Some e) = DropRel F d e
   DropsRel F _ _ = ⊥
 
-  abbrev DestsRel : Ghosts → Option Dest → Option Dest → Type 0
+  abbrev pub DestsRel : Ghosts → Option Dest → Option Dest → Type 0
   DestsRel F None None = Unit {0}
   DestsRel F (Some d) (Some c) = DestRel (JJ F) d c
   DestsRel F _ _ = ⊥
@@ -138,7 +138,7 @@ module _ (C1 : Code) (bodies2 : List TypedBody) (Bor Back : ℕ → ℕ → Opti
     pub here : InBlock n c2 c1
     pub drops : DropsRel F c1.dropping c2.dropping
 
-  abbrev FramesRel : Ghosts → List Control → List Control → Type 0
+  abbrev pub FramesRel : Ghosts → List Control → List Control → Type 0
   FramesRel F [] [] = Unit {0}
   FramesRel F (c ∷ cs) (d ∷ ds) = ((n : ℕ) × FrameRel F n c d) × FramesRel F cs ds
   FramesRel F _ _ = ⊥
@@ -181,7 +181,7 @@ module _ (C1 : Code) (bodies2 : List TypedBody) (Bor Back : ℕ → ℕ → Opti
   -- ---- a new frame
 
   module _ (F : Ghosts) (s2 s1 : State) (b : Base F s2 s1) (g : ℕ) where
-    abbrev F' : Ghosts
+    abbrev pub F' : Ghosts
     F' = extend Bor (once D Bor Back to_back to_bor) F s1.next g
 
     none_next : F s1.next ≡ None
@@ -232,7 +232,7 @@ module _ (C1 : Code) (bodies2 : List TypedBody) (Bor Back : ℕ → ℕ → Opti
     values_up j k s [] (w ∷ ws) h = absurd h
     values_up j k s (v ∷ vs) [] h = absurd h
 
-    opened : (m2 m1 : Memory) (vs ws : List Value) (b2 b1 : TypedBody) → BodySame (Bor g) b2 b1 → length vs ≤ b1.args → MM F m2 m1 → TTs F vs ws → MM F' (open_frame m2 s1.next (new_slots D b2.locals ws)) (open_frame m1 s1.next (new_slots D b1.locals vs))
+    pub opened : (m2 m1 : Memory) (vs ws : List Value) (b2 b1 : TypedBody) → BodySame (Bor g) b2 b1 → length vs ≤ b1.args → MM F m2 m1 → TTs F vs ws → MM F' (open_frame m2 s1.next (new_slots D b2.locals ws)) (open_frame m1 s1.next (new_slots D b1.locals vs))
     opened m2 m1 vs ws b2 b1 same few k h =
         let few2 : length ws ≤ b1.args = (let l = same_length D (JJ F) vs ws h.0 in omega (arith, l, few)) in
         record {
