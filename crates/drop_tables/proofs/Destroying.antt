@@ -11,7 +11,7 @@ use Rattle.mir_syntax.specs.Crate.{TypedDef, TypedFunction, Crate, crate_of, def
 use Rattle.mir_syntax.specs.Shapes.{Shape, drops_locals, is_destructor_of, destructor_from, shapes_from, shapes_of}
 use Rattle.mir_syntax.specs.Drops.{fn_number, own_destructor}
 use Rattle.mir_rules.specs.DefinitionRules.{dropped_by_locals, dropped_by_args, dropped_by}
-use Rattle.drop_tables.specs.Marks.{is_marked, noted, has_one, drop_of}
+use Rattle.drop_tables.specs.Marks.{own_of, is_marked, noted, has_one, drop_of}
 
 abbrev is_of : Option ℕ → ℕ → Bool
 is_of None d = false
@@ -100,10 +100,6 @@ all_found C found count left (long, within, all) many none =
     (λ d below. all d (omega (arith, many, below)) ∙ (ap (λ n. destructor_from d n (drop n C.functions)) none ∙ ap (λ i. destructor_from i 0 C.functions) (let k : d ≡ d + 0 = omega arith in k)))
 
 -- ---- marks of definitions with a destructor
-
-abbrev pub own_of : Option Shape → Bool
-own_of None = false
-own_of (Some s) = is_some s.destructor
 
 pub own_marks : (D : List Shape) (found : List (Option FnId)) → map (option_map fn_number) found ≡ map own_destructor D → (d : ℕ) → is_marked (map has_one found) d ≡ own_of (slice_get D d)
 own_marks [] [] same d = refl

@@ -6,7 +6,7 @@ use Rattle.mir_syntax.specs.Shapes.{Shape, needs_of, needs_def}
 use Rattle.mir_rules.specs.DefinitionRules.{holds_one, holds, breaks_v01}
 use Rattle.mir_rules.proofs.Depth.{any_mono, or_cases, is_deep}
 use Rattle.drop_tables.specs.Marks.{spread}
-use Rattle.drop_tables.proofs.Destroying.{own_of}
+use Rattle.drop_tables.specs.Marks.{own_of}
 
 module _ (D : List Shape) where
   module _ (own start : ℕ → Bool) (own_is : (d : ℕ) → own d ≡ own_of (slice_get D d)) (none : (d : ℕ) → start d ≡ false) where

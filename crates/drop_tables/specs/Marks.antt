@@ -42,3 +42,8 @@ has_one destructor = is_some destructor
 -- the definition that a function is a destructor of
 abbrev pub drop_of : TypedFunction → Option ℕ
 drop_of f = if f.is_drop then dropped_by f else None
+
+-- a definition has a destructor
+abbrev pub own_of : Option Shape → Bool
+own_of None = false
+own_of (Some s) = is_some s.destructor

@@ -1,16 +1,46 @@
-ghost use Rattle.std.specs.Prelude.{◌≡◌, ◌||◌, ℕ, ◌<◌, ◌^◌, false, true, IfOk, map, length, replicate, set, option_map};
-ghost use Rattle.mir_syntax.specs.Tree.{trees_of};
+ghost use Rattle.std.specs.Prelude.{◌≡◌, ◌||◌, ℕ, ◌<◌, ◌^◌, false, true, IfOk, map, length, slice_get, replicate, set, option_map};
+ghost use Rattle.mir_syntax.specs.Tree.{named, trees_of};
 ghost use Rattle.mir_syntax.specs.Ids.{IdsInTable};
 ghost use Rattle.mir_syntax.specs.Crate.{crate_of};
 ghost use Rattle.mir_syntax.specs.Shapes.{shapes_of, needs_drop};
 ghost use Rattle.mir_syntax.specs.Drops.{fn_number, own_destructor};
 ghost use Rattle.mir_rules.specs.DefinitionRules.{breaks_v01};
-ghost use Rattle.drop_tables.specs.Marks.{is_marked};
+ghost use Rattle.drop_tables.specs.Marks.{is_marked, own_of};
 
 use crate::destructors::{destructors, have_destructor, marks_of};
 use crate::marks::{defs_holding, is_marked, spread, types_holding};
-use mir_syntax::{DropFacts, List, OutOfMemory, Program};
+use mir_syntax::{DropFacts, FnId, List, OutOfMemory, Program};
 use std::alloc::Global;
+
+/// What is known of the drops of the definitions, one by one.
+#[derive(Debug, Drop)]
+pub struct DefDrops {
+    /// The function that is the destructor.
+    pub destructors: List<Option<FnId>>,
+    /// Whether there is one.
+    pub has_destructor: List<bool>,
+    /// Whether the definition needs drop.
+    pub needs_drop: List<bool>,
+}
+
+/// The destructor of each definition, and which definitions need drop.
+pub fn def_drops(alloc: Global, program: &Program) -> Result<DefDrops, OutOfMemory>
+    requires ids { IdsInTable program.now }
+    requires few { length program.now.functions < 2 ^ 32 }
+    ensures destructors { IfOk result (λ drops. map (option_map fn_number) drops.destructors ≡ map own_destructor (shapes_of (crate_of program.now))) }
+    ensures has { IfOk result (λ drops. (d : ℕ) → is_marked drops.has_destructor d ≡ own_of (slice_get (shapes_of (crate_of program.now)) d)) }
+    ensures needs { IfOk result (λ drops. (d : ℕ) → is_marked drops.needs_drop d ≡ needs_drop (shapes_of (crate_of program.now)) (named d)) }
+{
+    let destructors = destructors(alloc, program)?;
+    let has_destructor = have_destructor(alloc, destructors.as_slice())?;
+    let none = marks_of(alloc, program.defs.len(), false)?;
+    let needs_drop = spread(alloc, program, has_destructor.as_slice(), none, program.defs.len())?;
+    Ok(DefDrops {
+        destructors,
+        has_destructor,
+        needs_drop,
+    })
+}
 
 /// Which types need drop, and which function is the destructor of each definition: what the program is to keep (`Program::keep_drops`).
 pub fn drop_facts(alloc: Global, program: &Program) -> Result<DropFacts, OutOfMemory>
@@ -19,14 +49,11 @@ pub fn drop_facts(alloc: Global, program: &Program) -> Result<DropFacts, OutOfMe
     ensures needs { IfOk result (λ facts. facts.needs_drop ≡ map (needs_drop (shapes_of (crate_of program.now))) (trees_of program.now.types)) }
     ensures destructors { IfOk result (λ facts. map (option_map fn_number) facts.destructors ≡ map own_destructor (shapes_of (crate_of program.now))) }
 {
-    let destructors = destructors(alloc, program)?;
-    let own = have_destructor(alloc, destructors.as_slice())?;
-    let none = marks_of(alloc, program.defs.len(), false)?;
-    let needs = spread(alloc, program, own.as_slice(), none, program.defs.len())?;
-    let needs_drop = types_holding(alloc, program, needs.as_slice())?;
+    let drops = def_drops(alloc, program)?;
+    let needs_drop = types_holding(alloc, program, drops.needs_drop.as_slice())?;
     Ok(DropFacts {
         needs_drop,
-        destructors,
+        destructors: drops.destructors,
     })
 }
 

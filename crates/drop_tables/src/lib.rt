@@ -17,5 +17,5 @@ pub mod header;
 mod marks;
 
 pub use destructors::drop_of;
-pub use facts::{drop_facts, self_holding};
+pub use facts::{DefDrops, def_drops, drop_facts, self_holding};
 pub use marks::is_marked;
