@@ -6,6 +6,9 @@ use Rattle.mir_syntax.specs.declared.body.Proj.{Proj}
 use Rattle.mir_syntax.specs.declared.types.FnId.{FnId}
 use Rattle.mir_syntax.specs.declared.program.Program.{Program}
 use Rattle.mir_syntax.specs.Crate.{crate_of}
+use Rattle.mir_syntax.specs.declared.body.Place.{Place}
+use Rattle.mir_syntax.specs.Shapes.{◌>>=◌}
+use Rattle.mir_semantics.specs.Memory.{Memory}
 use Rattle.mir_semantics.specs.Step as sem
 use Rattle.mir_meaning.specs.Programs.{type_in}
 use Rattle.mir_meaning.specs.Views.{addr_of, memory_of}
@@ -49,3 +52,10 @@ path_inside ps (Some k) = ps ++ Downcast k ∷ []
 
 abbrev pub inside : Addr → Option ℕ → Addr
 inside a k = record a { path = path_inside a.path k }
+
+-- a drop that begins: a drop that has begun goes on instead
+abbrev pub begun : sem.Here → Memory → Place → ℕ → Option sem.Dropping
+begun h m p b = do
+  a ← sem.resolve h m p
+  t ← sem.type_of h p
+  Some (record { place = record { addr = a; ty = t }; target = b; items = record { addr = a; ty = t } ∷ [] })

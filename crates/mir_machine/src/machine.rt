@@ -44,9 +44,10 @@ impl Machine {
     pub fn enter(&mut self, alloc: Global, program: &Program, function: FnId, args: List<Datum>, dest: Option<Dest>) -> Result<(), Stop>
         requires knows { KnowsDrops program.now }
         requires room { self.old.next < 2 ^ 64 - 1 }
-        ensures { Gives result
+        ensures goes { Gives result
             (sem.enter (code_in program.now) (state_in program.now self.old) (memory_of self.old.memory) (control_in program.now self.old.top) function.0 (map value_of args) (option_map (dest_in program.now) dest))
             (λ _. on (state_in program.now self.new)) }
+        ensures trace { self.new.trace ≡ self.old.trace }
     {
         let Some(callee) = program.functions.get(function.0 as usize) else {
             return Err(Stop::Undefined);

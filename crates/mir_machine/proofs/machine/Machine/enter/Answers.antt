@@ -10,13 +10,13 @@ use Rattle.mir_machine.specs.Seen.{code_in, control_in, dest_in, state_in}
 use Rattle.mir_machine.proofs.Entering.{enter_nowhere, enter_there, body_nowhere, body_there, newest_first}
 use Rattle.mir_machine.proofs.machine.Machine.enter.Goals as goal
 
-pub returns-in_default : goal.returns-in_default
-returns-in_default c =
+pub returns-in_default-clause-goes : goal.returns-in_default-clause-goes
+returns-in_default-clause-goes c =
     enter_nowhere (code_in c.args.program.now) (state_in c.args.program.now c.args.self.now) (memory_of c.args.self.now.memory) (control_in c.args.program.now c.args.self.now.top) c.args.function.0 (map value_of c.args.args) (option_map (dest_in c.args.program.now) c.args.dest)
     (body_nowhere c.args.program.now c.args.function.0 (sym c.in_default.ensures))
 
-pub returns : goal.returns
-returns c =
+pub returns-clause-goes : goal.returns-clause-goes
+returns-clause-goes c =
     enter_there (code_in c.args.program.now) (state_in c.args.program.now c.args.self.now) (memory_of c.args.self.now.memory) (memory_of c.open.new.self) (control_in c.args.program.now c.args.self.now.top) (control_in c.args.program.now c.replace-caller.new.dest) c.args.function.0 (map value_of c.args.args) (map value_of c.in_ok-slots.slots) (option_map (dest_in c.args.program.now) c.args.dest)
     (body_of (trees_of c.args.program.now.types) c.in-Some.callee.now.body) (map (control_in c.args.program.now) (reverse c.push.new.self))
     (body_there c.args.program.now c.args.function.0 c.in-Some.callee.now (sym c.in-Some.ensures))
