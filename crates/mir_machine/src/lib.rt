@@ -1,0 +1,10 @@
+//! The machine that runs crates: control, calls, drops, one step, runs.
+#![tactic(auto)]
+
+mod arms;
+mod control;
+mod dest;
+mod drops;
+mod machine;
+mod slots;
+mod visits;
