@@ -10,13 +10,19 @@
 #![tactic(auto)]
 
 mod clashes;
+mod declarations;
 mod defs;
+mod front;
+mod head;
 mod laws;
 mod outsides;
 mod paths;
 
 pub use clashes::note_clashes;
+pub use declarations::read_locals;
 pub use defs::{ReadDefs, read_defs};
+pub use front::{Front, read_front};
+pub use head::{are_in_order, none_missing, note_places, note_result};
 pub use laws::scopes_name_nothing;
 pub use outsides::{ReadOutsides, read_outsides};
 pub use paths::{FilePaths, read_paths};
