@@ -1,1 +1,7 @@
 pub mod FirstTypes
+pub mod LabelSteps
+pub mod Shaped
+pub mod SameTypes
+pub mod TellsOn
+pub mod OnTypes
+pub mod PlaceSteps

@@ -1,1 +1,4 @@
 pub mod Locals
+pub mod Labels
+pub mod Scope
+pub mod Places

@@ -5,5 +5,16 @@
 #![tactic(auto)]
 
 mod locals;
+mod place;
+mod scope;
 
 pub use locals::Locals;
+pub use place::read_place;
+pub use scope::{Labels, Scope};
+
+/// A part that was read, and whether a field of one of its places is written with another type than the definition's.
+#[derive(Debug, Drop)]
+pub struct Read<T> {
+    pub part: T,
+    pub wrong: bool,
+}
