@@ -1,5 +1,5 @@
 -- What is asked of the head of a function, declaration by declaration and block by block.
-use Rattle.std.proofs.Common.{◌≡◌, ℕ, zero, suc, ◌+◌, ◌<◌, ◌&&◌, nat_eq, nat_lt, not, Bool, true, false, ◌-◌, List, Option, Some, None, option_map, is_some, [], ◌∷◌, map, length, refl, sym, ap, ◌∙◌, arith, add-one, eq-eqb}
+use Rattle.std.proofs.Common.{◌≡◌, ℕ, zero, suc, ◌+◌, ◌<◌, ◌&&◌, nat_eq, nat_lt, not, Bool, true, false, ◌-◌, List, Option, Some, None, option_map, is_some, [], ◌∷◌, map, length, get_or, ◌≤◌, refl, sym, ap, ◌∙◌, arith, add-one, eq-eqb}
 use Rattle.std.proofs.Math.Numerals.{sub-one}
 use Rattle.std.proofs.lemmas.Bool.Decides.{nat_tests}
 use Rattle.mir_syntax.specs.declared.types.TyId.{TyId}
@@ -8,13 +8,14 @@ use Rattle.mir_text.specs.NamedBodies.{Declared, declared_ty}
 use Rattle.mir_text.specs.NameFaults.{in_order, blocks_in_order, below_declared, none_missing_in, Fault}
 use Rattle.mir_tree.specs.declared.body.BlockText.{BlockText}
 use Rattle.mir_resolve.specs.Faults.{noted}
+use Rattle.mir_resolve.proofs.Making.{later_of, first_left}
 use Rattle.mir_file.specs.Declarations.{label_in, result_fault}
 
 pub order_step : (n b : ℕ) (rest : List ℕ) (w : Bool) → b ≡ n → in_order n (b ∷ rest) ≡ w → in_order (n + 1) rest ≡ w
 order_step n b rest w e h =
     ap (λ k. in_order k rest) (add-one n) ∙ sym (ap (λ t. t && in_order (suc n) rest) (eq-eqb b n e)) ∙ h
 
-not-eq : (b n : ℕ) → (b ≡ n → ⊥) → nat_eq b n ≡ false
+pub not-eq : (b n : ℕ) → (b ≡ n → ⊥) → nat_eq b n ≡ false
 not-eq b n ne = grind (arith, nat_tests)
 
 pub order_broken : (n b : ℕ) (rest : List ℕ) (w : Bool) → (b ≡ n → ⊥) → in_order n (b ∷ rest) ≡ w → false ≡ w
@@ -55,3 +56,12 @@ no_result of (Some id) result line kept none = absurd (none id refl)
 
 pub size_step : {Z : Type 0} (n : ℕ) (left : List Z) (x : Z) (later : List Z) (size : ℕ) → left ≡ x ∷ later → n + length left ≡ size → (n + 1) + length later ≡ size
 size_step n left x later size first h = let long : length left ≡ suc (length later) = ap length first in omega arith
+
+-- the first of what is left, where it is read by its place
+pub first_read : {Z : Type 0} (left : List Z) (d : Z) → 1 ≤ length left → left ≡ get_or left 0 d ∷ later_of left
+first_read [] d h = absurd (omega arith)
+first_read (x ∷ left) d h = first_left (x ∷ left) x h refl
+
+pub broken_all : (bs : List ℕ) → false ≡ in_order 0 bs → false ≡ blocks_in_order bs
+broken_all [] h = refl
+broken_all (b ∷ bs) h = h

@@ -5,3 +5,6 @@ pub mod Scopes
 pub mod AllFaults
 pub mod Declaring
 pub mod HeadSteps
+pub mod LineSteps
+pub mod TypesOf
+pub mod HeadFaults

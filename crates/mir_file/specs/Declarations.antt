@@ -1,13 +1,15 @@
 -- The locals that the head of a function declares, and what is wrong with their declarations.
-use Rattle.std.specs.Prelude.{ℕ, Bool, nat_lt, not, List, [], ◌∷◌, ◌++◌, Option, Some, None, is_some}
+use Rattle.std.specs.Prelude.{ℕ, zero, suc, Bool, nat_lt, not, List, [], ◌∷◌, ◌++◌, Option, Some, None, is_some}
 use Rattle.mir_syntax.specs.declared.types.TyId.{TyId}
 use Rattle.mir_syntax.specs.Tree.{Tree, at_id}
 use Rattle.mir_text.specs.GrammarItems.{ArgRule}
-use Rattle.mir_text.specs.Names.{Names, same_type}
+use Rattle.std.specs.Option.{unwrap_or}
+use Rattle.mir_text.specs.Names.{Names, ty_of, same_type}
 use Rattle.mir_text.specs.NamedBodies.{Declared, declared_ty}
-use Rattle.mir_text.specs.Naming.{declares}
-use Rattle.mir_text.specs.PartLines.{Lined}
-use Rattle.mir_text.specs.NameFaults.{Fault, on_line, unless, type_codes}
+use Rattle.mir_text.specs.Naming.{declares, declared}
+use Rattle.mir_text.specs.PartLines.{Lined, LinedFn}
+use Rattle.mir_text.specs.NameFaults.{Fault, on_line, unless, each, type_codes, none_missing, blocks_in_order, labels_of, declaration_faults, args_in_place, declared_once, result_faults}
+use Rattle.mir_bodies.specs.Locals.{first_ty}
 use Rattle.mir_tree.specs.declared.body.BlockText.{BlockText}
 
 abbrev pub declared_below : ℕ → ℕ × TyId → Bool
@@ -34,3 +36,17 @@ label_in b = b.label
 abbrev pub result_fault : Option Tree → Tree → ℕ → List Fault
 result_fault None result line = []
 result_fault (Some t) result line = on_line line (unless (same_type t result) 14)
+
+-- the ids of so many locals from a number on, with that of `()` for those that aren't declared
+abbrev pub ids_from : List (ℕ × TyId) → TyId → ℕ → ℕ → List TyId
+ids_from ds unit x zero = []
+ids_from ds unit x (suc n) = unwrap_or (first_ty ds x) unit ∷ ids_from ds unit (suc x) n
+
+-- the faults of a function but for those of its blocks
+abbrev pub head_faults : Names → LinedFn → List Fault
+head_faults names f =
+    on_line f.head (type_codes names f.rule.result ++ unless (none_missing (declared names f.rule)) 14 ++ unless (blocks_in_order (labels_of f)) 15)
+    ++ each (declaration_faults names) (f.args ++ f.lets)
+    ++ args_in_place 1 f.args
+    ++ declared_once [] (f.args ++ f.lets)
+    ++ result_faults names (ty_of names f.rule.result) (f.args ++ f.lets)

@@ -1,10 +1,10 @@
-use Rattle.std.proofs.Common.{◌≡◌, ℕ, ◌&&◌, List, ◌∷◌, is_some, ◌∙◌, ap, ap₂, refl, sym}
+use Rattle.std.proofs.Common.{◌≡◌, ℕ, ◌&&◌, List, ◌∷◌, get_or, is_some, ◌∙◌, ap, ap₂, refl, sym}
 use Rattle.mir_syntax.specs.declared.types.TyId.{TyId}
 use Rattle.mir_text.specs.NameFaults.{below_declared, none_missing_in}
-use Rattle.mir_resolve.proofs.Making.{later_of, first_left, and_step}
+use Rattle.mir_resolve.proofs.Making.{later_of, and_step}
 use Rattle.mir_bodies.specs.Locals.{declared_in}
 use Rattle.mir_file.proofs.Declaring.{declared_some}
-use Rattle.mir_file.proofs.HeadSteps.{missing_ended}
+use Rattle.mir_file.proofs.HeadSteps.{first_read, missing_ended}
 use Rattle.mir_file.proofs.head.none_missing.Goals as goal
 
 pub locals-init : goal.locals-init
@@ -15,9 +15,10 @@ locals-init c = λ trees.
 pub locals-preserved : goal.locals-preserved
 locals-preserved c = λ trees.
     let left = c.locals.left.now in
-    let item = c.local-item.result in
+    let none : TyId = record { 0 = 0 } in
+    let item : ℕ × TyId = get_or left 0 (0, none) in
     let later = later_of left in
-    let first : left ≡ item ∷ later = first_left left item c.in-len1-up.len_at_least c.local-item.is in
+    let first : left ≡ item ∷ later = first_read left (0, none) c.in-len1-up.len_at_least in
     let all = declared_in trees c.args.locals.now in
     ap (λ b. b && none_missing_in all (declared_in trees later)) (c.both-whole.ensures ∙ ap (λ b. c.locals.whole && b) (c.has_below-below.ensures trees))
     ∙ and_step c.locals.whole (below_declared all item.0) (none_missing_in all (declared_in trees later)) _
