@@ -55,7 +55,7 @@ head_declared names x =
     ∙ map-append (declares names) (map part_arg x.args.items) (map part_arg x.lets)
     ∙ ap₂ (λ a b. a ++ b) (map-map (declares names) part_arg x.args.items) (map-map (declares names) part_arg x.lets)
 
-abbrev declares_lined : Names → Lined ArgRule → ℕ × Tree
+abbrev pub declares_lined : Names → Lined ArgRule → ℕ × Tree
 declares_lined names a = declares names a.1
 
 pub declared_lined : (names : Names) (xs : List (LinedText ArgText)) → map (declares_lined names) (map (lined arg_rule) xs) ≡ map (λ a. declares names (part_arg a)) xs
@@ -72,8 +72,8 @@ pub declarations_append : (names : Names) (before : Declared) (xs ys : List (Lin
 declarations_append names before [] ys = ap (λ b. declarations_faults names b ys) (sym (append-nil before))
 declarations_append names before (x ∷ xs) ys =
     ap (λ l. on_line x.0 (declaration_codes names before x.1) ++ l)
-      (declarations_append names (before ++ declares names x.1 ∷ []) xs ys
-      ∙ ap (λ b. declarations_faults names (before ++ declares names x.1 ∷ []) xs ++ declarations_faults names b ys) (append_assoc before (declares names x.1 ∷ []) (map (declares_lined names) xs)))
+    (declarations_append names (before ++ declares names x.1 ∷ []) xs ys
+    ∙ ap (λ b. declarations_faults names (before ++ declares names x.1 ∷ []) xs ++ declarations_faults names b ys) (append_assoc before (declares names x.1 ∷ []) (map (declares_lined names) xs)))
     ∙ sym (append_assoc (on_line x.0 (declaration_codes names before x.1)) (declarations_faults names (before ++ declares names x.1 ∷ []) xs) (declarations_faults names (before ++ (declares names x.1 ∷ map (declares_lined names) xs)) ys))
 
 -- ---- types and locals apart
@@ -111,7 +111,7 @@ apart names before numbers k (a ∷ xs) same =
     ∙ ap (λ b. noted (noted k (on_line n (ty ++ unless (not b) 14))) (declarations_faults names later xs)) (same a.1.0)
     ∙ ap (λ j. noted j (declarations_faults names later xs)) (noted_on k n ty once)
     ∙ apart names later (a.1.0 ∷ numbers) (noted (noted k (on_line n ty)) (on_line n once)) xs
-      (λ x. declared-snoc before a.1.0 (declares names a.1).1 x ∙ ap (λ b. nat_eq a.1.0 x || b) (same x))
+    (λ x. declared-snoc before a.1.0 (declares names a.1).1 x ∙ ap (λ b. nat_eq a.1.0 x || b) (same x))
     ∙ ap (λ j. noted j others) (noted_swap (noted k (on_line n ty)) (on_line n once) types ∙ ap (λ j. noted j (on_line n once)) (sym (noted-append k (on_line n ty) types)))
     ∙ sym (noted-append (noted k (on_line n ty ++ types)) (on_line n once) others)
 

@@ -59,5 +59,5 @@ fn_faults_in names (function f) = fn_faults names f
 abbrev pub noted_before_functions : Names → List (Lined ItemText) → Option Fault
 noted_before_functions names items =
     noted (noted (noted None (path_faults [] (map (defined_as names.strings) items)))
-      (each (def_faults (before_defs names.strings names.paths)) items))
-      (each (outside_faults (before_defs names.strings names.paths)) items)
+    (each (def_faults (before_defs names.strings names.paths)) items))
+    (each (outside_faults (before_defs names.strings names.paths)) items)

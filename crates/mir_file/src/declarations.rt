@@ -83,13 +83,6 @@ pub fn read_locals(
         none,
         function.args.items.as_slice(),
     )?;
-    let locals = read_declarations(
-        alloc,
-        strings,
-        paths,
-        draft,
-        args,
-        function.lets.as_slice(),
-    )?;
+    let locals = read_declarations(alloc, strings, paths, draft, args, function.lets.as_slice())?;
     Ok(locals)
 }

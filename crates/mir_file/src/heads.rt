@@ -58,11 +58,19 @@ pub fn read_head(
     let answer = read_noted(alloc, strings, paths, draft, line, &function.result)?;
     let locals = read_locals(alloc, strings, paths, draft, function)?;
     draft.notes.note_unless(none_missing(&locals), line, 14);
-    draft.notes.note_unless(are_in_order(function.blocks.as_slice()), line, 15);
+    draft
+        .notes
+        .note_unless(are_in_order(function.blocks.as_slice()), line, 15);
     note_places(&mut draft.notes, function.args.items.as_slice());
     let lines = local_lines(alloc, locals.as_slice().len(), function)?;
     let first = first_line(lines.as_slice());
-    note_result(&draft.program, &mut draft.notes, locals.get(0), answer, first);
+    note_result(
+        &draft.program,
+        &mut draft.notes,
+        locals.get(0),
+        answer,
+        first,
+    );
     let types = local_types(alloc, &mut draft.program, &locals)?;
     Ok(Head {
         locals,

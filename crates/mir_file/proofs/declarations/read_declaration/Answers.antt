@@ -14,13 +14,13 @@ returns-clause-declared c =
     let is = c.in_ok-ty.ensures in
     let make : Tree → ℕ × Tree = λ t. (c.args.text.now.local, t) in
     one_more declared_as declared_below declared_keep c.args.draft.now.program.types c.read_noted.new.draft.program.types is.went.grown.types
-        c.args.locals c.in_ok-more.more (c.args.text.now.local, c.in_ok-ty.ty) _ c.requires c.in_ok-more.ensures (ap make is.stands)
+    c.args.locals c.in_ok-more.more (c.args.text.now.local, c.in_ok-ty.ty) _ c.requires c.in_ok-more.ensures (ap make is.stands)
 
 pub returns-clause-inside : goal.returns-clause-inside
 returns-clause-inside c =
     let is = c.in_ok-ty.ensures in
     more_inside declared_as declared_below declared_keep c.args.draft.now.program.types c.read_noted.new.draft.program.types is.went.grown.types
-        c.args.locals c.in_ok-more.more (c.args.text.now.local, c.in_ok-ty.ty) c.requires c.in_ok-more.ensures (search (rules, is.inside))
+    c.args.locals c.in_ok-more.more (c.args.text.now.local, c.in_ok-ty.ty) c.requires c.in_ok-more.ensures (search (rules, is.inside))
 
 pub returns-clause-went : goal.returns-clause-went
 returns-clause-went c =
@@ -35,5 +35,5 @@ returns-clause-went c =
           ∙ ap (λ k. noted k (on_line line (unless (not c.is_some-stood.result) 14))) is.notes
           ∙ sym (noted_on kept line codes (unless (not c.is_some-stood.result) 14))
           ∙ ap (λ b. noted kept (on_line line (codes ++ unless (not b) 14)))
-            (c.is_some-stood.ensures ∙ ap is_some c.get.ensures ∙ declared_some (trees_of c.args.draft.now.program.types) c.args.locals text.local);
+          (c.is_some-stood.ensures ∙ ap is_some c.get.ensures ∙ declared_some (trees_of c.args.draft.now.program.types) c.args.locals text.local);
     }

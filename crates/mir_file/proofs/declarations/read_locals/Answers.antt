@@ -18,8 +18,8 @@ returns-clause-declared c =
     let old = c.args.draft.now.program.types in
     c.in_ok-locals.ensures.declared
     ∙ ap₂ (λ a b. a ++ map (λ p. declares names (part_arg p)) b)
-      (c.in_ok-args.ensures.declared ∙ ap₂ (λ n b. declared_in (trees_of old) n ++ map (λ p. declares names (part_arg p)) b) c.new-none.ensures c.as_slice.ensures)
-      c.as_slice-2.ensures
+    (c.in_ok-args.ensures.declared ∙ ap₂ (λ n b. declared_in (trees_of old) n ++ map (λ p. declares names (part_arg p)) b) c.new-none.ensures c.as_slice.ensures)
+    c.as_slice-2.ensures
     ∙ sym (head_declared names x)
 
 pub returns-clause-went : goal.returns-clause-went
@@ -38,7 +38,7 @@ returns-clause-went c =
       grown = both.grown;
       notes = both.notes
           ∙ ap (noted old.notes)
-            (ap₂ (λ n b. declarations_faults names (declared_in (trees_of old.program.types) n) (map (lined arg_rule) b) ++ declarations_faults names (declared_in (trees_of mid.program.types) c.in_ok-args.args) (map (lined arg_rule) c.as_slice-2.result.now)) c.new-none.ensures c.as_slice.ensures
-            ∙ ap₂ (λ d b. declarations_faults names [] args ++ declarations_faults names d (map (lined arg_rule) b)) (first.declared ∙ is ∙ sym (declared_lined names x.args.items)) c.as_slice-2.ensures
-            ∙ sym (declarations_append names [] args lets));
+          (ap₂ (λ n b. declarations_faults names (declared_in (trees_of old.program.types) n) (map (lined arg_rule) b) ++ declarations_faults names (declared_in (trees_of mid.program.types) c.in_ok-args.args) (map (lined arg_rule) c.as_slice-2.result.now)) c.new-none.ensures c.as_slice.ensures
+          ∙ ap₂ (λ d b. declarations_faults names [] args ++ declarations_faults names d (map (lined arg_rule) b)) (first.declared ∙ is ∙ sym (declared_lined names x.args.items)) c.as_slice-2.ensures
+          ∙ sym (declarations_append names [] args lets));
     }

@@ -22,7 +22,7 @@ locals-preserved c = λ trees.
     let all = declared_in trees c.args.locals.now in
     ap (λ b. b && none_missing_in all (declared_in trees later)) (c.both-whole.ensures ∙ ap (λ b. c.locals.whole && b) (c.has_below-below.ensures trees))
     ∙ and_step c.locals.whole (below_declared all item.0) (none_missing_in all (declared_in trees later)) _
-      (ap (λ l. c.locals.whole && none_missing_in all (declared_in trees l)) (sym first) ∙ c.locals.invariant trees)
+    (ap (λ l. c.locals.whole && none_missing_in all (declared_in trees l)) (sym first) ∙ c.locals.invariant trees)
 
 pub returns : goal.returns
 returns c = λ trees.

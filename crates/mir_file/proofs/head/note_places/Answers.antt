@@ -21,8 +21,8 @@ texts-preserved c =
     record {
       notes = ap (λ n. noted c.note_unless.new.self (args_in_place (suc n) rest)) up
           ∙ faults_step kept c.note_unless.new.self _ (on_line item.line (unless (nat_eq item.part.local (suc place)) 14)) (args_in_place (suc (suc place)) rest)
-            (c.note_unless.ensures ∙ ap (λ n. noted kept (on_line item.line (unless (nat_eq item.part.local n) 14))) up)
-            (ap (λ l. noted kept (args_in_place (suc place) (map (lined arg_rule) l))) (sym first) ∙ c.texts.invariant.notes);
+          (c.note_unless.ensures ∙ ap (λ n. noted kept (on_line item.line (unless (nat_eq item.part.local n) 14))) up)
+          (ap (λ l. noted kept (args_in_place (suc place) (map (lined arg_rule) l))) (sym first) ∙ c.texts.invariant.notes);
       size = size_step place left item later _ first c.texts.invariant.size;
     }
 
