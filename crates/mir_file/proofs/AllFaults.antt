@@ -16,7 +16,7 @@ use Rattle.mir_resolve.specs.Faults.{noted}
 use Rattle.mir_resolve.specs.Definitions.{before_defs}
 use Rattle.mir_resolve.proofs.Noting.{noted-append}
 use Rattle.mir_resolve.proofs.FaultOrder.{noted_first, noted_swap}
-use Rattle.mir_file.specs.Items.{rule_of, rules_of, def_codes, def_faults, outside_codes, outside_faults, fn_faults_in}
+use Rattle.mir_file.specs.Items.{rule_of, rules_of, def_codes, def_faults, outside_codes, outside_faults, fn_faults_in, noted_before_functions}
 use Rattle.mir_file.specs.Clashes.{defined_at, defined_as}
 
 -- ---- names before anything is defined
@@ -107,7 +107,7 @@ defined-lined names (x ∷ items) = ap₂ (λ a b. a ∷ b) (defined-same names 
 
 -- what is kept after the clashes, the definitions, the outside functions and the functions is the first fault of the file
 pub first_noted : (names : Names) (items : List (Lined ItemText))
-    → noted (noted (noted (noted None (path_faults [] (map (defined_as names.strings) items))) (each (def_faults (before names)) items)) (each (outside_faults (before names)) items)) (each (λ x. fn_faults_in names (lined_item x)) items)
+    → noted (noted_before_functions names items) (each (λ x. fn_faults_in names (lined_item x)) items)
     ≡ first_fault (name_faults names (map lined_item items))
 first_noted names items =
     sym (parts-noted (λ x. item_faults names (lined_item x)) (def_faults (before names)) (outside_faults (before names)) (λ x. fn_faults_in names (lined_item x))

@@ -74,7 +74,7 @@ names_plain strings items =
 
 -- ---- functions
 
-lets-plain : (xs : List ArgRule) → lets_of (lets_rule xs) ≡ xs
+pub lets-plain : (xs : List ArgRule) → lets_of (lets_rule xs) ≡ xs
 lets-plain [] = refl
 lets-plain (x ∷ xs) = ap (λ l. x ∷ l) (lets-plain xs)
 

@@ -1,16 +1,18 @@
 -- The items of a file's tree by their kinds, and what is wrong with those of one kind.
-use Rattle.std.specs.Prelude.{◌≡◌, ℕ, List, [], ◌∷◌, map}
+use Rattle.std.specs.Prelude.{◌≡◌, ℕ, List, [], ◌∷◌, map, Option, None}
 use Rattle.mir_text.specs.GrammarItems as m
 use Rattle.mir_text.specs.GrammarItems.{ItemRule, FileRule}
 use Rattle.mir_text.specs.Names.{Names, Strings, path_bytes, DefRule, def_path, def_in}
 use Rattle.mir_text.specs.PartLines.{LinedItem, other, function}
-use Rattle.mir_text.specs.NameFaults.{Fault, on_line, other_codes, fn_faults}
+use Rattle.mir_text.specs.NameFaults.{Fault, on_line, other_codes, fn_faults, each, path_faults}
 use Rattle.mir_tree.specs.declared.Lined.{Lined}
 use Rattle.mir_tree.specs.declared.item.ItemText.{ItemText}
 use Rattle.mir_tree.specs.Rules.{lined_item, item_of}
 use Rattle.mir_resolve.specs.declared.draft.Draft.{Draft}
 use Rattle.mir_resolve.specs.Types.{Grown}
 use Rattle.mir_resolve.specs.Faults.{noted}
+use Rattle.mir_resolve.specs.Definitions.{before_defs}
+use Rattle.mir_file.specs.Clashes.{defined_as}
 
 -- the rule of an item
 abbrev pub rule_of : Lined ItemText → ItemRule
@@ -52,3 +54,10 @@ pub record Noticed (old new : Draft) (faults : List Fault) : Type 0 where
 abbrev pub fn_faults_in : Names → LinedItem → List Fault
 fn_faults_in names (other line item) = []
 fn_faults_in names (function f) = fn_faults names f
+
+-- the faults of paths, definitions and outside functions
+abbrev pub noted_before_functions : Names → List (Lined ItemText) → Option Fault
+noted_before_functions names items =
+    noted (noted (noted None (path_faults [] (map (defined_as names.strings) items)))
+    (each (def_faults (before_defs names.strings names.paths)) items))
+    (each (outside_faults (before_defs names.strings names.paths)) items)
