@@ -4,3 +4,5 @@ pub mod Twins
 pub mod Steps
 pub mod Selves
 pub mod Law
+pub mod Numbers
+pub mod Trimmed
