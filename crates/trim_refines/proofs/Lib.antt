@@ -6,3 +6,4 @@ pub mod Selves
 pub mod Law
 pub mod Numbers
 pub mod Trimmed
+pub mod Refined

@@ -1,7 +1,7 @@
 -- The numbers that marked locals get, as a renumbering both ways.
-use Rattle.std.proofs.Common.{◌≡◌, refl, sym, ap, ◌∙◌, subst, ℕ, zero, suc, ◌+◌, ◌<◌, ◌≤◌, Bool, true, false, cond, if◌then◌else◌, List, [], ◌∷◌, length, map, take, get_or, Option, Some, None, option_map, slice_get, arith}
-use Rattle.std.specs.List.{count_by, range_with_len}
+use Rattle.std.proofs.Common.{◌≡◌, refl, sym, ap, ◌∙◌, subst, ℕ, zero, suc, ◌+◌, ◌<◌, ◌≤◌, Bool, true, false, cond, List, [], ◌∷◌, length, take, get_or, Option, Some, None, option_map, slice_get, arith}
 use Rattle.std.proofs.lemmas.List.FromFn.{get_or-map-range_with_len}
+use Rattle.std.proofs.lemmas.List.Sums.{sum_by-cons}
 use Rattle.trim_locals.specs.Trimmed.{self, new_number, new_numbers, number_in, marked_items}
 
 next_if : Bool → ℕ → ℕ
@@ -56,13 +56,16 @@ ahead_marked (true ∷ ms) zero y e = refl
 ahead_marked (false ∷ ms) zero y e = absurd (grind arith)
 ahead_marked (m ∷ ms) (suc x) y e = let (z, e1, e2) = mapped (next_if m) (ahead ms x) y e in ahead_marked ms x z e1
 
+counts : (m : Bool) (ms : List Bool) (x : ℕ) → new_number (m ∷ ms) (suc x) ≡ cond m 1 0 + new_number ms x
+counts m ms x = sum_by-cons (λ b. cond (self b) 1 0) m (take x ms)
+
 ahead_counts : (ms : List Bool) (x : ℕ) → get_or ms x false ≡ true → ahead ms x ≡ Some (new_number ms x)
 unfolding ahead next_if
 ahead_counts [] x e = absurd (grind arith)
 ahead_counts (true ∷ ms) zero e = refl
 ahead_counts (false ∷ ms) zero e = absurd (grind arith)
-ahead_counts (true ∷ ms) (suc x) e = ap (option_map (next_if true)) (ahead_counts ms x e) ∙ ap Some (let z : suc (new_number ms x) ≡ 1 + new_number ms x = omega arith in z)
-ahead_counts (false ∷ ms) (suc x) e = ap (option_map (next_if false)) (ahead_counts ms x e) ∙ ap Some (let z : new_number ms x ≡ 0 + new_number ms x = omega arith in z)
+ahead_counts (true ∷ ms) (suc x) e = ap (option_map (next_if true)) (ahead_counts ms x e) ∙ ap Some (let h = counts true ms x in let z : suc (new_number ms x) ≡ new_number (true ∷ ms) (suc x) = omega (arith, h) in z)
+ahead_counts (false ∷ ms) (suc x) e = ap (option_map (next_if false)) (ahead_counts ms x e) ∙ ap Some (let h = counts false ms x in let z : new_number ms x ≡ new_number (false ∷ ms) (suc x) = omega (arith, h) in z)
 
 marked_within : (ms : List Bool) (x : ℕ) → get_or ms x false ≡ true → x < length ms
 marked_within [] x e = absurd (grind arith)

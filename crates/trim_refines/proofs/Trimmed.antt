@@ -1,5 +1,5 @@
 -- A trimmed body is the same as the body but for the numbers of locals.
-use Rattle.std.proofs.Common.{◌≡◌, ◌⊎◌, inl, inr, refl, sym, ap, ap₂, ◌∙◌, subst, ℕ, zero, suc, ◌+◌, ◌<◌, ◌≤◌, Bool, true, false, ◌&&◌, nat_lt, List, [], ◌∷◌, ◌++◌, length, map, take, get_or, cond, Option, Some, None, slice_get, arith}
+use Rattle.std.proofs.Common.{◌≡◌, ◌⊎◌, inl, inr, refl, sym, ap, ◌∙◌, subst, ℕ, zero, suc, ◌+◌, ◌<◌, ◌≤◌, Bool, true, false, ◌&&◌, nat_lt, List, [], ◌∷◌, ◌++◌, length, map, get_or, cond, Some, slice_get, arith}
 use Rattle.std.proofs.Common.{ltb-true}
 use Rattle.std.specs.List.{Contains, filter, flat_map, list_all, range_with_len}
 use Rattle.std.proofs.lemmas.List.Elements.{Contains-append_left, Contains-append_right, Contains-append_cases, Contains-push_cases}
@@ -9,7 +9,6 @@ use Rattle.mir_syntax.specs.declared.body.Operand.{Operand}
 use Rattle.mir_syntax.specs.declared.body.Operand.TheVariants as operand
 use Rattle.mir_syntax.specs.declared.body.Term.{Term}
 use Rattle.mir_syntax.specs.declared.body.Term.TheVariants.{Goto, Switch, Return, Unreachable, Drop, Call, Assert}
-use Rattle.mir_syntax.specs.Tree.{Tree}
 use Rattle.mir_syntax.specs.Crate.{TypedRvalue, «use», binary, overflow, unary, cast, discriminant, tuple, build, TypedStmt, assign, storage_live, storage_dead, set_discriminant, TypedBlock, TypedBody, TypedFunction, Crate}
 use Rattle.mir_syntax.specs.Crate as rvalue
 use Rattle.mir_rules.specs.Parts.{operand_places, rvalue_operands, rvalue_places, term_operands, term_places, targets}
@@ -19,8 +18,8 @@ use Rattle.mir_rules.proofs.ValidCrates.{args_below, result_there, stmt_formed_a
 use Rattle.liveness.specs.Live.{place_local}
 use Rattle.liveness.specs.Bits.{has_stands}
 use Rattle.bit_rows.specs.Rows.{stands}
-use Rattle.trim_locals.specs.Trimmed.{stmt_uses, term_uses, block_uses, used_locals, used_marks, new_numbers, number_in, renamed_place, renamed_operand, renamed_rvalue, renamed_stmt, renamed_term, marked_items, stays, trimmed_block, trimmed}
-use Rattle.trim_refines.specs.Renumbered.{Numbering, PlaceSame, OperandSame, OperandsSame, RvalueSame, StmtSame, TermSame, Gone, StmtsSame}
+use Rattle.trim_locals.specs.Trimmed.{stmt_uses, term_uses, block_uses, used_locals, used_marks, new_numbers, number_in, renamed_operand, renamed_rvalue, renamed_stmt, renamed_term, marked_items, stays, trimmed_block, trimmed}
+use Rattle.trim_refines.specs.Renumbered.{Numbering, OperandSame, OperandsSame, RvalueSame, StmtSame, TermSame, Gone, StmtsSame}
 use Rattle.trim_refines.proofs.Numbers.{ahead, ahead_marked, ahead_is, ahead_fixed, ahead_item}
 use Rattle.trim_refines.proofs.Selves.{has_first}
 use Rattle.trim_refines.proofs.Steps.{BodySame}
@@ -178,13 +177,13 @@ module _ (C : Crate) (b : TypedBody) (formed : body_formed C b ≡ true) where
   mapped_at (y ∷ ks) zero k e = ap (λ y. Some (trimmed_block marks y)) (let z : y ≡ k = grind arith in z)
   mapped_at (y ∷ ks) (suc i) k e = mapped_at ks i k e
 
-  argument_marked : (x : ℕ) → x ≤ b.args → get_or marks x false ≡ true
+  pub argument_marked : (x : ℕ) → x ≤ b.args → get_or marks x false ≡ true
   argument_marked x l =
       let a = args_below C b formed in
       let z : 0 + x ≡ x = omega arith in
       mark_at x (omega (arith, l, a)) (Contains-append_left (range_with_len 0 (suc b.args)) (flat_map block_uses b.blocks) x (subst (λ y. Contains (range_with_len 0 (suc b.args)) y) z (in_range 0 (suc b.args) x (omega (arith, l)))))
 
-  fixed : (x : ℕ) → x ≤ b.args → ahead marks x ≡ Some x
+  pub fixed : (x : ℕ) → x ≤ b.args → ahead marks x ≡ Some x
   fixed x l = ahead_fixed marks x (λ z m. argument_marked z (omega (arith, l, m)))
 
   pub trimmed_same : BodySame (ahead (used_marks b)) (trimmed b) b
