@@ -24,7 +24,7 @@ use Rattle.valid_runs.proofs.Codes.{valid_code}
 use Rattle.valid_runs.proofs.Starts.{args_plain, start_typed}
 use Rattle.valid_runs.proofs.Shown.{Known, step_flat, step_known, start_known}
 use Rattle.prune_refines.specs.Drops.{NoDrops}
-use Rattle.prune_refines.specs.Pruned.{IsPrunedOnce, IsPruned}
+use Rattle.dead_store.specs.Pruned.{IsPrunedOnce, IsPruned}
 use Rattle.prune_refines.proofs.Gone.{Judged, decided}
 use Rattle.prune_refines.proofs.Needs.{needs_ok}
 use Rattle.prune_refines.proofs.Laws.{plain, calm_sets, set_there, bodies2, is1, is2, others, laws}

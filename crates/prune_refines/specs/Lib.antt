@@ -1,2 +1,1 @@
-pub mod Pruned
 pub mod Drops

@@ -1,8 +1,8 @@
-//! Laws of the pass `pruned`: taking away assignments that nobody reads keeps the meaning and the rules.
+//! Laws of the pass `pruned`: taking away what nobody reads keeps the meaning and the rules.
 //!
-//! `IsPruned` is of `specs/Pruned.antt`: three rounds, each of which takes away the assignments, to a place without a dereference, of a local
-//! that is neither borrowed (`escape_info`) nor live after them (`liveness`). `Refines` is `mir_semantics`' (`specs/Refines.antt`), and `Valid`,
-//! `ValidAt` and `at_function` are `mir_rules`' (`specs/Valid.antt`). The body that is pruned holds no `drop`; other bodies may. The functions
+//! `IsPruned` is `dead_store`'s (`specs/Pruned.antt`): three rounds, each of which takes away the assignments and the settings of
+//! discriminants that nobody reads. `Refines` is `mir_semantics`' (`specs/Refines.antt`), and `Valid`, `ValidAt` and `at_function` are
+//! `mir_rules`' (`specs/Valid.antt`). The body that is pruned holds no `drop` (`NoDrops` of `specs/Drops.antt`); other bodies may. The functions
 //! here run nothing; their contracts are the laws: `pruned_refines`, and `pruned_stays_valid` for what comes after the pass.
 #![tactic(auto)]
 
@@ -11,7 +11,7 @@ ghost use Rattle.mir_syntax.specs.Crate.{TypedBody, TypedFunction, Crate};
 ghost use Rattle.mir_syntax.specs.Shapes.{shapes_of};
 ghost use Rattle.mir_semantics.specs.Refines.{Refines};
 ghost use Rattle.mir_rules.specs.Valid.{Valid, at_function, ValidAt};
-ghost use Rattle.prune_refines.specs.Pruned.{IsPruned};
+ghost use Rattle.dead_store.specs.Pruned.{IsPruned};
 ghost use Rattle.prune_refines.specs.Drops.{NoDrops};
 
 /// A valid crate in which one body that holds no `drop` is pruned refines the crate; so does a crate with a pruned body in place of one that

@@ -1,16 +1,13 @@
 -- A crate of which one body is the same but for the numbers of locals refines the crate.
-use Rattle.std.proofs.Common.{◌≡◌, ◌⊎◌, inl, inr, refl, sym, ap, ap₂, ◌∙◌, subst, ℕ, zero, suc, ◌<◌, ◌≤◌, Bool, true, false, nat_eq, if◌then◌else◌, List, [], ◌∷◌, length, map, take, set, Option, Some, None, slice_get, arith}
-use Rattle.mir_syntax.specs.Tree.{Tree}
-use Rattle.mir_syntax.specs.Crate.{TypedBlock, TypedBody, TypedFunction, Crate}
-use Rattle.mir_syntax.specs.Shapes.{Shape, shapes_of}
+use Rattle.std.proofs.Common.{◌≡◌, ◌⊎◌, inl, inr, refl, sym, ap, ap₂, ◌∙◌, subst, ℕ, zero, suc, ◌≤◌, Bool, true, false, nat_eq, if◌then◌else◌, List, [], ◌∷◌, length, map, take, set, Option, Some, None, slice_get, arith}
+use Rattle.mir_syntax.specs.Crate.{TypedBody, TypedFunction, Crate}
 use Rattle.mir_rules.specs.Valid.{Valid, with_body, at_function}
-use Rattle.mir_rules.proofs.Bodies.{Alike, set_alike, shapes_alike}
+use Rattle.mir_rules.proofs.Bodies.{set_alike, shapes_alike}
 use Rattle.mir_rules.proofs.Fixed.{apart_in}
-use Rattle.mir_semantics.specs.Values.{Value}
 use Rattle.mir_semantics.specs.Memory.{open_frame}
-use Rattle.mir_semantics.specs.Step.{Code, body_in, code_of, Control, State, Next, on, stop, fail, new_slots, step}
+use Rattle.mir_semantics.specs.Step.{Code, body_in, code_of, State, Next, on, stop, fail, new_slots, step}
 use Rattle.mir_semantics.specs.Run.{Entry, start, slots_at}
-use Rattle.mir_semantics.specs.Entry.{IsEntry, result_and_args}
+use Rattle.mir_semantics.specs.Entry.{IsEntry}
 use Rattle.mir_semantics.specs.Refines.{header, Header, Refines}
 use Rattle.mir_renaming.proofs.Memory.{same_or_not}
 use Rattle.mir_renaming.proofs.Ghosts.{extend, extend_new, extend_old, plains_self}
@@ -19,11 +16,11 @@ use Rattle.mir_relate.specs.Simulation.{Simulation, Follows as Owes, keep_on}
 use Rattle.mir_relate.proofs.Refine.{refines_by}
 use Rattle.mir_relate.proofs.Aligned.{new_control}
 use Rattle.valid_runs.proofs.Blanks.{shapes_tupled}
-use Rattle.valid_runs.proofs.Codes.{valid_code, body_there, body_back}
+use Rattle.valid_runs.proofs.Codes.{valid_code, body_there}
 use Rattle.valid_runs.proofs.Starts.{args_plain, start_typed}
 use Rattle.valid_runs.proofs.Shown.{Known, step_flat, step_known, start_known}
 use Rattle.trim_refines.proofs.Twins.{once, once2, Mems}
-use Rattle.trim_refines.proofs.Steps.{BodySame, Rel, Base, Follows, Answer, step_rel, begins, opened}
+use Rattle.trim_refines.proofs.Steps.{BodySame, Rel, Base, Answer, step_rel, begins, opened}
 use Rattle.trim_refines.proofs.Selves.{body_self, locals_there, calls_few, one_destroyed, few_entry}
 
 set_there : (xs : List TypedFunction) (f : ℕ) (v x : TypedFunction) → slice_get xs f ≡ Some x → slice_get (set xs f v) f ≡ Some v
@@ -129,9 +126,9 @@ module _ (C : Crate) (valid : Valid C) (f : ℕ) (g : TypedFunction) (there : sl
       let base : Base C1 bodies2 Bor Back backs bors pairs (calls_few C valid) (one_destroyed C valid) nothing nowhere nowhere = record { fresh = λ f l. refl; next = refl; answers = refl; trace = refl } in
       let F = extend Bor O nothing 0 e.function in
       let empty_mems : Mems C1.shapes Bor Back backs bors nothing [] [] = record {
-            to = record { mem = record { at = λ f x g y e v r. absurd (grind arith) }; apart = λ f x f' x' r u u' e e' k k'. absurd (grind arith) };
-            from = record { mem = record { at = λ f x g y e v r. absurd (grind arith) }; apart = λ f x f' x' r u u' e e' k k'. absurd (grind arith) };
-          } in
+        to = record { mem = record { at = λ f x g y e v r. absurd (grind arith) }; apart = λ f x f' x' r u u' e e' k k'. absurd (grind arith) };
+        from = record { mem = record { at = λ f x g y e v r. absurd (grind arith) }; apart = λ f x f' x' r u u' e e' k k'. absurd (grind arith) };
+      } in
       let plain = args_plain C1 e k in
       let (n, here) = begins C1 bodies2 Bor Back backs bors pairs (calls_few C valid) (one_destroyed C valid) (new_control e.function 0 None) (new_control e.function 0 None) refl refl in (
         n,
@@ -149,8 +146,8 @@ module _ (C : Crate) (valid : Valid C) (f : ℕ) (g : TypedFunction) (there : sl
       let (b, e2, bs) = pairs e.function k.body k.there in
       let (n, r) = first e k answers k.body b k.there e2 bs (few_entry C e k) in
       let r2 : RelAt n (start (record C1 { bodies = bodies2 }) e answers) (start C1 e answers) =
-            subst (λ o. RelAt n (record (start C1 e answers) { memory = record { frame = 0; slots = slots_at C1 e.args o } ∷ [] }) (start C1 e answers)) (sym e2)
-            (subst (λ o. RelAt n (record (start C1 e answers) { memory = record { frame = 0; slots = new_slots C1.shapes b.locals e.args } ∷ [] }) (record (start C1 e answers) { memory = record { frame = 0; slots = slots_at C1 e.args o } ∷ [] })) (sym k.there) r) in
+      subst (λ o. RelAt n (record (start C1 e answers) { memory = record { frame = 0; slots = slots_at C1 e.args o } ∷ [] }) (start C1 e answers)) (sym e2)
+      (subst (λ o. RelAt n (record (start C1 e answers) { memory = record { frame = 0; slots = new_slots C1.shapes b.locals e.args } ∷ [] }) (record (start C1 e answers) { memory = record { frame = 0; slots = slots_at C1 e.args o } ∷ [] })) (sym k.there) r) in
       (n, record { rel = r2; known = start_known C1 (apart_in C valid) valid1 e k answers (start_typed C1 valid1 (shapes_tupled C) e k answers) })
 
   -- ---- the crate

@@ -4,3 +4,6 @@ pub mod Twins
 pub mod Steps
 pub mod Selves
 pub mod Law
+pub mod Numbers
+pub mod Trimmed
+pub mod Refined

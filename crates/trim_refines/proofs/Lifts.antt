@@ -1,17 +1,15 @@
 -- Text that is the same but for the numbers of locals is related by a renaming that has these numbers.
-use Rattle.std.proofs.Common.{◌≡◌, refl, sym, ℕ, List, [], ◌∷◌, Some, slice_get}
+use Rattle.std.proofs.Common.{◌≡◌, sym, ℕ, List, [], ◌∷◌, Some, slice_get}
 use Rattle.mir_syntax.specs.declared.body.Place.{Place}
 use Rattle.mir_syntax.specs.declared.body.Operand.{Operand}
 use Rattle.mir_syntax.specs.declared.body.Operand.TheVariants as operand
-use Rattle.mir_syntax.specs.declared.body.Term.{Term}
-use Rattle.mir_syntax.specs.declared.body.Term.TheVariants.{Goto, Switch, Return, Unreachable, Drop, Call, Assert}
 use Rattle.mir_syntax.specs.Tree.{Tree}
 use Rattle.mir_syntax.specs.Shapes.{Shape}
 use Rattle.mir_syntax.specs.Crate.{TypedRvalue, «use», binary, overflow, unary, cast, discriminant, tuple, build, TypedStmt, assign, storage_live, storage_dead, set_discriminant}
 use Rattle.mir_syntax.specs.Crate as rvalue
 use Rattle.mir_renaming.specs.Renaming.{Renaming}
-use Rattle.mir_renaming.proofs.Statements.{PlaceRel, OperandRel, OperandsRel, RvalueRel, LocalRel, StmtRel}
-use Rattle.trim_refines.specs.Renumbered.{Numbering, PlaceSame, OperandSame, OperandsSame, RvalueSame, StmtSame, TermSame}
+use Rattle.mir_renaming.proofs.Statements.{PlaceRel, OperandRel, OperandsRel, RvalueRel, StmtRel}
+use Rattle.trim_refines.specs.Renumbered.{Numbering, PlaceSame, OperandSame, OperandsSame, RvalueSame, StmtSame}
 
 -- the other way round
 abbrev pub flip : Numbering → Numbering

@@ -1,9 +1,7 @@
 -- A body is the same as itself, and what a valid crate gives of calls and destructors.
-use Rattle.std.proofs.Common.{◌≡◌, ◌⊎◌, inl, inr, refl, sym, ap, ◌∙◌, subst, ℕ, zero, suc, ◌≤◌, Bool, true, false, ◌&&◌, List, [], ◌∷◌, length, take, drop, map, Option, Some, None, slice_get, arith}
-use Rattle.mir_syntax.specs.declared.body.Place.{Place}
+use Rattle.std.proofs.Common.{◌≡◌, inr, refl, sym, ap, ◌∙◌, subst, ℕ, zero, suc, ◌≤◌, Bool, true, List, [], ◌∷◌, length, take, drop, Some, slice_get, arith}
 use Rattle.mir_syntax.specs.declared.body.Operand.{Operand}
 use Rattle.mir_syntax.specs.declared.body.Operand.TheVariants as operand
-use Rattle.mir_syntax.specs.declared.body.Callee.{Callee}
 use Rattle.mir_syntax.specs.declared.body.Callee.TheVariants as callee
 use Rattle.mir_syntax.specs.declared.body.Term.{Term}
 use Rattle.mir_syntax.specs.declared.body.Term.TheVariants.{Goto, Switch, Return, Unreachable, Drop, Call, Assert}
@@ -19,11 +17,11 @@ use Rattle.mir_rules.proofs.Terminators.{OwnTyped}
 use Rattle.mir_rules.proofs.ValidCrates.{result_there, body_formed_at, term_at}
 use Rattle.mir_rules.proofs.Destructors.{destructor_found}
 use Rattle.mir_semantics.specs.Values.{Value, listed}
-use Rattle.mir_semantics.specs.Step.{body_in, code_of}
+use Rattle.mir_semantics.specs.Step.{code_of}
 use Rattle.mir_semantics.specs.Run.{Entry}
-use Rattle.mir_semantics.specs.Entry.{IsEntry, is_by, is_def, has_type, arg_types}
-use Rattle.valid_runs.proofs.Codes.{body_there, body_back}
-use Rattle.trim_refines.specs.Renumbered.{Numbering, PlaceSame, OperandSame, OperandsSame, RvalueSame, StmtSame, TermSame, StmtsSame}
+use Rattle.mir_semantics.specs.Entry.{IsEntry, is_by, is_def, has_type}
+use Rattle.valid_runs.proofs.Codes.{body_back}
+use Rattle.trim_refines.specs.Renumbered.{Numbering, OperandSame, OperandsSame, RvalueSame, StmtSame, TermSame, StmtsSame}
 use Rattle.trim_refines.proofs.Slots.{NonEmpty}
 use Rattle.trim_refines.proofs.Steps.{BodySame, FewArgs}
 

@@ -1,13 +1,12 @@
 -- A step of a crate is a step of another whose bodies are the same but for the numbers of locals, or it makes a local blank that stands
 -- nowhere else.
-use Rattle.std.proofs.Common.{◌≡◌, ◌⊎◌, inl, inr, refl, sym, ap, ap₂, ◌∙◌, subst, ℕ, zero, suc, ◌<◌, ◌≤◌, Bool, true, false, nat_eq, if◌then◌else◌, List, [], ◌∷◌, ◌++◌, length, drop, Option, Some, None, slice_get, arith}
+use Rattle.std.proofs.Common.{◌≡◌, ◌⊎◌, inl, inr, refl, sym, ap, ap₂, ◌∙◌, subst, ℕ, suc, ◌<◌, ◌≤◌, Bool, true, false, nat_eq, if◌then◌else◌, List, [], ◌∷◌, ◌++◌, length, drop, Option, Some, None, slice_get, arith}
 use Rattle.std.specs.Prelude.{ℤ}
 use Rattle.mir_syntax.specs.declared.body.Proj.TheVariants.{Field, Downcast}
 use Rattle.mir_syntax.specs.declared.body.Place.{Place}
 use Rattle.mir_syntax.specs.declared.body.Operand.{Operand}
 use Rattle.mir_syntax.specs.declared.body.Callee.{Callee}
 use Rattle.mir_syntax.specs.declared.body.Callee.TheVariants as callee
-use Rattle.mir_syntax.specs.declared.body.Arm.{Arm}
 use Rattle.mir_syntax.specs.declared.body.Term.{Term}
 use Rattle.mir_syntax.specs.declared.body.Term.TheVariants.{Goto, Switch, Return, Unreachable, Drop, Call, Assert}
 use Rattle.mir_syntax.specs.Tree.{Tree, scalar, empty, more, ref, ref_mut, named}
@@ -16,14 +15,14 @@ use Rattle.mir_syntax.specs.Shapes.{Shape, struct_fields, destructor_of, needs_d
 use Rattle.mir_num.specs.Numbers.{wrap, flag, integer_of}
 use Rattle.mir_semantics.specs.Values.{Addr, Value, number, nil, cons, variant, pointer, hole, is_hole, blank}
 use Rattle.mir_semantics.specs.Memory.{Memory, value_at, write, further, open_frame, close_frame}
-use Rattle.mir_semantics.specs.Step.{Code, Dest, Visit, Dropping, Control, Called, State, returned, aborted, no_answer, Next, on, stop, fail, Here, local_addr, resolve, type_of, read_at, read_all, read_number, numbers_in, integers, store, go_on, to_block, next_stmt, take_arm, new_slots, entered, enter, calling, answered, ask, call, field_visits, variant_visits, enum_visits, shape_visits, visits_of, work_on, visit, visit_unless, visit_if, work_off, begun, left_in, left_at, destroyed_at, destroyed, return_to, check, finish, perform, step}
-use Rattle.mir_renaming.specs.Renaming.{Renaming, AddrRel, ValueRel, Sub}
+use Rattle.mir_semantics.specs.Step.{Code, Dest, Visit, Dropping, Control, Called, State, returned, aborted, no_answer, Next, on, stop, fail, Here, local_addr, read_all, numbers_in, integers, go_on, to_block, next_stmt, take_arm, new_slots, entered, enter, calling, answered, ask, call, field_visits, variant_visits, enum_visits, shape_visits, visits_of, work_on, visit, visit_unless, visit_if, work_off, begun, left_in, left_at, destroyed_at, destroyed, return_to, check, finish, perform, step}
+use Rattle.mir_renaming.specs.Renaming.{Renaming, AddrRel, Sub}
 use Rattle.mir_renaming.proofs.Memory.{bind_some, some_bind, further_rel}
-use Rattle.mir_renaming.proofs.Statements.{ValuesRel, Linked, Got, got_at, DestRel, number_rel, read_number_rel, scalar_ty_rel}
+use Rattle.mir_renaming.proofs.Statements.{ValuesRel, DestRel, number_rel, scalar_ty_rel}
 use Rattle.mir_renaming.proofs.Ghosts.{addr_mono, value_mono, ren_is, extend, extend_sub, extend_new, extend_old, open_linked, close_linked, plain_same}
 use Rattle.mir_relate.proofs.Aligned.{Flat, new_control}
 use Rattle.mir_live.proofs.Paths.{drop_some, drop_none, get_drop}
-use Rattle.trim_refines.specs.Renumbered.{Numbering, PlaceSame, OperandSame, OperandsSame, StmtSame, TermSame, Gone, StmtsSame}
+use Rattle.trim_refines.specs.Renumbered.{Numbering, PlaceSame, OperandsSame, TermSame, StmtsSame}
 use Rattle.trim_refines.proofs.Lifts.{operand_lift}
 use Rattle.trim_refines.proofs.Slots.{NonEmpty, slots_of, same_length}
 use Rattle.trim_refines.proofs.Twins.{one, once, once2, J, K, addr_back, Twin, Twins, Mems, blank_twin, hole_twin, value_twin, write_twin, store_twin, type_twin, resolve_twin, dest_twin, read_all_twin, read_number_twin, result_twin, exec_twin, gone_alone}

@@ -1,6 +1,5 @@
 -- Values and memories that are the same under a renumbering, both ways: a hole stands exactly where one stands.
-use Rattle.std.proofs.Common.{◌≡◌, ◌⊎◌, inl, inr, refl, sym, ap, ap₂, ◌∙◌, subst, ℕ, Bool, true, false, nat_eq, List, [], ◌∷◌, Option, Some, None, slice_get, arith}
-use Rattle.mir_syntax.specs.declared.body.Proj.TheVariants.{Field, Downcast}
+use Rattle.std.proofs.Common.{◌≡◌, refl, sym, ap, ap₂, ◌∙◌, subst, ℕ, Bool, true, false, nat_eq, List, [], Option, Some, None, slice_get, arith}
 use Rattle.mir_syntax.specs.declared.body.Place.{Place}
 use Rattle.mir_syntax.specs.declared.body.Operand.{Operand}
 use Rattle.mir_syntax.specs.Tree.{Tree}
@@ -9,12 +8,12 @@ use Rattle.mir_syntax.specs.Crate.{TypedStmt, assign, storage_live, storage_dead
 use Rattle.mir_semantics.specs.Values.{Addr, Value, number, nil, cons, variant, pointer, hole, is_hole, blank}
 use Rattle.mir_semantics.specs.Memory.{Memory, local_at, value_at, write}
 use Rattle.mir_semantics.specs.Step.{Dest, Here, local_addr, resolve, type_of, dest_of, store, read_at, read_all, read_number, set_blank, is_variant, write_unless, exec}
-use Rattle.mir_renaming.specs.Renaming.{Renaming, AddrRel, ValueRel, SomeRel}
+use Rattle.mir_renaming.specs.Renaming.{Renaming, AddrRel, ValueRel}
 use Rattle.mir_renaming.proofs.Memory.{bind_some, some_bind, value_at_rel, write_source, write_target}
 use Rattle.mir_renaming.proofs.Statements.{blank_rel, ValuesRel, Linked, DestRel, store_rel, write_linked, resolve_rel, read_at_rel, read_all_rel, read_number_rel, dest_rel, IsSet, exec_rel}
 use Rattle.mir_renaming.proofs.Ghosts.{in_function, with_frame, ren, ren_parts, ren_is, ren_once}
 use Rattle.trim_refines.specs.Renumbered.{Numbering, PlaceSame, OperandSame, OperandsSame, StmtSame, Gone}
-use Rattle.trim_refines.proofs.Lifts.{flip, place_flip, operand_flip, operands_flip, stmt_flip, place_lift, operand_lift, operands_lift, stmt_lift}
+use Rattle.trim_refines.proofs.Lifts.{flip, operand_flip, operands_flip, stmt_flip, place_lift, operand_lift, operands_lift, stmt_lift}
 
 pub one : {A : Type 0} {x y : A} → Some x ≡ Some y → x ≡ y
 one e = grind arith
