@@ -34,7 +34,13 @@ pub fn def_drops(alloc: Global, program: &Program) -> Result<DefDrops, OutOfMemo
     let destructors = destructors(alloc, program)?;
     let has_destructor = have_destructor(alloc, destructors.as_slice())?;
     let none = marks_of(alloc, program.defs.len(), false)?;
-    let needs_drop = spread(alloc, program, has_destructor.as_slice(), none, program.defs.len())?;
+    let needs_drop = spread(
+        alloc,
+        program,
+        has_destructor.as_slice(),
+        none,
+        program.defs.len(),
+    )?;
     Ok(DefDrops {
         destructors,
         has_destructor,

@@ -1,18 +1,16 @@
 -- What is told up to a bound tells whether a limit is passed.
-use Rattle.std.proofs.Common.{◌≡◌, List, ℕ, suc, ◌<◌, ◌≤◌, Bool, true, false, ◌||◌, nat_lt, length, slice_get, refl, sym, ap, ap₂, subst, ◌∙◌, arith, ltb-true}
+use Rattle.std.proofs.Common.{◌≡◌, List, ℕ, suc, ◌≤◌, Bool, true, false, ◌||◌, nat_lt, length, refl, sym, ap, ap₂, ◌∙◌, arith, ltb-true}
 use Rattle.std.proofs.lemmas.Bool.{lt-ltb, ltb-false, false_from_ne_true}
-use Rattle.mir_syntax.specs.declared.types.TyId.{TyId}
 use Rattle.mir_syntax.specs.declared.program.Program.{Program}
-use Rattle.mir_syntax.specs.Tree.{Tree, named, at_id, trees_of}
+use Rattle.mir_syntax.specs.Tree.{Tree}
 use Rattle.mir_syntax.specs.Crate.{crate_of}
 use Rattle.mir_syntax.specs.Shapes.{Shape, shapes_of}
-use Rattle.mir_rules.specs.Weights.{nodes, units, inside_by, inside_def}
+use Rattle.mir_rules.specs.Weights.{inside_by, inside_def}
 use Rattle.mir_rules.specs.Limits.{is_large_type}
 use Rattle.drop_tables.proofs.Destroying.{shapes_count}
 use Rattle.type_sizes.specs.UpTo.{Tells}
-use Rattle.type_sizes.specs.declared.measure.Measure.{Measure}
 use Rattle.type_sizes.specs.declared.measure.Measure.TheVariants.{Nodes, Units, Inside}
-use Rattle.type_sizes.specs.Measures.{most, size_by, level}
+use Rattle.type_sizes.specs.Measures.{size_by, level}
 use Rattle.type_sizes.proofs.Weighing.{nodes_are, units_are, inside_are}
 
 pub above : (limit told n : ℕ) → Tells (suc limit) told n → nat_lt limit told ≡ nat_lt limit n

@@ -1,14 +1,14 @@
 -- What is measured is what the limits count.
-use Rattle.std.proofs.Common.{◌≡◌, ℕ, zero, suc, ◌+◌, Bool, true, false, List, [], ◌∷◌, ◌++◌, map, length, Option, None, Some, is_some, slice_get, refl, sym, ap, ap₂, ◌∙◌, arith}
+use Rattle.std.proofs.Common.{◌≡◌, ℕ, zero, suc, ◌+◌, Bool, true, false, List, map, length, Option, None, Some, is_some, slice_get, refl, sym, ap, ap₂, ◌∙◌}
 use Rattle.std.specs.Prelude.{sum_by}
 use Rattle.std.proofs.Math.Path.{fun_ext}
 use Rattle.std.proofs.lemmas.List.{length-append, length-map}
 use Rattle.mir_syntax.specs.declared.body.Proj.{Proj}
 use Rattle.mir_syntax.specs.Tree.{Tree, more, named}
 use Rattle.mir_syntax.specs.Shapes.{Shape, first_variant, needs_drop}
-use Rattle.mir_rules.specs.Weights.{nodes_by, nodes_of_variants, nodes_of, nodes_def, nodes, under, units_from, one_unit, units_of_parts, units_of_shape, units_of, units_def, units, counted, inside_by, inside_variants, inside_of, inside_def}
+use Rattle.mir_rules.specs.Weights.{nodes_by, nodes_of_variants, nodes_of, nodes_def, nodes, under, units_from, units_of_shape, units_of, units_def, units, counted, inside_by, inside_variants, inside_of, inside_def}
 use Rattle.type_sizes.specs.declared.measure.Measure.TheVariants.{Nodes, Units, Inside}
-use Rattle.type_sizes.specs.Measures.{size_by, variant_size, shape_size, with_destructor, whole, level}
+use Rattle.type_sizes.specs.Measures.{size_by, shape_size, with_destructor, whole, level}
 
 module _ (D : List Shape) where
   -- ---- nodes

@@ -1,5 +1,5 @@
 -- What is known of the sizes of a program's types.
-use Rattle.std.specs.Prelude.{◌≡◌, ℕ, ◌≤◌, length}
+use Rattle.std.specs.Prelude.{◌≡◌, length}
 use Rattle.mir_syntax.specs.declared.program.Program.{Program}
 use Rattle.mir_syntax.specs.Tree.{trees_of}
 use Rattle.mir_syntax.specs.Crate.{crate_of}
@@ -8,7 +8,7 @@ use Rattle.type_sizes.specs.declared.measure.Measure.{Measure}
 use Rattle.type_sizes.specs.declared.measure.Measure.TheVariants.{Nodes, Units, Inside}
 use Rattle.type_sizes.specs.declared.weights.Measured.{Measured}
 use Rattle.type_sizes.specs.declared.weights.Sizes.{Sizes}
-use Rattle.type_sizes.specs.Measures.{most, told, level, Told, TypesTold}
+use Rattle.type_sizes.specs.Measures.{level, Told, TypesTold}
 
 -- of each definition and of each type of the table it is told what is measured
 pub record IsMeasured (p : Program) (m : Measure) (x : Measured) : Type 0 where

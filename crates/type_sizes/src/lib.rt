@@ -7,7 +7,6 @@
 #![tactic(auto)]
 
 mod measure;
-
 mod sizing;
 mod tables;
 mod weights;

@@ -30,13 +30,7 @@ impl Sizing<'_> {
         ensures tells { (n : ℕ) → Tells (most self.now.measure) size n → Tells (most self.now.measure) result (part self.now.measure needs n) }
     {
         match self.measure {
-            Measure::Inside => {
-                if needs {
-                    add(10001, size, 1)
-                } else {
-                    0
-                }
-            }
+            Measure::Inside => { if needs { add(10001, size, 1) } else { 0 } }
             _ => size,
         }
     }

@@ -32,13 +32,7 @@ fn enum_size(measure: Measure, needs: bool, inside: u32) -> u32
 {
     match measure {
         Measure::Nodes => crate::measure::add(1025, inside, 1),
-        Measure::Units => {
-            if needs {
-                1
-            } else {
-                0
-            }
-        }
+        Measure::Units => { if needs { 1 } else { 0 } }
         Measure::Inside => inside,
     }
 }
@@ -49,13 +43,7 @@ fn with_destructor(measure: Measure, has: bool, inside: u32) -> u32
     ensures tells { (n : ℕ) → Tells (most measure) inside n → Tells (most measure) result (with_destructor measure has n) }
 {
     match measure {
-        Measure::Units => {
-            if has {
-                1
-            } else {
-                inside
-            }
-        }
+        Measure::Units => { if has { 1 } else { inside } }
         _ => inside,
     }
 }

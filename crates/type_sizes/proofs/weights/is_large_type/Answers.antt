@@ -1,9 +1,8 @@
-use Rattle.std.proofs.Common.{◌≡◌, ℕ, ◌<◌, true, false, length, refl, sym, ap, ap₂, subst, ◌∙◌, arith}
-use Rattle.mir_syntax.specs.Tree.{named, at_id, trees_of}
+use Rattle.std.proofs.Common.{length, sym, ap, subst, ◌∙◌, arith}
+use Rattle.mir_syntax.specs.Tree.{at_id, trees_of}
 use Rattle.mir_syntax.specs.Crate.{crate_of}
-use Rattle.mir_syntax.specs.Shapes.{shapes_of, needs_drop}
-use Rattle.mir_rules.specs.Weights.{counted, inside_by, inside_def, drop_weight}
-use Rattle.type_sizes.specs.declared.measure.Measure.TheVariants.{Nodes, Units, Inside}
+use Rattle.mir_syntax.specs.Shapes.{shapes_of}
+use Rattle.type_sizes.specs.declared.measure.Measure.TheVariants.{Nodes, Units}
 use Rattle.type_sizes.specs.UpTo.{Tells}
 use Rattle.type_sizes.specs.Measures.{told, level, size_by}
 use Rattle.type_sizes.proofs.Large.{large}

@@ -1,4 +1,4 @@
-use Rattle.std.proofs.Common.{ℕ, map, sum_by}
+use Rattle.std.proofs.Common.{map, sum_by}
 use Rattle.mir_syntax.specs.Tree.{trees_of}
 use Rattle.mir_syntax.specs.Crate.{crate_of, variant_of}
 use Rattle.mir_syntax.specs.Shapes.{shapes_of, fields_tuple}
