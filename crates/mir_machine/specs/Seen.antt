@@ -59,3 +59,7 @@ begun h m p b = do
   a ← sem.resolve h m p
   t ← sem.type_of h p
   Some (record { place = record { addr = a; ty = t }; target = b; items = record { addr = a; ty = t } ∷ [] })
+
+-- a step of the drop of a place
+abbrev pub dropped : sem.Code → sem.Here → sem.State → Place → ℕ → Option sem.Next
+dropped C h s p b = sem.begun h s p b s.top.dropping >>= λ d. sem.work_off C s d d.items

@@ -1,4 +1,4 @@
-ghost use Rattle.std.specs.Prelude.{◌≡◌, ◌<◌, ◌-◌, ◌^◌, IsTrue};
+ghost use Rattle.std.specs.Prelude.{◌≡◌, ◌<◌, ◌-◌, ◌^◌, IsTrue, option_map};
 ghost use Rattle.mir_syntax.specs.declared.program.Program.{Program};
 ghost use Rattle.mir_syntax.specs.Drops.{KnowsDrops};
 ghost use Rattle.mir_rules.specs.Formed.{path_formed};
@@ -7,10 +7,10 @@ ghost use Rattle.mir_semantics.specs.Step.{on, variant_in};
 ghost use Rattle.mir_semantics.specs.Values.{Value};
 ghost use Rattle.mir_syntax.specs.Shapes.{destructor_of};
 ghost use Rattle.mir_meaning.specs.Programs.{shapes_in, type_in};
-ghost use Rattle.mir_meaning.specs.Views.{memory_of};
+ghost use Rattle.mir_meaning.specs.Views.{addr_of, memory_of};
 ghost use Rattle.mir_meaning.specs.Sight.{here_of};
 ghost use Rattle.mir_meaning.specs.Gives.{Gives};
-ghost use Rattle.mir_machine.specs.Seen.{code_in, visit_in, control_in, dropping_in, items_in, state_in, begun};
+ghost use Rattle.mir_machine.specs.Seen.{code_in, visit_in, control_in, dropping_in, items_in, state_in, begun, dropped};
 
 use crate::control::{Dropping, Visit};
 use crate::machine::Machine;
@@ -21,8 +21,9 @@ use mir_meaning::here::Here;
 use mir_meaning::memory::Memory;
 use mir_meaning::stop::Stop;
 use mir_meaning::types::{destructor, needs_drop};
-use mir_syntax::{List, Place, Program};
+use mir_syntax::{List, Place, Program, Ty};
 use std::alloc::Global;
+use std::mem;
 
 /// A drop begins with the visit of its place.
 pub fn begin(alloc: Global, here: Here<'_>, memory: &Memory, place: &Place, target: u32) -> Result<Dropping, Stop>
@@ -44,6 +45,28 @@ pub fn begin(alloc: Global, here: Here<'_>, memory: &Memory, place: &Place, targ
         target,
         items,
     })
+}
+
+/// What a destructor left at its place, as far as its fields need it: which variant of an enum is active.
+fn active_left(program: &Program, memory: &Memory, visit: &Visit) -> Result<Option<u32>, Stop>
+    ensures { Gives result (option_map variant_in (sem.left_at (shapes_in program.now) (memory_of memory.now) (addr_of visit.now.at) (type_in program.now visit.now.ty))) (λ active. active) }
+{
+    let Some(ty) = program.ty_at(visit.ty) else {
+        return Ok(None);
+    };
+    let Ty::Named(def) = ty else {
+        return Ok(None);
+    };
+    let Some(def) = program.defs.get(*def as usize) else {
+        return Ok(None);
+    };
+    if !def.is_enum {
+        return Ok(None);
+    }
+    let Some(part) = memory.behind(&visit.at) else {
+        return Err(Stop::Undefined);
+    };
+    Ok(part.variant())
 }
 
 impl Machine {
@@ -125,5 +148,45 @@ impl Machine {
         }
         let active = part.variant();
         self.visit(alloc, program, dropping, item, active)
+    }
+
+    /// A step of the drop of a place.
+    pub fn drop_step(&mut self, alloc: Global, here: Here<'_>, place: &Place, target: u32) -> Result<(), Stop>
+        requires formed { IsTrue (path_formed place.now.proj) }
+        requires knows { KnowsDrops here.program.now }
+        requires room { self.old.next < 2 ^ 64 - 1 }
+        ensures goes { Gives result
+            (dropped (code_in here.entry.program.now) (here_of here.entry) (state_in here.entry.program.now self.old) place.now target)
+            (λ _. on (state_in here.entry.program.now self.new)) }
+        ensures trace { self.new.trace ≡ self.old.trace }
+    {
+        let begun = mem::replace(&mut self.top.dropping, None);
+        match begun {
+            Some(dropping) => self.work_off(alloc, here.program, dropping),
+            None => {
+                let first = begin(alloc, here, &self.memory, place, target)?;
+                self.work_off(alloc, here.program, first)
+            }
+        }
+    }
+
+    /// A destructor has returned: the fields of its place come next, as they are now.
+    pub fn destroyed(&mut self, alloc: Global, program: &Program) -> Result<(), Stop>
+        requires { KnowsDrops program.now }
+        ensures goes { Gives result
+            (sem.destroyed (shapes_in program.now) (state_in program.now self.old) (control_in program.now self.old.top))
+            (λ _. on (state_in program.now self.new)) }
+        ensures trace { self.new.trace ≡ self.old.trace }
+    {
+        let begun = mem::replace(&mut self.top.dropping, None);
+        let Some(mut dropping) = begun else {
+            return Err(Stop::Undefined);
+        };
+        let Some(item) = dropping.items.pop() else {
+            return Err(Stop::Undefined);
+        };
+        let active = active_left(program, &self.memory, &item)?;
+        push_visits(alloc, program, &mut dropping.items, &item, active)?;
+        self.work_on(alloc, program, dropping)
     }
 }

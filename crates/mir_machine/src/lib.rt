@@ -6,5 +6,6 @@ mod control;
 mod dest;
 mod drops;
 mod machine;
+mod numbers;
 mod slots;
 mod visits;

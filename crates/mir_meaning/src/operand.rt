@@ -106,7 +106,7 @@ pub fn read_all(
 }
 
 #[tactic(auto, using(crate::proofs::Operands::parts_number))]
-fn number_of(datum: &Datum) -> Option<u128>
+pub fn number_of(datum: &Datum) -> Option<u128>
     ensures { result ≡ number_in (value_of datum.now) }
 {
     match datum {
