@@ -17,7 +17,7 @@ use Rattle.mir_text.specs.Nesting.{OperandGood, NamedGood, PartsGood}
 use Rattle.mir_text.specs.TypeText.{no_def, def_at}
 use Rattle.mir_text.specs.PlaceText.{no_variant, variant_at}
 use Rattle.mir_round_trip.specs.Names.{crate_paths, IsDef}
-use Rattle.mir_round_trip.specs.Bodies.{names_at, IsOperand, AreFields, IsOne, IsBuild}
+use Rattle.mir_round_trip.specs.Bodies.{AreAsMany, names_at, IsOperand, AreFields, IsOne, IsBuild}
 use Rattle.mir_round_trip.proofs.Spelling.{all-map}
 use Rattle.mir_round_trip.proofs.Paths.{path_rule, Back, path_back, with_last, last-name, without-last, last-bytes}
 use Rattle.mir_round_trip.proofs.Meaning.{Kept, met}
@@ -112,7 +112,7 @@ no-parts [] n h e = refl
 no-parts (x ∷ xs) n h e = absurd (omega arith)
 
 parts-back : (c : Crate) (strings : Strings) (L : Declared) (locals : List Tree) → Setting c strings L locals → (form : Form) (fs : List TypedField) (xs : List Operand) → AreFields form fs
-    → length xs ≡ length fs → AllOf (IsOperand c locals) xs → parts_named (names_at c strings) L (parts_rule c strings locals form fs xs) ≡ xs
+    → AreAsMany form (length xs) (length fs) → AllOf (IsOperand c locals) xs → parts_named (names_at c strings) L (parts_rule c strings locals form fs xs) ≡ xs
 parts-back c strings L locals set form.Unit fs xs is e h = no-parts xs (length fs) e (ap length is)
 parts-back c strings L locals set form.Tuple fs xs is e h = operands-back c strings L locals set xs h
 parts-back c strings L locals set form.Named fs xs is e h =
@@ -138,7 +138,7 @@ names-beside strings (f ∷ fs) [] e h = absurd (omega arith)
 names-beside strings (f ∷ fs) (x ∷ xs) e h =
     ap (λ l. l ∷ map (λ y. string_at strings (number_in strings y.0.name)) (side_by_side fs xs)) h.0 ∙ ap (λ l. f.name ∷ l) (names-beside strings fs xs (omega arith) h.1)
 
-form-fits : (c : Crate) (strings : Strings) (locals : List Tree) (form : Form) (fs : List TypedField) (xs : List Operand) → length xs ≡ length fs → AllOf (Back strings) (field_names fs)
+form-fits : (c : Crate) (strings : Strings) (locals : List Tree) (form : Form) (fs : List TypedField) (xs : List Operand) → AreAsMany form (length xs) (length fs) → AllOf (Back strings) (field_names fs)
     → has_form (names_at c strings) form fs (parts_rule c strings locals form fs xs) ≡ true
 form-fits c strings locals form.Unit fs xs e h = refl
 form-fits c strings locals form.Tuple fs xs e h = refl

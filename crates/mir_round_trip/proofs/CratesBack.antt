@@ -99,7 +99,7 @@ defs-file c strings =
     (two-same (λ a b. a ++ b) (concat-none (λ o. def_in (outside_item c strings o)) c.outsides (all-of (λ o. refl) c.outsides)) (concat-none (λ f. def_in (fn_item c strings f)) c.functions (all-of (λ f. refl) c.functions)))
     ∙ append-nil (map (def_rule c strings) c.defs)
 
-map-same : {A B : Type 0} (f g : A → B) (xs : List A) → AllOf (λ x. f x ≡ g x) xs → map f xs ≡ map g xs
+pub map-same : {A B : Type 0} (f g : A → B) (xs : List A) → AllOf (λ x. f x ≡ g x) xs → map f xs ≡ map g xs
 map-same f g [] h = refl
 map-same f g (x ∷ xs) h = two-same (λ a b. a ∷ b) h.0 (map-same f g xs h.1)
 
@@ -150,7 +150,7 @@ outsides-file c strings h parts =
     (two-same (λ a b. a ++ b) (out-paths c strings c.outsides h.outsides parts.outsides) (concat-none (λ f. outside_path_in strings (fn_item c strings f)) c.functions (all-of (λ f. refl) c.functions)))
     ∙ append-nil (outside_paths c.outsides)
 
-as-names : (strings : Strings) (a x : List (List ℕ)) (b y : List TypedDef) (d z : List (List ℕ)) (e w : List (List ℕ)) → a ≡ x → b ≡ y → d ≡ z → e ≡ w
+pub as-names : (strings : Strings) (a x : List (List ℕ)) (b y : List TypedDef) (d z : List (List ℕ)) (e w : List (List ℕ)) → a ≡ x → b ≡ y → d ≡ z → e ≡ w
     → ◌≡◌ {A = Names} (record { strings = strings; paths = a; defs = b; shapes = shapes_from [] 0 b; functions = d; outsides = e })
     (record { strings = strings; paths = x; defs = y; shapes = shapes_from [] 0 y; functions = z; outsides = w })
 as-names strings a x b y d z e w h k l o =

@@ -24,3 +24,17 @@ pub mod DefinitionsBack
 pub mod Crates
 pub mod CratesBack
 pub mod ReadBack
+pub mod Nice
+pub mod Carried
+pub mod TypesWritten
+pub mod PlacesWritten
+pub mod OperandsWritten
+pub mod BodiesWritten
+pub mod PlaceTypes
+pub mod PlacesRead
+pub mod LocalsWritten
+pub mod FunctionsWritten
+pub mod DefinitionsWritten
+pub mod ValidParts
+pub mod PathsApart
+pub mod Accepted

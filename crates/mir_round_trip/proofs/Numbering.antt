@@ -94,7 +94,7 @@ numbers_final ps = symbols-known grammar_names 1 ps
 -- ---- back from numbers to byte strings
 
 -- what stands at a place that was found
-abbrev StandsAt : Strings → List ℕ → ℕ → ℕ → Type 0
+abbrev pub StandsAt : Strings → List ℕ → ℕ → ℕ → Type 0
 StandsAt strings bytes k n = (j : ℕ) × (n ≡ k + j) × (get_or strings j [] ≡ bytes)
 
 at-step : (k n : ℕ) (x : List ℕ) (strings : Strings) (bytes : List ℕ) (b : Bool) → (place_from (suc k) strings bytes ≡ Some n → StandsAt strings bytes (suc k) n)
@@ -108,7 +108,7 @@ at-step k n x strings bytes false later e h =
     let p = later first in
     (suc p.0, omega (arith, p.1), p.2)
 
-stands-at : (k n : ℕ) (strings : Strings) (bytes : List ℕ) → place_from k strings bytes ≡ Some n → StandsAt strings bytes k n
+pub stands-at : (k n : ℕ) (strings : Strings) (bytes : List ℕ) → place_from k strings bytes ≡ Some n → StandsAt strings bytes k n
 stands-at k n [] bytes h = absurd cc
 stands-at k n (x ∷ strings) bytes h = at-step k n x strings bytes (bytes_eq x bytes) (stands-at (suc k) n strings bytes) refl h
 

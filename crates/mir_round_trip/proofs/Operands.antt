@@ -31,7 +31,7 @@ use Rattle.mir_round_trip.proofs.PlacesBack.{Setting, place_back, place_faultles
 -- ---- the numbers of a type
 
 -- half of a type's numbers, twice, are all; they are at most 2^128
-halves : (t : IntTy) → (count t ≡ half t + half t) × (count t ≤ 2 ^ 128) × (0 < half t)
+pub halves : (t : IntTy) → (count t ≡ half t + half t) × (count t ≤ 2 ^ 128) × (0 < half t)
 halves i.I8 = (refl, lit≤ tt, lit< tt)
 halves i.I16 = (refl, lit≤ tt, lit< tt)
 halves i.I32 = (refl, lit≤ tt, lit< tt)

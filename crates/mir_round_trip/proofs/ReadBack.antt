@@ -26,7 +26,7 @@ use Rattle.mir_round_trip.proofs.CratesBack.{names-file, crate-back, file-good, 
 
 -- ---- no path is defined twice
 
-any-same : (a : Defined) (before : List Defined) → any_clashes a before ≡ any_clashes (unlined a) (map unlined before)
+pub any-same : (a : Defined) (before : List Defined) → any_clashes a before ≡ any_clashes (unlined a) (map unlined before)
 any-same a [] = refl
 any-same a (b ∷ bs) = ap (λ x. clashes a b || x) (any-same a bs)
 
@@ -59,7 +59,7 @@ all-defined names [] (d ∷ ds) h lines = absurd h
 all-defined names (x ∷ xs) [] h lines = absurd h
 all-defined names (x ∷ xs) (d ∷ ds) h lines = two-same (λ a b. a ∷ b) (h.0 lines) (all-defined names xs ds h.1 (past item_put x lines))
 
-as-defined : (t b : Bool) (p q : List ℕ) (vs ws : List (List ℕ)) → p ≡ q → vs ≡ ws
+pub as-defined : (t b : Bool) (p q : List ℕ) (vs ws : List (List ℕ)) → p ≡ q → vs ≡ ws
     → ◌≡◌ {A = Defined} (record { line = 0; is_type = t; is_struct = b; path = p; variants = vs }) (record { line = 0; is_type = t; is_struct = b; path = q; variants = ws })
 as-defined t b p q vs ws h k = two-same (λ u v. let r : Defined = record { line = 0; is_type = t; is_struct = b; path = u; variants = v } in r) h k
 

@@ -191,7 +191,7 @@ mutual
 
 -- ---- how deep it nests
 
-max-zero : (n : ℕ) → n ≡ max n 0
+pub max-zero : (n : ℕ) → n ≡ max n 0
 max-zero n = grind arith
 
 join-depth : (u : TypeRule) (us : TypesRule) → types_depth (join_type u us) ≡ max (type_depth u) (types_depth us)

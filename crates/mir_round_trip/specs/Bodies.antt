@@ -110,12 +110,18 @@ IsOne c d k true =
     × ((strings : Strings) → (place_in (crate_paths c) ((def_at c d).path ++ (codes "::" ++ (variant_at c d k).name)) >>= struct_at (names_at c strings)) ≡ None)
 IsOne c d k false = k ≡ 0
 
+-- a build has as many operands as fields; in the form of a tuple the rules on types say so
+abbrev pub AreAsMany : Form → ℕ → ℕ → Type 0
+AreAsMany form.Tuple m n = Unit {0}
+AreAsMany form.Unit m n = m ≡ n
+AreAsMany form.Named m n = m ≡ n
+
 pub record IsBuild (c : Crate) (locals : List Tree) (d k : ℕ) (xs : List Operand) : Type 0 where
   pub def : IsDef c d
   pub one : k < length (def_at c d).variants
   pub named : IsOne c d k (def_at c d).is_enum
   pub fields : AreFields (variant_at c d k).form (variant_at c d k).fields
-  pub count : length xs ≡ length (variant_at c d k).fields
+  pub count : AreAsMany (variant_at c d k).form (length xs) (length (variant_at c d k).fields)
   pub operands : AllOf (IsOperand c locals) xs
 
 abbrev pub AreParts : Crate → List Tree → List Operand → Type 0
