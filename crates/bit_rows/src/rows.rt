@@ -75,6 +75,14 @@ impl BitRows {
         (word >> (bit % 64)) & 1 == 1
     }
 
+    /// The bit of a row; false past its end.
+    pub fn has(&self, row: u32, bit: u32) -> bool
+        requires { row < length self.now }
+        ensures { result ≡ flag self.now row bit }
+    {
+        bit < self.bits && self.get(row, bit)
+    }
+
     /// Sets a bit of a row, or clears it.
     pub fn set(&mut self, row: u32, bit: u32, on: bool)
         requires row_in { row < length self.old }
@@ -158,6 +166,17 @@ impl BitRows {
         ensures changed { IsTrue result ↔ (self.new ≢ self.old) }
     {
         self.mix_other(Mix::Copy, into, others, from)
+    }
+
+    /// Clears in a row each bit that is set in a row of other rows. True exactly where the row changed.
+    pub fn minus_other(&mut self, into: u32, others: &BitRows, from: u32) -> bool
+        requires into_in { into < length self.old }
+        requires from_in { from < length others.now }
+        requires same_bits { length (row_at self.old into) ≡ length (row_at others.now from) }
+        ensures row { self.new ≡ set self.old into (zip2 and_not (row_at self.old into) (row_at others.now from)) }
+        ensures changed { IsTrue result ↔ (self.new ≢ self.old) }
+    {
+        self.mix_other(Mix::Minus, into, others, from)
     }
 
     fn mix(&mut self, mix: Mix, into: u32, from: u32) -> bool

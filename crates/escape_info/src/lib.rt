@@ -18,7 +18,8 @@ use bit_rows::BitRows;
 use mir_syntax::{Body, OutOfMemory, Place, Program, Proj, Rvalue, Stmt, Term};
 use std::alloc::Global;
 
-fn is_behind_a_reference(place: &Place) -> bool
+/// Whether a place has a dereference.
+pub fn is_behind_a_reference(place: &Place) -> bool
     ensures { result ≡ has_deref place.now.proj }
 {
     for proj in place.proj.as_slice() {

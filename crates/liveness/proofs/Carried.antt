@@ -1,17 +1,19 @@
 -- A row of live locals that is carried over a statement.
-use Rattle.std.proofs.Common.{◌≡◌, refl, sym, ap, ap₂, ◌∙◌, ℕ, ◌<◌, List, [], ◌∷◌, ◌++◌, Bool, map, length, get_or, set, arith}
+use Rattle.std.proofs.Common.{◌≡◌, refl, sym, ap, ap₂, ◌∙◌, ℕ, suc, ◌+◌, ◌<◌, List, [], ◌∷◌, ◌++◌, Bool, map, drop, length, get_or, set, arith, drop-cons}
 use Rattle.std.specs.List.{flat_map}
-use Rattle.std.proofs.lemmas.List.{map-append, append-nil, set-set, length-set, get_or-set_same}
+use Rattle.std.proofs.lemmas.List.{map-append, append-nil, set-set, length-set, get_or-set_same, set-get_or}
 use Rattle.bit_rows.specs.Rows.{row_at, marked}
 use Rattle.bit_rows.proofs.Marks.{marked-append}
 use Rattle.mir_syntax.specs.declared.body.Operand.{Operand}
 use Rattle.mir_syntax.specs.declared.body.Rvalue.{Rvalue}
 use Rattle.mir_syntax.specs.declared.body.Rvalue.TheVariants as rvalue
 use Rattle.mir_syntax.specs.Tree.{Tree}
-use Rattle.mir_syntax.specs.Crate.{rvalue_of}
+use Rattle.mir_syntax.specs.declared.body.Stmt.{Stmt}
+use Rattle.mir_syntax.specs.declared.body.Stmt.TheVariants as stmt
+use Rattle.mir_syntax.specs.Crate.{TypedStmt, rvalue_of, stmt_of}
 use Rattle.mir_rules.specs.Parts.{operand_places, rvalue_places}
-use Rattle.liveness.specs.Live.{place_local, operand_locals}
-use Rattle.liveness.specs.Rows.{cleared, bare_rvalue_reads}
+use Rattle.liveness.specs.Live.{place_local, operand_locals, stmt_fills}
+use Rattle.liveness.specs.Rows.{cleared, before_stmt, before_all, bare_rvalue_reads, bare_fills}
 
 two : (a b : Operand) → map place_local (operand_places a ++ (operand_places b ++ [])) ≡ operand_locals a ++ operand_locals b
 two a b = ap (λ ps. map place_local (operand_places a ++ ps)) (append-nil (operand_places b)) ∙ map-append place_local (operand_places a) (operand_places b)
@@ -42,3 +44,27 @@ row_then rows rows2 rows3 r f g l e h =
     h ∙ ap (λ t. set t r (g (row_at t r))) e
     ∙ ap (λ row. set (set rows r (f (row_at rows r))) r (g row)) (get_or-set_same rows r (f (row_at rows r)) [] l)
     ∙ set-set rows r (f (row_at rows r)) (g (f (row_at rows r)))
+
+-- statements are carried over from the last one on
+pub back_more : (f : Stmt → TypedStmt) (stmts : List Stmt) (at : ℕ) (d : Stmt) (rows now next : List (List Bool)) (row : ℕ) → at < length stmts → row < length rows → now ≡ set rows row (before_all (map f (drop (at + 1) stmts)) (row_at rows row)) → next ≡ set now row (before_stmt (f (get_or stmts at d)) (row_at now row)) → next ≡ set rows row (before_all (map f (drop at stmts)) (row_at rows row))
+back_more f stmts at d rows now next row l low e h =
+    row_then rows now next row (before_all (map f (drop (at + 1) stmts))) (before_stmt (f (get_or stmts at d))) low e h
+    ∙ ap (λ (ss : List Stmt). set rows row (before_all (map f ss) (row_at rows row))) (sym (drop-cons stmts at d l ∙ ap (λ (n : ℕ). get_or stmts at d ∷ drop n stmts) (let z : suc at ≡ at + 1 = omega arith in z)))
+
+pub back_none : (f : Stmt → TypedStmt) (stmts : List Stmt) (rows : List (List Bool)) (row : ℕ) → rows ≡ set rows row (before_all (map f (drop (length stmts) stmts)) (row_at rows row))
+back_none f stmts rows row = sym (ap (λ (ss : List Stmt). set rows row (before_all (map f ss) (row_at rows row))) (drop_all stmts) ∙ set-get_or rows row [])
+  where
+    drop_all : (ss : List Stmt) → drop (length ss) ss ≡ []
+    drop_all [] = refl
+    drop_all (s ∷ ss) = drop_all ss
+
+-- what statements fill is the same with and without ids
+pub fills_same : (trees : List Tree) (stmts : List Stmt) → flat_map bare_fills stmts ≡ flat_map stmt_fills (map (stmt_of trees) stmts)
+fills_same trees [] = refl
+fills_same trees (s ∷ stmts) = ap₂ (λ xs ys. xs ++ ys) (one_same s) (fills_same trees stmts)
+  where
+    one_same : (s : Stmt) → bare_fills s ≡ stmt_fills (stmt_of trees s)
+    one_same (stmt.Assign p r) = refl
+    one_same (stmt.StorageLive x) = refl
+    one_same (stmt.StorageDead x) = refl
+    one_same (stmt.SetDiscriminant p k) = refl

@@ -1,2 +1,8 @@
 pub mod Carried
 pub mod Paths
+pub mod Through
+pub mod Solved
+pub mod Filling
+pub mod Destructors
+pub mod Ends
+pub mod Whole

@@ -1,2 +1,5 @@
 pub mod Live
 pub mod Rows
+pub mod Facts
+pub mod Bits
+pub mod Lattice

@@ -1,38 +1,19 @@
 -- Which locals are live: some path reads them before it writes the whole of them.
-use Rattle.std.specs.Prelude.{◌≡◌, ◌⊎◌, ℕ, zero, suc, Bool, true, false, ◌&&◌, ◌||◌, not, if◌then◌else◌, List, [], ◌∷◌, ◌++◌, map, take, length, Option, Some, None, is_some, slice_get}
-use Rattle.std.specs.List.{Contains, list_any, flat_map, range_with_len}
+use Rattle.std.specs.Prelude.{◌≡◌, ◌⊎◌, ℕ, zero, suc, if◌then◌else◌, List, [], ◌∷◌, ◌++◌, map, Option, Some, None, slice_get}
+use Rattle.std.specs.List.{Contains, flat_map}
 use Rattle.mir_syntax.specs.declared.body.Proj.{Proj}
-use Rattle.mir_syntax.specs.declared.body.Proj.TheVariants.{Field}
 use Rattle.mir_syntax.specs.declared.body.Place.{Place}
 use Rattle.mir_syntax.specs.declared.body.Operand.{Operand}
 use Rattle.mir_syntax.specs.declared.body.Term.{Term}
 use Rattle.mir_syntax.specs.declared.body.Term.TheVariants as term
 use Rattle.mir_syntax.specs.Tree.{Tree}
 use Rattle.mir_syntax.specs.Crate.{TypedStmt, assign, storage_live, storage_dead, set_discriminant, TypedBlock, TypedBody}
-use Rattle.mir_syntax.specs.Shapes.{Shape, whole_place_ty, destructor_of}
+use Rattle.mir_syntax.specs.Shapes.{Shape}
 use Rattle.mir_rules.specs.Parts.{is_direct, operand_places, rvalue_places, targets}
+use Rattle.mir_rules.specs.BodyRules.{goes_through_destructor}
 
 abbrev pub place_local : Place → ℕ
 place_local p = p.local
-
-abbrev pub is_field : Option Proj → Bool
-is_field (Some (Field i)) = true
-is_field _ = false
-
-abbrev pub has_destructor : List Shape → Option Tree → Bool
-has_destructor D None = false
-has_destructor D (Some t) = is_some (destructor_of D t)
-
-abbrev pub front_of : Place → ℕ → Place
-front_of p k = record { local = p.local; proj = take k p.proj }
-
--- whether step k of a place goes into a field of a type with a destructor
-abbrev pub enters_destructor : List Shape → List Tree → Place → ℕ → Bool
-enters_destructor D locals p k = is_field (slice_get p.proj k) && has_destructor D (whole_place_ty D locals (front_of p k))
-
--- whether a place goes through a field of a type with a destructor
-abbrev pub through_destructor : List Shape → List Tree → Place → Bool
-through_destructor D locals p = list_any (enters_destructor D locals p) (range_with_len 0 (length p.proj))
 
 -- the locals that are read
 
@@ -51,7 +32,7 @@ stmt_reads (set_discriminant p k) = p.local ∷ []
 
 -- the place of a call's result is read where it goes through a field of a type with a destructor, too
 abbrev pub result_reads : List Shape → List Tree → Place → List ℕ
-result_reads D locals p = if through_destructor D locals p then p.local ∷ [] else written_reads p
+result_reads D locals p = if goes_through_destructor D locals p then p.local ∷ [] else written_reads p
 
 abbrev pub term_reads : List Shape → List Tree → Term → List ℕ
 term_reads D locals (term.Goto next) = []

@@ -22,7 +22,8 @@ pub(crate) fn is_direct(place: &Place) -> bool
     true
 }
 
-pub(crate) fn read_operand(operand: &Operand, rows: &mut BitRows, row: u32)
+/// Adds to a row the local that an operand reads.
+pub fn read_operand(operand: &Operand, rows: &mut BitRows, row: u32)
     requires { row < length rows.old }
     ensures { rows.new ≡ set rows.old row (marked (row_at rows.old row) (operand_locals operand.now)) }
 {
@@ -33,7 +34,8 @@ pub(crate) fn read_operand(operand: &Operand, rows: &mut BitRows, row: u32)
     }
 }
 
-pub(crate) fn read_operands(operands: &[Operand], rows: &mut BitRows, row: u32)
+/// Adds to a row the locals that operands read.
+pub fn read_operands(operands: &[Operand], rows: &mut BitRows, row: u32)
     requires { row < length rows.old }
     ensures { rows.new ≡ set rows.old row (marked (row_at rows.old row) (flat_map operand_locals operands.now)) }
 {
@@ -50,7 +52,8 @@ fn read_both(a: &Operand, b: &Operand, rows: &mut BitRows, row: u32)
     read_operand(b, rows, row);
 }
 
-fn read_rvalue(rvalue: &Rvalue, rows: &mut BitRows, row: u32)
+/// Adds to a row the locals that an rvalue reads.
+pub fn read_rvalue(rvalue: &Rvalue, rows: &mut BitRows, row: u32)
     requires { row < length rows.old }
     ensures { rows.new ≡ set rows.old row (marked (row_at rows.old row) (bare_rvalue_reads rvalue.now)) }
 {

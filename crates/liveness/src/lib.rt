@@ -1,9 +1,16 @@
 //! Which locals are live: some path reads them before it writes the whole of them.
 //!
-//! The definition is `Live` of `specs/Live.antt`, by paths. `back` carries a row of live locals over a statement, from behind it to before it
-//! (`before_stmt` of `specs/Rows.antt`), and takes no memory.
+//! The definition is `Live` of `specs/Live.antt`, by paths. `live` gives of each block the locals that are live before its first statement and
+//! before its terminator, exactly those of `Live`, by the least solution of a flow problem. `back` carries a row of live locals over a
+//! statement, from behind it to before it (`before_stmt` of `specs/Rows.antt`), and takes no memory.
 #![tactic(auto)]
 
 mod backward;
+mod effects;
+mod flow;
+mod rows;
+mod terminator;
+mod turned;
 
-pub use backward::back;
+pub use backward::{back, read_operand, read_operands, read_rvalue};
+pub use rows::{LiveRows, live};

@@ -19,9 +19,9 @@ use Rattle.mir_parse.specs.Signs.{local, colon, semicolon, this_name, close, ope
 use Rattle.mir_parse.proofs.Laws.{small_number-complete}
 use Rattle.mir_parse.proofs.PathsRead.{path-complete}
 use Rattle.mir_parse.proofs.TypesRead.{type-complete}
-use Rattle.mir_items.specs.Lines.{line_of}
+use Rattle.mir_items.specs.Lines.{line_of, lines_at}
 use Rattle.mir_items.specs.Decls.{arg_at, with_line, mut_past, let_end, let_at, debug_end, inlined, scope_front as scope_front_at, ParseLets, scope_with, decl_turn, decls_from, scope_at, decls_at}
-use Rattle.mir_items.proofs.Sizes.{decl_size, scope_size, lines_at, first-line, lines-past}
+use Rattle.mir_items.proofs.Sizes.{decl_size, scope_size, first-line, lines-past}
 
 -- ---- arguments
 

@@ -9,3 +9,6 @@ pub mod ArgsRead
 pub mod OthersRead
 pub mod HeadsRead
 pub mod HeadsSound
+pub mod TreesOf
+pub mod FnsRead
+pub mod FilesRead

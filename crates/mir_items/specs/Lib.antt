@@ -4,3 +4,6 @@ pub mod Fields
 pub mod Attrs
 pub mod Decls
 pub mod Items
+pub mod Functions
+pub mod Files
+pub mod FaultLines

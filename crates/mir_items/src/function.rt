@@ -1,9 +1,11 @@
 ghost use Rattle.std.specs.Prelude.{◌≡◌, ◌<◌, ◌≤◌, length, IfOk};
 ghost use Rattle.mir_parse.specs.Parser.{Gives};
 ghost use Rattle.mir_items.specs.Items as spec;
+ghost use Rattle.mir_items.specs.Functions.{fn_item};
 
 use crate::arg::read_args;
 use crate::attr::{read_attr, read_drop};
+use crate::block::read_fn_blocks;
 use crate::decl::read_decls;
 use crate::item::{read_fn_word, read_path_open};
 use mir_parse::{ParseRefused, parse_type, read_arrow, read_open_brace};
@@ -74,7 +76,7 @@ fn read_fn_head<'a>(
 
 /// Parses a function up to its blocks, and answers it without blocks, and what stands past that.
 #[tactic(auto, unfolding(crate::specs::Items::fn_front))]
-pub fn read_fn_front<'a>(
+fn read_fn_front<'a>(
     alloc: Global,
     lines: &[u32],
     symbols: &'a [Symbol],
@@ -86,4 +88,19 @@ pub fn read_fn_front<'a>(
     let (is_drop, rest) = read_drop(rest);
     let (function, rest) = read_fn_head(alloc, lines, inline, is_drop, rest)?;
     Ok((function, rest))
+}
+
+/// Parses a function, and answers what stands past it.
+#[tactic(auto, unfolding(crate::specs::Functions::fn_item))]
+pub fn read_fn<'a>(
+    alloc: Global,
+    lines: &[u32],
+    symbols: &'a [Symbol],
+) -> Result<(FnText, &'a [Symbol]), ParseRefused>
+    ensures read { Gives (λ f. (f.0, f.1.now)) result (fn_item lines.now symbols.now) }
+    ensures shorter { IfOk result (λ f. length f.1.now < length symbols.now) }
+{
+    let (front, rest) = read_fn_front(alloc, lines, symbols)?;
+    let (blocks, rest) = read_fn_blocks(alloc, lines, rest)?;
+    Ok((FnText { blocks, ..front }, rest))
 }

@@ -13,7 +13,7 @@ use Rattle.mir_syntax.specs.Crate as rvalue
 use Rattle.mir_syntax.specs.Shapes.{Shape, ◌>>=◌, struct_fields, fields_of_struct, fields_of, field_ty, variant_ty, pointee, proj_ty, path_ty, place_ty, destructor_of, needs_drop}
 use Rattle.mir_semantics.specs.Values.{Addr, Value, number, nil, cons, variant, pointer, hole, part, inner, at_path, put, blank}
 use Rattle.mir_semantics.specs.Memory.{Memory, local_at, value_at, write, further, there, referent, project, walk}
-use Rattle.mir_semantics.specs.Step.{Dest, Here, only_if, local_addr, resolve, type_of, has_deref, guard_of, dest_of, allows, store, read, read_all, eval, set_blank, exec}
+use Rattle.mir_semantics.specs.Step.{Dest, Here, only_if, local_addr, resolve, type_of, has_deref, guard_of, dest_of, allows, store, read, read_all, eval, set_blank, is_variant, write_unless, exec}
 use Rattle.mir_renaming.specs.Renaming.{Renaming, AddrRel, ValueRel, SomeRel, Sub, MemRel, AddrThere, RootOf}
 use Rattle.mir_renaming.proofs.Memory.{bind_some, some_bind, same_or_not, sub_addr, value_at_rel, further_rel, walk_rel, root_or_not, write_same, write_other, write_back, write_target, write_source, fewer, write_whole_rel}
 use Rattle.mir_renaming.proofs.Statements.{blank_rel, only_true, Linked, Got, got_at, store_rel, PlaceRel, OperandRel, OperandsRel, eval_rel, dest_rel, exec_rel}
@@ -656,6 +656,24 @@ module _ (A : Among) (D : List Shape) (ts : List Tree) (f : ℕ) (j L : Renaming
           let (old, e4, same) = store_split D v.1 m1' d v.0 e3 in
           let (a, b) = plain_dest v.1 p d nd e2 in
           subst (λ m. MemRel j (minus L f p.local) m2 m) same (subst (λ g. MemRel j (minus L g p.local) m2 (write v.1 d.addr v.0)) a (subst (λ y. MemRel j (minus L d.addr.frame y) m2 (write v.1 d.addr v.0)) b (write_minus j L m2 v.1 d.addr v.0 l.mem)))
+
+  -- a discriminant that the source alone sets, in a local that isn't live after it
+  pub gone_set : (m2 m1 m1' : Memory) (p : Place) (n : ℕ) → has_deref p.proj ≡ false → MemRel j L m2 m1 → Rooms m2 m1 → exec HA m1 (set_discriminant p n) ≡ Some m1' → MemRel j (minus L f p.local) m2 m1' × Rooms m2 m1'
+  unfolding exec resolve local_addr write_unless
+  gone_set m2 m1 m1' p n nd r k e =
+      let (a, e1, k1) = bind_some e in
+      let (v, e2, k2) = bind_some k1 in
+      let (t, e3, k3) = bind_some k2 in
+      let (us, e4, k4) = bind_some k3 in
+      let (b, c, q) = walk_plain p.proj m1 (record { frame = f; local = p.local; path = [] }) a nd e1 in
+      (subst (λ m. MemRel j (minus L f p.local) m2 m) (memory_is k4) (subst (λ g. MemRel j (minus L g p.local) m2 (write_unless (is_variant n v) m1 a (variant n (blank D us)))) b (subst (λ y. MemRel j (minus L a.frame y) m2 (write_unless (is_variant n v) m1 a (variant n (blank D us)))) c (either (is_variant n v) a (variant n (blank D us))))), exec_keeps (λ m. Rooms m2 m) (λ m a u. rooms_right m2 m a u) HA m1 m1' (set_discriminant p n) k e)
+    where
+      memory_is : {x y : Memory} → Some x ≡ Some y → x ≡ y
+      memory_is e = grind arith
+
+      either : (b : Bool) (a : Addr) (w : Value) → MemRel j (minus L a.frame a.local) m2 (write_unless b m1 a w)
+      either true a w = fewer j L (minus L a.frame a.local) m2 m1 (minus_sub L a.frame a.local) r
+      either false a w = write_minus j L m2 m1 a w r
 
   pub addr_eq : (a b : Addr) → b.frame ≡ a.frame → b.local ≡ a.local → a.path ≡ b.path → b ≡ a
   addr_eq a b e d p = ap₂ (λ (q : ℕ × ℕ) ps. record { frame = q.0; local = q.1; path = ps }) (ap₂ (λ x y. (x, y)) e d) (sym p)

@@ -4,8 +4,9 @@ use Rattle.mir_syntax.specs.declared.body.Place.{Place}
 use Rattle.mir_syntax.specs.Tree.{Tree}
 use Rattle.mir_syntax.specs.Crate.{TypedRvalue, TypedStmt, assign, storage_live, storage_dead, set_discriminant}
 use Rattle.mir_syntax.specs.Shapes.{place_ty, needs_drop}
+use Rattle.mir_semantics.specs.Values.{Addr, Value, variant, blank}
 use Rattle.mir_semantics.specs.Memory.{Memory}
-use Rattle.mir_semantics.specs.Step.{Dest, Here, type_of, has_deref, exec}
+use Rattle.mir_semantics.specs.Step.{Dest, Here, local_addr, resolve, type_of, has_deref, is_variant, write_unless, exec}
 use Rattle.mir_renaming.specs.Renaming.{Renaming}
 use Rattle.mir_renaming.proofs.Memory.{bind_some, some_bind, same_or_not}
 use Rattle.mir_syntax.specs.Crate.{TypedBlock, TypedBody}
@@ -13,13 +14,13 @@ use Rattle.mir_semantics.specs.Step.{Code, Control, State, Next, on, stop, fail,
 use Rattle.mir_relate.proofs.Aligned.{Flat}
 use Rattle.mir_live.specs.Places.{fills}
 use Rattle.mir_live.proofs.Among.{Among, OkRvalue}
-use Rattle.mir_live.proofs.Alive.{linked, store_split, assign_split, plain_dest}
+use Rattle.mir_live.proofs.Alive.{linked, store_split, assign_split, plain_dest, walk_plain}
 use Rattle.mir_renaming.proofs.Typed.{ValidCode, step_typed}
 use Rattle.mir_live.proofs.Agree.{NeedsOk, write_agree_other}
 use Rattle.mir_live.proofs.Pairs.{RvalueMoves, alone_eval}
 use Rattle.mir_live.proofs.Items.{step_parts, DropPlain, step_drops}
 use Rattle.mir_live.proofs.Paired.{on_eq, Loc, Agrees}
-use Rattle.mir_live.proofs.Runs.{Ghost, J, Frame, Stack, Rel, gone_stmt}
+use Rattle.mir_live.proofs.Runs.{Ghost, J, Frame, Stack, Rel, gone_stmt, gone_setting}
 use Rattle.mir_live.proofs.Steps.{known, in_l}
 use Rattle.mir_relate.specs.Simulation.{Simulation, Follows as Owes, keep_on}
 use Rattle.mir_live.proofs.Others.{Known, Goes, SetFits, alone}
@@ -66,6 +67,24 @@ module _ (C1 : Code) (bodies2 : List TypedBody) (f : ℕ) (f1 f2 : TypedBody) (i
         subst (λ m. Agrees C1 f (s1.top ∷ s1.callers) s2.memory m) same
         (write_agree_other C1.shapes (Loc C1 f (s1.top ∷ s1.callers)) K.typed1.types (known C1 bodies2 f f1 f2 is1 is2 same_locals others lent Lv InBlock begins valid1 n s2 s1 K.rel K.typed1 K.drops K.agree) (J C1 bodies2 f f1 f2 is1 is2 same_locals others lent Lv InBlock begins K.rel.ghost) K.rel.live (in_l C1 bodies2 f f1 f2 is1 is2 same_locals others lent Lv InBlock begins valid1 n s2 s1 K.rel K.typed1 K.drops K.agree) s2.memory v.1 d.addr v.0 ag (λ t l. none_here d.addr.local t (subst (λ h. Loc C1 f (s1.top ∷ s1.callers) h d.addr.local t) fr l)))
 
+    set_agree : (p : Place) (v : ℕ) (m1' : Memory) → has_deref p.proj ≡ false → exec HF s1.memory (set_discriminant p v) ≡ Some m1' → Agrees C1 f (s1.top ∷ s1.callers) s2.memory m1'
+    unfolding exec resolve local_addr write_unless
+    set_agree p v m1' nd e =
+        let (a, a1, k1) = bind_some e in
+        let (w, a2, k2) = bind_some k1 in
+        let (t, a3, k3) = bind_some k2 in
+        let (us, a4, k4) = bind_some k3 in
+        let (fr, lo, _) = walk_plain p.proj s1.memory (record { frame = s1.top.frame; local = p.local; path = [] }) a nd a1 in
+        subst (λ m. Agrees C1 f (s1.top ∷ s1.callers) s2.memory m) (memory_is k4) (either (is_variant v w) a (variant v (blank C1.shapes us)) fr)
+      where
+        memory_is : {x y : Memory} → Some x ≡ Some y → x ≡ y
+        memory_is e = grind arith
+
+        either : (b : Bool) (a : Addr) (w : Value) → a.frame ≡ s1.top.frame → Agrees C1 f (s1.top ∷ s1.callers) s2.memory (write_unless b s1.memory a w)
+        either true a w fr = K.agree
+        either false a w fr =
+            write_agree_other C1.shapes (Loc C1 f (s1.top ∷ s1.callers)) K.typed1.types (known C1 bodies2 f f1 f2 is1 is2 same_locals others lent Lv InBlock begins valid1 n s2 s1 K.rel K.typed1 K.drops K.agree) (J C1 bodies2 f f1 f2 is1 is2 same_locals others lent Lv InBlock begins K.rel.ghost) K.rel.live (in_l C1 bodies2 f f1 f2 is1 is2 same_locals others lent Lv InBlock begins valid1 n s2 s1 K.rel K.typed1 K.drops K.agree) s2.memory s1.memory a w K.agree (λ t l. none_here a.local t (subst (λ h. Loc C1 f (s1.top ∷ s1.callers) h a.local t) fr l))
+
     -- an assignment that the target leaves out, to a local that is neither lent nor live after it
     pub at_gone : (p : Place) (q : TypedRvalue) (m : ℕ) → slice_get k1.stmts s1.top.at ≡ Some (assign p q) → has_deref p.proj ≡ false → lent p.local ≡ false → OkRvalue A q → Moves q → Frame C1 bodies2 f f1 f2 is1 is2 same_locals others lent Lv InBlock begins K.rel.ghost m s2.top (next_stmt s1.top) → (Lv s1.top.block (suc s1.top.at) p.local → ⊥) → ((x : ℕ) → Lv s1.top.block (suc s1.top.at) x → fills (assign p q) x ≡ false → A x) → (s1' : State) → step C1 s1 ≡ Some (on s1') → Known C1 bodies2 f f1 f2 is1 is2 same_locals others lent Lv InBlock begins valid1 valid2 nk plain m s2 s1'
     unfolding step perform
@@ -74,6 +93,17 @@ module _ (C1 : Code) (bodies2 : List TypedBody) (f : ℕ) (f1 f2 : TypedBody) (i
         let (m1', g1, g2) = bind_some all in
         let rel = gone_stmt C1 bodies2 f f1 f2 is1 is2 same_locals others lent Lv InBlock begins n s2 s1 K.rel f1.locals K.typed2.types (valid2.blank_ok K.typed2.types) K.typed2.mem ok2 K.typed1.types (valid1.blank_ok K.typed1.types) K.typed1.mem (K.typed1.top.locals f1 e1) p q m1' m ef nd nl ok h dead ed g1 in
         let ag = gone_agree p q m1' nd ok mv g1 in
+        let is : record s1 { memory = m1'; top = next_stmt s1.top } ≡ s1' = on_eq g2 in
+        record { rel = subst (Rel C1 bodies2 f f1 f2 is1 is2 same_locals others lent Lv InBlock begins m s2) is rel; typed1 = step_typed C1 valid1 s1 (on s1') K.typed1 e; typed2 = K.typed2; drops = step_drops C1 plain s1 s1' K.drops e; agree = subst (λ (s : State). Agrees C1 f (s.top ∷ s.callers) s2.memory s.memory) is ag }
+
+    -- the setting of a discriminant that the target leaves out
+    pub at_gone_setting : (p : Place) (v : ℕ) (m : ℕ) → slice_get k1.stmts s1.top.at ≡ Some (set_discriminant p v) → has_deref p.proj ≡ false → lent p.local ≡ false → Frame C1 bodies2 f f1 f2 is1 is2 same_locals others lent Lv InBlock begins K.rel.ghost m s2.top (next_stmt s1.top) → (Lv s1.top.block (suc s1.top.at) p.local → ⊥) → ((x : ℕ) → Lv s1.top.block (suc s1.top.at) x → fills (set_discriminant p v) x ≡ false → A x) → (s1' : State) → step C1 s1 ≡ Some (on s1') → Known C1 bodies2 f f1 f2 is1 is2 same_locals others lent Lv InBlock begins valid1 valid2 nk plain m s2 s1'
+    unfolding step perform
+    at_gone_setting p v m at nd nl h dead ed s1' e =
+        let all : perform C1 HF s1 k1.term (Some (set_discriminant p v)) ≡ Some (on s1') = sym (some_bind _ e1 (some_bind _ i1 (ap (perform C1 HF s1 k1.term) at))) ∙ e in
+        let (m1', g1, g2) = bind_some all in
+        let rel = gone_setting C1 bodies2 f f1 f2 is1 is2 same_locals others lent Lv InBlock begins n s2 s1 K.rel f1.locals K.typed2.types (valid2.blank_ok K.typed2.types) K.typed2.mem ok2 p v m1' m ef nd nl h dead ed g1 in
+        let ag = set_agree p v m1' nd g1 in
         let is : record s1 { memory = m1'; top = next_stmt s1.top } ≡ s1' = on_eq g2 in
         record { rel = subst (Rel C1 bodies2 f f1 f2 is1 is2 same_locals others lent Lv InBlock begins m s2) is rel; typed1 = step_typed C1 valid1 s1 (on s1') K.typed1 e; typed2 = K.typed2; drops = step_drops C1 plain s1 s1' K.drops e; agree = subst (λ (s : State). Agrees C1 f (s.top ∷ s.callers) s2.memory s.memory) is ag }
 

@@ -32,7 +32,7 @@ use Rattle.mir_live.proofs.Steps.{known, in_l, OpsOk}
 use Rattle.mir_live.proofs.Others.{Known, ok2, Goes, StmtFits, at_end, at_stmt}
 use Rattle.mir_live.specs.Reads.{through, ReadsOperand, ReadsAny, ReadsRvalue, ReadsStmt, ReadsTerm, pruned_stmts, pruned_blocks, pruned_by}
 use Rattle.mir_live.proofs.Paths.{drop_some, drop_none, get_drop, is_nil_or}
-use Rattle.mir_live.proofs.Follow.{Answer, follows_answer, Moves, at_gone, set_fits, none_here}
+use Rattle.mir_live.proofs.Follow.{Answer, follows_answer, Moves, at_gone, at_gone_setting, set_fits, none_here}
 
 -- what is read is among
 pub ok_operand : (A : Among) (o : Operand) → ((x : ℕ) → ReadsOperand o x → A x) → OkOperand A o
@@ -131,6 +131,7 @@ module _ (C1 : Code) (bodies2 : List TypedBody) (f : ℕ) (f1 : TypedBody) (gone
 
   abbrev pub Useless : ℕ → ℕ → TypedStmt → Type 0
   Useless i n (assign p r) = (has_deref p.proj ≡ false) × (lent p.local ≡ false) × (Lv i (suc n) p.local → ⊥)
+  Useless i n (set_discriminant p v) = (has_deref p.proj ≡ false) × (lent p.local ≡ false) × (Lv i (suc n) p.local → ⊥)
   Useless i n _ = ⊥
 
   abbrev pub Useful : ℕ → ℕ → TypedStmt → Type 0
@@ -384,6 +385,17 @@ module _ (C1 : Code) (bodies2 : List TypedBody) (f : ℕ) (f1 : TypedBody) (gone
             let at : slice_get k.stmts s1.top.at ≡ Some (assign p q) = es ∙ ap Some est in
             (m, at_gone C1 bodies2 f f1 (pruned_by gone f1) is1 is2 refl others lent Lv InBlock begins valid1 valid2 nk plain n s2 s1 K ef k is_b ek okf p q m at nd nb (ok_rvalue AF q (λ y z. reads_st y (subst (λ s. ReadsStmt s y) (sym est) (inl z)))) (rvalue_calm q (laws.moves i0 j0 k p q ek at)) (frame_at' m s2.top (next_stmt s1.top) refl refl refl refl refl refl refl refl refl c) nl (λ y lv z. after y lv (ap (λ s. fills s y) est ∙ z)) s1' e, less)
 
+        -- so it does where it sets a discriminant
+        set_step : (s1' : State) → gone s1.top.block s1.top.at ≡ true → (p : Place) (v : ℕ) → st ≡ set_discriminant p v → Useless s1.top.block s1.top.at (set_discriminant p v) → step C1 s1 ≡ Some (on s1') → (m : ℕ) × Known C1 bodies2 f f1 (pruned_by gone f1) is1 is2 refl others lent Lv InBlock begins valid1 valid2 nk plain m s2 s1' × (m < n)
+        set_step s1' dead p v est (nd, nb, nl) e =
+            let (same, len) = K.rel.top.here ef k ek in
+            let now : drop s2.top.at left2 ≡ pruned_stmts (gone i0) (suc j0) rest = same ∙ ap (pruned_stmts (gone i0) j0) split_at ∙ pruned_goes (gone i0) j0 rest st dead in
+            let m = length rest in
+            let less : m < n = (let z : n ≡ suc m = len ∙ ap length split_at in omega arith) in
+            let c : InBlock m s2.top (next_stmt s1.top) = λ k' e'. subst (λ (k' : TypedBlock). (drop s2.top.at (pruned_stmts (gone i0) 0 k'.stmts) ≡ pruned_stmts (gone i0) (suc j0) (drop (suc j0) k'.stmts)) × (m ≡ length (drop (suc j0) k'.stmts))) (only_k k' e') (now, refl) in
+            let at : slice_get k.stmts s1.top.at ≡ Some (set_discriminant p v) = es ∙ ap Some est in
+            (m, at_gone_setting C1 bodies2 f f1 (pruned_by gone f1) is1 is2 refl others lent Lv InBlock begins valid1 valid2 nk plain n s2 s1 K ef k is_b ek okf p v m at nd nb (frame_at' m s2.top (next_stmt s1.top) refl refl refl refl refl refl refl refl refl c) nl (λ y lv z. after y lv (ap (λ s. fills s y) est ∙ z)) s1' e, less)
+
         -- a statement goes on
         never_stops : (o : Outcome) → step C1 s1 ≡ Some (stop o) → ⊥
         unfolding step perform
@@ -398,7 +410,9 @@ module _ (C1 : Code) (bodies2 : List TypedBody) (f : ℕ) (f1 : TypedBody) (gone
         gone_step (fail t) dead (assign p q) est u e = tt
         gone_step x dead (storage_live y) est u e = absurd u
         gone_step x dead (storage_dead y) est u e = absurd u
-        gone_step x dead (set_discriminant p i) est u e = absurd u
+        gone_step (on s1') dead (set_discriminant p i) est u e = inr (set_step s1' dead p i est u e)
+        gone_step (stop o) dead (set_discriminant p i) est u e = absurd (never_stops o e)
+        gone_step (fail t) dead (set_discriminant p i) est u e = tt
 
     -- each step of the source in the body is followed, or the source moves alone
     pub pruned_step : (n : ℕ) (s2 s1 : State) (x : Next) → Known C1 bodies2 f f1 (pruned_by gone f1) is1 is2 refl others lent Lv InBlock begins valid1 valid2 nk plain n s2 s1 → s1.top.function ≡ f → step C1 s1 ≡ Some x → Flat x → Answer C1 bodies2 f f1 (pruned_by gone f1) is1 is2 refl others lent Lv InBlock begins valid1 valid2 nk plain n s2 x

@@ -5,7 +5,7 @@ use Rattle.mir_syntax.specs.declared.body.Place.{Place}
 use Rattle.mir_syntax.specs.declared.body.Operand.{Operand}
 use Rattle.mir_syntax.specs.Tree.{Tree, scalar, empty, more, named}
 use Rattle.mir_syntax.specs.Tree as tree
-use Rattle.mir_syntax.specs.Crate.{TypedRvalue, TypedStmt, assign}
+use Rattle.mir_syntax.specs.Crate.{TypedRvalue, TypedStmt, assign, set_discriminant}
 use Rattle.mir_syntax.specs.Shapes.{Shape, struct_fields, destructor_of, needs_drop}
 use Rattle.mir_semantics.specs.Values.{Addr, Value, number, nil, cons, variant, pointer, hole, is_hole, blank}
 use Rattle.mir_semantics.specs.Memory.{Memory, local_at, value_at, write}
@@ -30,7 +30,7 @@ use Rattle.mir_live.proofs.Slots.{slots_rel, close_live, close_rooms, open_live,
 use Rattle.mir_live.specs.Places.{solid, is_nil, fills}
 use Rattle.mir_live.proofs.Among.{Among, OkOperand, OkOperands, OkRvalue}
 use Rattle.mir_live.proofs.Keeps.{store_keeps, read_number_keeps}
-use Rattle.mir_live.proofs.Alive.{Ident, itself, plus, minus, plus_frame, pair_parts, then_is, else_is, plus_ident, plus_at, plus_sub, minus_ident, minus_other, frame_ident, frame_sub, frame_at, linked, Rooms, rooms_left, rooms_right, store_split, root_of, place_at, addr_eq, operand_at, operands_at, stmt_live, exec_rooms, reads_rooms, gone_live, far_dest, near_dest, whole_dest, part_dest, StmtOk, store_linked, store_whole, store_part}
+use Rattle.mir_live.proofs.Alive.{Ident, itself, plus, minus, plus_frame, pair_parts, then_is, else_is, plus_ident, plus_at, plus_sub, minus_ident, minus_other, frame_ident, frame_sub, frame_at, linked, Rooms, rooms_left, rooms_right, store_split, root_of, place_at, addr_eq, operand_at, operands_at, stmt_live, exec_rooms, reads_rooms, gone_live, gone_set, far_dest, near_dest, whole_dest, part_dest, StmtOk, store_linked, store_whole, store_part}
 use Rattle.mir_live.proofs.Agree.{Agree}
 use Rattle.mir_live.specs.Paths.{Leads, fills_term}
 use Rattle.mir_live.proofs.Paths.{take_leads, fills_not, nil_is}
@@ -763,11 +763,10 @@ module _ (C1 : Code) (bodies2 : List TypedBody) (f : ℕ) (f1 f2 : TypedBody) (i
         pick K sub fill ef x lv true q = fill x q
         pick K sub fill ef x lv false q = sub fr x _ (ed ef x lv q)
 
-    -- an assignment that goes
-    pub gone_stmt : (G1 : TypeMap) → ((t : Tree) → HasTy D G1 t (blank D t)) → MemTy D G1 s1.memory → ((x : ℕ) (t : Tree) → slice_get ts x ≡ Some t → G1 fr x ≡ Some t) → (p : Place) (q : TypedRvalue) (m1' : Memory) (m : ℕ) → s1.top.function ≡ f → has_deref p.proj ≡ false → lent p.local ≡ false → OkRvalue A q → Frame F m s2.top (next_stmt s1.top) → (Lv s1.top.block (suc s1.top.at) p.local → ⊥) → ((x : ℕ) → Lv s1.top.block (suc s1.top.at) x → fills (assign p q) x ≡ false → A x) → exec HT s1.memory (assign p q) ≡ Some m1' → Rel m s2 (record s1 { memory = m1'; top = next_stmt s1.top })
-    gone_stmt G1 blank_ok1 ty1 locals_ok1 p q m1' m ef nd nb ok h dead ed e =
-        let (rel, ro) = gone_live A D ts fr (J F) L r.mems.low r.mems.id self G1 blank_ok1 locals_ok1 s2.memory s1.memory m1' p q nd ok ty1 r.mems.rel r.mems.rooms e in
-        record { ghost = F; live = K; base = record { fresh = r.base.fresh; next = r.base.next; answers = r.base.answers; trace = r.base.trace }; mems = record { id = minus_ident L fr p.local r.mems.id; low = λ g x z w. minus_other L fr p.local g x z (apart g x z w) (r.mems.low g x z w); rel = rel; rooms = ro }; top = h; covers = λ ef x lv. minus_other L fr p.local fr x _ (λ a b. dead (subst (λ y. Lv s1.top.block (suc s1.top.at) y) b lv)) (ed x lv (fills_not p q x (λ b. dead (subst (λ y. Lv s1.top.block (suc s1.top.at) y) b lv)))); stack = stack_up F F (λ f x r e. e) (λ k g e. e) L K fr s1.top.dest s2.callers s1.callers (λ k x lt w. minus_other L fr p.local k x _ (λ a b. absurd (omega (arith, lt, a))) w) r.stack }
+    -- a statement that goes, which writes into a local that is neither lent nor live after it
+    gone_rel : (st : TypedStmt) (p : Place) (m1' : Memory) (m : ℕ) → s1.top.function ≡ f → lent p.local ≡ false → Frame F m s2.top (next_stmt s1.top) → (Lv s1.top.block (suc s1.top.at) p.local → ⊥) → ((x : ℕ) → Lv s1.top.block (suc s1.top.at) x → fills st x ≡ false → A x) → ((x : ℕ) → (x ≡ p.local → ⊥) → fills st x ≡ false) → MemRel (J F) (minus L fr p.local) s2.memory m1' → Rooms s2.memory m1' → Rel m s2 (record s1 { memory = m1'; top = next_stmt s1.top })
+    gone_rel st p m1' m ef nb h dead ed out rel ro =
+        record { ghost = F; live = K; base = record { fresh = r.base.fresh; next = r.base.next; answers = r.base.answers; trace = r.base.trace }; mems = record { id = minus_ident L fr p.local r.mems.id; low = λ g x z w. minus_other L fr p.local g x z (apart g x z w) (r.mems.low g x z w); rel = rel; rooms = ro }; top = h; covers = λ ef x lv. minus_other L fr p.local fr x _ (λ a b. dead (subst (λ y. Lv s1.top.block (suc s1.top.at) y) b lv)) (ed x lv (out x (λ b. dead (subst (λ y. Lv s1.top.block (suc s1.top.at) y) b lv)))); stack = stack_up F F (λ f x r e. e) (λ k g e. e) L K fr s1.top.dest s2.callers s1.callers (λ k x lt w. minus_other L fr p.local k x _ (λ a b. absurd (omega (arith, lt, a))) w) r.stack }
       where
         K : Renaming
         K = minus L fr p.local
@@ -776,3 +775,15 @@ module _ (C1 : Code) (bodies2 : List TypedBody) (f : ℕ) (f1 f2 : TypedBody) (i
         apart g x z w a b =
             let k : ◌≡◌ {A = Option (ℕ × ℕ)} None (Some z) = sym (ap₂ (J F) a b ∙ j_none F fr p.local (r.top.ghost ∙ ap Some ef) nb) ∙ w in
             (let k' = k in grind arith)
+
+    -- an assignment that goes
+    pub gone_stmt : (G1 : TypeMap) → ((t : Tree) → HasTy D G1 t (blank D t)) → MemTy D G1 s1.memory → ((x : ℕ) (t : Tree) → slice_get ts x ≡ Some t → G1 fr x ≡ Some t) → (p : Place) (q : TypedRvalue) (m1' : Memory) (m : ℕ) → s1.top.function ≡ f → has_deref p.proj ≡ false → lent p.local ≡ false → OkRvalue A q → Frame F m s2.top (next_stmt s1.top) → (Lv s1.top.block (suc s1.top.at) p.local → ⊥) → ((x : ℕ) → Lv s1.top.block (suc s1.top.at) x → fills (assign p q) x ≡ false → A x) → exec HT s1.memory (assign p q) ≡ Some m1' → Rel m s2 (record s1 { memory = m1'; top = next_stmt s1.top })
+    gone_stmt G1 blank_ok1 ty1 locals_ok1 p q m1' m ef nd nb ok h dead ed e =
+        let (rel, ro) = gone_live A D ts fr (J F) L r.mems.low r.mems.id self G1 blank_ok1 locals_ok1 s2.memory s1.memory m1' p q nd ok ty1 r.mems.rel r.mems.rooms e in
+        gone_rel (assign p q) p m1' m ef nb h dead ed (λ x ne. fills_not p q x ne) rel ro
+
+    -- a discriminant whose setting goes
+    pub gone_setting : (p : Place) (n : ℕ) (m1' : Memory) (m : ℕ) → s1.top.function ≡ f → has_deref p.proj ≡ false → lent p.local ≡ false → Frame F m s2.top (next_stmt s1.top) → (Lv s1.top.block (suc s1.top.at) p.local → ⊥) → ((x : ℕ) → Lv s1.top.block (suc s1.top.at) x → fills (set_discriminant p n) x ≡ false → A x) → exec HT s1.memory (set_discriminant p n) ≡ Some m1' → Rel m s2 (record s1 { memory = m1'; top = next_stmt s1.top })
+    gone_setting p n m1' m ef nd nb h dead ed e =
+        let (rel, ro) = gone_set A D ts fr (J F) L r.mems.low r.mems.id self s2.memory s1.memory m1' p n nd r.mems.rel r.mems.rooms e in
+        gone_rel (set_discriminant p n) p m1' m ef nb h dead ed (λ x ne. refl) rel ro

@@ -1,3 +1,11 @@
 pub mod Values
 pub mod Memories
 pub mod Walks
+pub mod IdTypes
+pub mod Blanks
+pub mod Fulls
+pub mod Sights
+pub mod Binds
+pub mod Operands
+pub mod Evals
+pub mod Execs

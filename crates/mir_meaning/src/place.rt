@@ -25,7 +25,7 @@ pub struct Spot<'m, 'p> {
     pub part: Option<Part<'m>>,
 }
 
-fn joined(alloc: Global, front: &[Proj], back: &[Proj]) -> Result<List<Proj>, OutOfMemory>
+pub fn joined(alloc: Global, front: &[Proj], back: &[Proj]) -> Result<List<Proj>, OutOfMemory>
     ensures { IfOk result (λ path. path ≡ front.now ++ back.now) }
 {
     let mut path = List::new(alloc);

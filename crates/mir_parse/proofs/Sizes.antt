@@ -1,5 +1,5 @@
 -- How many symbols a rule puts: so many more than what follows it.
-use Rattle.std.proofs.Common.{◌≡◌, ◌+◌, ◌<◌, true, false, List, [], ◌∷◌, length, arith}
+use Rattle.std.proofs.Common.{◌≡◌, ℕ, Bool, ◌+◌, ◌<◌, true, false, List, [], ◌∷◌, length, arith}
 use Rattle.mir_text.specs.declared.symbol.Symbol.{Symbol}
 use Rattle.mir_text.specs.declared.symbol.Symbol.TheVariants as s
 use Rattle.mir_text.specs.Grammar.{Put, Items, end, last, more, items_put, each_put}
@@ -7,17 +7,18 @@ use Rattle.mir_text.specs.GrammarTypes as t
 use Rattle.mir_text.specs.GrammarTypes.{PathRule, path_put, TypeRule, type_put, TypesRule, types_put}
 use Rattle.mir_text.specs.GrammarPlaces.{PlaceRule, local, deref, field, variant_field, field_put, variant_put, place_put, ValueRule, number, boolean, unit, least, most, value_put, OperandRule, copy, move, bare, const, operand_put}
 use Rattle.mir_text.specs.GrammarStatements.{NamedRule, named_put, BuildRule, plain, tupled, labelled, RvalueRule, «use», cast, binary, overflow, unary, reference, discriminant, nothing, tuple_of, build, parts_put, cast_put, rvalue_put, StmtRule, assign, nop, live, dead, set, stmt_put}
-use Rattle.mir_text.specs.GrammarTerms.{ended_put}
+use Rattle.mir_text.specs.GrammarTerms.{UnwindRule, continues, unreachable, unwind_put, ArmRule, TermRule, goto, returns, never, switch, call, drop, assert, goes_put, arm_put, value_operand_put, expected_put, term_put, BlockRule, ended_put, block_put}
+use Rattle.mir_text.specs.Symbols.{success_name}
 
-abbrev Sized : {R : Type 0} → Put R → Type 0
+abbrev pub Sized : {R : Type 0} → Put R → Type 0
 Sized {R} put = (r : R) (rest : List Symbol) → length (put r rest) ≡ length (put r []) + length rest
 
-path_size : (q : PathRule) (rest : List Symbol) → length (path_put q rest) ≡ length (path_put q []) + length rest
+pub path_size : (q : PathRule) (rest : List Symbol) → length (path_put q rest) ≡ length (path_put q []) + length rest
 path_size (t.name n) rest = omega arith
 path_size (t.name_in n q) rest = omega (arith, path_size q rest)
 
 mutual
-  type_size : (u : TypeRule) (rest : List Symbol) → length (type_put u rest) ≡ length (type_put u []) + length rest
+  pub type_size : (u : TypeRule) (rest : List Symbol) → length (type_put u rest) ≡ length (type_put u []) + length rest
   type_size (t.int i) rest = omega arith
   type_size t.bool rest = omega arith
   type_size (t.ref true u) rest = omega (arith, type_size u rest)
@@ -26,12 +27,12 @@ mutual
   type_size t.unit rest = omega arith
   type_size (t.tuple u us) rest = omega (arith, type_size u (s.Comma ∷ types_put us rest), type_size u (s.Comma ∷ types_put us []), types_size us rest)
 
-  types_size : (us : TypesRule) (rest : List Symbol) → length (types_put us rest) ≡ length (types_put us []) + length rest
+  pub types_size : (us : TypesRule) (rest : List Symbol) → length (types_put us rest) ≡ length (types_put us []) + length rest
   types_size t.end rest = omega arith
   types_size (t.last u) rest = omega (arith, type_size u (s.Close ∷ rest), type_size u (s.Close ∷ []))
   types_size (t.more u us) rest = omega (arith, type_size u (s.Comma ∷ types_put us rest), type_size u (s.Comma ∷ types_put us []), types_size us rest)
 
-place_size : (q : PlaceRule) (rest : List Symbol) → length (place_put q rest) ≡ length (place_put q []) + length rest
+pub place_size : (q : PlaceRule) (rest : List Symbol) → length (place_put q rest) ≡ length (place_put q []) + length rest
 place_size (local n) rest = omega arith
 place_size (deref q) rest = omega (arith, place_size q (s.Close ∷ rest), place_size q (s.Close ∷ []))
 place_size (field q n u) rest =
@@ -39,7 +40,7 @@ place_size (field q n u) rest =
 place_size (variant_field q v n u) rest =
     omega (arith, place_size q (variant_put v (field_put n u rest)), place_size q (variant_put v (field_put n u [])), type_size u (s.Close ∷ rest), type_size u (s.Close ∷ []))
 
-value_size : (x : ValueRule) (rest : List Symbol) → length (value_put x rest) ≡ length (value_put x []) + length rest
+pub value_size : (x : ValueRule) (rest : List Symbol) → length (value_put x rest) ≡ length (value_put x []) + length rest
 value_size (number true n u) rest = omega arith
 value_size (number false n u) rest = omega arith
 value_size (boolean x) rest = omega arith
@@ -47,7 +48,7 @@ value_size unit rest = omega arith
 value_size (least u) rest = omega arith
 value_size (most u) rest = omega arith
 
-operand_size : (x : OperandRule) (rest : List Symbol) → length (operand_put x rest) ≡ length (operand_put x []) + length rest
+pub operand_size : (x : OperandRule) (rest : List Symbol) → length (operand_put x rest) ≡ length (operand_put x []) + length rest
 operand_size (copy q) rest = omega (arith, place_size q rest)
 operand_size (move q) rest = omega (arith, place_size q rest)
 operand_size (bare q) rest = place_size q rest
@@ -56,7 +57,7 @@ operand_size (const x) rest = omega (arith, value_size x rest)
 named_size : (x : NamedRule) (rest : List Symbol) → length (named_put x rest) ≡ length (named_put x []) + length rest
 named_size x rest = omega (arith, operand_size x.1 rest)
 
-items_size : {R : Type 0} (put : Put R) → Sized put → (close : Symbol) (rs : Items R) (rest : List Symbol) → length (items_put put close rs rest) ≡ length (items_put put close rs []) + length rest
+pub items_size : {R : Type 0} (put : Put R) → Sized put → (close : Symbol) (rs : Items R) (rest : List Symbol) → length (items_put put close rs rest) ≡ length (items_put put close rs []) + length rest
 items_size put sized close end rest = omega arith
 items_size put sized close (last r) rest = omega (arith, sized r (close ∷ rest), sized r (close ∷ []))
 items_size put sized close (more r rs) rest =
@@ -103,3 +104,91 @@ each_ended_size (x ∷ xs) rest = omega (arith, ended_size x (each_put ended_put
 
 pub some_ended : (x : StmtRule) → 0 < length (ended_put x [])
 some_ended x = omega (arith, stmt_size x (s.Semicolon ∷ []))
+
+pub each_size : {R : Type 0} (put : Put R) → Sized put → (rs : List R) (rest : List Symbol) → length (each_put put rs rest) ≡ length (each_put put rs []) + length rest
+each_size put sized [] rest = omega arith
+each_size put sized (r ∷ rs) rest = omega (arith, sized r (each_put put rs rest), sized r (each_put put rs []), each_size put sized rs rest)
+
+-- ---- terminators and blocks
+
+unwind_size : (u : UnwindRule) (rest : List Symbol) → length (unwind_put u rest) ≡ length (unwind_put u []) + length rest
+unwind_size continues rest = omega arith
+unwind_size unreachable rest = omega arith
+
+goes_size : (word : Symbol) (b : ℕ) (u : UnwindRule) (rest : List Symbol) → length (goes_put word b u rest) ≡ length (goes_put word b u []) + length rest
+goes_size word b u rest = omega (arith, unwind_size u (s.CloseBracket ∷ rest), unwind_size u (s.CloseBracket ∷ []))
+
+arm_size : (a : ArmRule) (rest : List Symbol) → length (arm_put a rest) ≡ length (arm_put a []) + length rest
+arm_size a rest = omega arith
+
+value_operand_size : (x : OperandRule) (rest : List Symbol) → length (value_operand_put x rest) ≡ length (value_operand_put x []) + length rest
+value_operand_size x rest = omega (arith, operand_size x rest)
+
+expected_size : (expected : Bool) (rest : List Symbol) → length (expected_put expected rest) ≡ length (expected_put expected []) + length rest
+expected_size true rest = omega arith
+expected_size false rest = omega arith
+
+switch_size : (arms : List ArmRule) (b : ℕ) (rest : List Symbol)
+    → length (each_put arm_put arms (s.Otherwise ∷ s.Colon ∷ s.Block b ∷ s.CloseBracket ∷ rest)) ≡ length (each_put arm_put arms (s.Otherwise ∷ s.Colon ∷ s.Block b ∷ s.CloseBracket ∷ [])) + length rest
+switch_size arms b rest =
+    omega (arith, each_size arm_put arm_size arms (s.Otherwise ∷ s.Colon ∷ s.Block b ∷ s.CloseBracket ∷ rest), each_size arm_put arm_size arms (s.Otherwise ∷ s.Colon ∷ s.Block b ∷ s.CloseBracket ∷ []))
+
+abbrev arms_end : List ArmRule → ℕ → List Symbol → List Symbol
+arms_end arms b rest = s.Close ∷ s.Arrow ∷ s.OpenBracket ∷ each_put arm_put arms (s.Otherwise ∷ s.Colon ∷ s.Block b ∷ s.CloseBracket ∷ rest)
+
+abbrev call_end : Items OperandRule → ℕ → UnwindRule → List Symbol → List Symbol
+call_end xs b u rest = s.Open ∷ items_put operand_put s.Close xs (goes_put s.Return b u rest)
+
+call_size : (xs : Items OperandRule) (b : ℕ) (u : UnwindRule) (rest : List Symbol) → length (call_end xs b u rest) ≡ length (call_end xs b u []) + length rest
+call_size xs b u rest =
+    omega (arith, items_size operand_put operand_size s.Close xs (goes_put s.Return b u rest), items_size operand_put operand_size s.Close xs (goes_put s.Return b u []), goes_size s.Return b u rest)
+
+abbrev assert_end : ℕ → List OperandRule → ℕ → UnwindRule → List Symbol → List Symbol
+assert_end message xs b u rest = s.Comma ∷ s.Text message ∷ each_put value_operand_put xs (s.Close ∷ goes_put success_name b u rest)
+
+assert_size : (message : ℕ) (xs : List OperandRule) (b : ℕ) (u : UnwindRule) (rest : List Symbol) → length (assert_end message xs b u rest) ≡ length (assert_end message xs b u []) + length rest
+assert_size message xs b u rest =
+    omega (
+      arith,
+      each_size value_operand_put value_operand_size xs (s.Close ∷ goes_put success_name b u rest),
+      each_size value_operand_put value_operand_size xs (s.Close ∷ goes_put success_name b u []),
+      goes_size success_name b u rest,
+    )
+
+term_size : (x : TermRule) (rest : List Symbol) → length (term_put x rest) ≡ length (term_put x []) + length rest
+term_size (goto b) rest = omega arith
+term_size returns rest = omega arith
+term_size never rest = omega arith
+term_size (switch x arms b) rest = omega (arith, operand_size x (arms_end arms b rest), operand_size x (arms_end arms b []), switch_size arms b rest)
+term_size (call q path xs b u) rest =
+    omega (
+      arith,
+      place_size q (s.Equals ∷ path_put path (call_end xs b u rest)),
+      place_size q (s.Equals ∷ path_put path (call_end xs b u [])),
+      path_size path (call_end xs b u rest),
+      path_size path (call_end xs b u []),
+      call_size xs b u rest,
+    )
+term_size (drop q b u) rest = omega (arith, place_size q (s.Close ∷ goes_put s.Return b u rest), place_size q (s.Close ∷ goes_put s.Return b u []), goes_size s.Return b u rest)
+term_size (assert expected x message xs b u) rest =
+    omega (
+      arith,
+      expected_size expected (operand_put x (assert_end message xs b u rest)),
+      expected_size expected (operand_put x (assert_end message xs b u [])),
+      operand_size x (assert_end message xs b u rest),
+      operand_size x (assert_end message xs b u []),
+      assert_size message xs b u rest,
+    )
+
+abbrev block_end : TermRule → List Symbol → List Symbol
+block_end x rest = term_put x (s.Semicolon ∷ s.CloseBrace ∷ rest)
+
+pub block_size : (b : BlockRule) (rest : List Symbol) → length (block_put b rest) ≡ length (block_put b []) + length rest
+block_size b rest =
+    omega (
+      arith,
+      each_ended_size b.stmts (block_end b.term rest),
+      each_ended_size b.stmts (block_end b.term []),
+      term_size b.term (s.Semicolon ∷ s.CloseBrace ∷ rest),
+      term_size b.term (s.Semicolon ∷ s.CloseBrace ∷ []),
+    )

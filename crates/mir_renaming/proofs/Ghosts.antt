@@ -40,7 +40,7 @@ module _ (Bor : ℕ → ℕ → Option ℕ) (once : (g x x' y : ℕ) → Bor g x
   extend F n g f = if nat_eq n f then Some g else F f
 
   -- the parts of such a renaming
-  ren_parts : (F : Ghost) (f x g' y : ℕ) → ren F f x ≡ Some (g', y) → (g : ℕ) × (F f ≡ Some g) × (Bor g x ≡ Some y) × (f ≡ g')
+  pub ren_parts : (F : Ghost) (f x g' y : ℕ) → ren F f x ≡ Some (g', y) → (g : ℕ) × (F f ≡ Some g) × (Bor g x ≡ Some y) × (f ≡ g')
   ren_parts F f x g' y e = go (F f) refl e
     where
       here : (g : ℕ) → F f ≡ Some g → (o : Option ℕ) → Bor g x ≡ o → with_frame f o ≡ Some (g', y) → (g : ℕ) × (F f ≡ Some g) × (Bor g x ≡ Some y) × (f ≡ g')

@@ -89,20 +89,20 @@ module _ (C : Code) (valid : ValidCode C) where
   abbrev E : List Shape
   E = C.shapes
 
-  abbrev LocalsTy : TypeMap → Control → Type 0
+  abbrev pub LocalsTy : TypeMap → Control → Type 0
   LocalsTy G c = (b : TypedBody) → slice_get C.bodies c.function ≡ Some b → (x : ℕ) (t : Tree) → slice_get b.locals x ≡ Some t → G c.frame x ≡ Some t
 
-  abbrev DestTy : TypeMap → Control → Type 0
+  abbrev pub DestTy : TypeMap → Control → Type 0
   DestTy G c = (d : Dest) → c.dest ≡ Some d → (b : TypedBody) → slice_get C.bodies c.function ≡ Some b → (t : Tree) → ResultTy b.locals t → AddrTy E G d.addr t
 
-  abbrev VisitTy : TypeMap → Visit → Type 0
+  abbrev pub VisitTy : TypeMap → Visit → Type 0
   VisitTy G i = AddrTy E G i.addr i.ty
 
-  abbrev VisitsTy : TypeMap → List Visit → Type 0
+  abbrev pub VisitsTy : TypeMap → List Visit → Type 0
   VisitsTy G [] = Unit {0}
   VisitsTy G (i ∷ is) = VisitTy G i × VisitsTy G is
 
-  abbrev MaybeDrop : TypeMap → Option Dropping → Type 0
+  abbrev pub MaybeDrop : TypeMap → Option Dropping → Type 0
   MaybeDrop G None = Unit {0}
   MaybeDrop G (Some d) = VisitTy G d.place × VisitsTy G d.items
 
@@ -111,7 +111,7 @@ module _ (C : Code) (valid : ValidCode C) where
     pub dest : DestTy G c
     pub dropping : MaybeDrop G c.dropping
 
-  abbrev FramesTy : TypeMap → List Control → Type 0
+  abbrev pub FramesTy : TypeMap → List Control → Type 0
   FramesTy G [] = Unit {0}
   FramesTy G (c ∷ cs) = FrameTy G c × FramesTy G cs
 
@@ -122,7 +122,7 @@ module _ (C : Code) (valid : ValidCode C) where
     pub callers : FramesTy types s.callers
     pub fresh : (f x : ℕ) → s.next ≤ f → types f x ≡ None
 
-  abbrev NextTy : Next → Type 0
+  abbrev pub NextTy : Next → Type 0
   NextTy (on s) = Typed s
   NextTy (stop o) = Unit {0}
   NextTy (fail t) = Unit {0}
@@ -150,7 +150,7 @@ module _ (C : Code) (valid : ValidCode C) where
   frames_more G K up (c ∷ cs) h = (frame_more G K up c h.0, frames_more G K up cs h.1)
 
   -- a new frame
-  abbrev with_locals : TypeMap → ℕ → List Tree → TypeMap
+  abbrev pub with_locals : TypeMap → ℕ → List Tree → TypeMap
   with_locals G n ts f x = if nat_eq n f then slice_get ts x else G f x
 
   with_up : (G : TypeMap) (n : ℕ) (ts : List Tree) → ((x : ℕ) → G n x ≡ None) → Up G (with_locals G n ts)
@@ -160,7 +160,7 @@ module _ (C : Code) (valid : ValidCode C) where
       go (inl p) = absurd (let k : G f x ≡ None = ap (λ i. G i x) (sym p.1) ∙ none x in grind arith)
       go (inr p) = ap (λ b. if b then slice_get ts x else G f x) p.0 ∙ e
 
-  with_new : (G : TypeMap) (n : ℕ) (ts : List Tree) (x : ℕ) → with_locals G n ts n x ≡ slice_get ts x
+  pub with_new : (G : TypeMap) (n : ℕ) (ts : List Tree) (x : ℕ) → with_locals G n ts n x ≡ slice_get ts x
   with_new G n ts x = go (same_or_not n n)
     where
       go : ((nat_eq n n ≡ true) × (n ≡ n)) ⊎ ((nat_eq n n ≡ false) × (n ≡ n → ⊥)) → with_locals G n ts n x ≡ slice_get ts x
@@ -176,12 +176,12 @@ module _ (C : Code) (valid : ValidCode C) where
   args_ty G (t ∷ ts) [] h = blanks_ty G (t ∷ ts)
   args_ty G (t ∷ ts) (v ∷ vs) h = (h.0, args_ty G ts vs h.1)
 
-  slots_ty : (G : TypeMap) (ts : List Tree) (vs : List Value) → TysOf E G (args_of ts) vs → TysOf E G ts (new_slots E ts vs)
+  pub slots_ty : (G : TypeMap) (ts : List Tree) (vs : List Value) → TysOf E G (args_of ts) vs → TysOf E G ts (new_slots E ts vs)
   unfolding new_slots
   slots_ty G [] vs h = tt
   slots_ty G (t ∷ ts) vs h = (valid.blank_ok G t, args_ty G ts vs h)
 
-  open_ty : (G : TypeMap) (m : Memory) (n : ℕ) (ts : List Tree) (vs : List Value) → ((x : ℕ) → G n x ≡ None) → MemTy E G m → TysOf E (with_locals G n ts) ts vs → MemTy E (with_locals G n ts) (open_frame m n vs)
+  pub open_ty : (G : TypeMap) (m : Memory) (n : ℕ) (ts : List Tree) (vs : List Value) → ((x : ℕ) → G n x ≡ None) → MemTy E G m → TysOf E (with_locals G n ts) ts vs → MemTy E (with_locals G n ts) (open_frame m n vs)
   open_ty G m n ts vs none k h = record { at = λ f x t v g e. go f x t v g e (same_or_not n f) }
     where
       go : (f x : ℕ) (t : Tree) (v : Value) → with_locals G n ts f x ≡ Some t → local_at (open_frame m n vs) f x ≡ Some v → ((nat_eq n f ≡ true) × (n ≡ f)) ⊎ ((nat_eq n f ≡ false) × (n ≡ f → ⊥)) → HasTy E (with_locals G n ts) t v

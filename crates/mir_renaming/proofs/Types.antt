@@ -29,10 +29,10 @@ is_scalar (scalar s) = true
 is_scalar _ = false
 
 abbrev pub holds_by : Option Shape → Bool
-holds_by None = false
+holds_by None = true
 holds_by (Some d) = d.is_enum || is_some d.destructor
 
--- where a hole can stand
+-- where a hole can stand; the blank of a definition that isn't there is one
 abbrev pub can_hole : List Shape → Tree → Bool
 can_hole D (scalar s) = true
 can_hole D empty = false
@@ -332,7 +332,7 @@ module _ (D : List Shape) (G : TypeMap) (blank_ok : (t : Tree) → HasTy D G t (
   abbrev pub RvalueTy : TypedRvalue → Tree → Type 0
   RvalueTy («use» o) t = operand_ty H o ≡ Some t
   RvalueTy (binary op a b) t = (u w : Tree) × (is_scalar t ≡ true) × (operand_ty H a ≡ Some u) × (operand_ty H b ≡ Some w)
-  RvalueTy (overflow op a b) t = (u w : Tree) × (s : ScalarTy) × (t ≡ more (scalar s) (more (scalar s) empty)) × (operand_ty H a ≡ Some u) × (operand_ty H b ≡ Some w)
+  RvalueTy (overflow op a b) t = (u w : Tree) × (s z : ScalarTy) × (t ≡ more (scalar s) (more (scalar z) empty)) × (operand_ty H a ≡ Some u) × (operand_ty H b ≡ Some w)
   RvalueTy (unary op a) t = (u : Tree) × (is_scalar t ≡ true) × (operand_ty H a ≡ Some u)
   RvalueTy (cast a s) t = (u : Tree) × (is_scalar t ≡ true) × (operand_ty H a ≡ Some u)
   RvalueTy (rvalue.ref p) t = (u : Tree) × (pointee t ≡ Some u) × (type_of H p ≡ Some u)
@@ -349,10 +349,10 @@ module _ (D : List Shape) (G : TypeMap) (blank_ok : (t : Tree) → HasTy D G t (
       let (x, e2, k2) = bind_some k1 in
       let (n, e3, k3) = bind_some k2 in
       subst (λ r. Gives (HasTy D G t) r) (let q : (number n, x.1) ≡ r = grind arith in q) (s, two_ty m a b u w x k ha hb e2)
-  eval_ty m (overflow op a b) t r k (u, w, s, ht, ha, hb) e =
+  eval_ty m (overflow op a b) t r k (u, w, s, z, ht, ha, hb) e =
       let (_, e1, k1) = bind_some e in
       let (x, e2, k2) = bind_some k1 in
-      subst (λ r. Gives (HasTy D G t) r) (let q = some_eq D G _ r _ refl k2 in q) ((scalar s, more (scalar s) empty, ap (fields_of D) ht, refl, (scalar s, empty, refl, refl, refl)), two_ty m a b u w x k ha hb e2)
+      subst (λ r. Gives (HasTy D G t) r) (let q = some_eq D G _ r _ refl k2 in q) ((scalar s, more (scalar z) empty, ap (fields_of D) ht, refl, (scalar z, empty, refl, refl, refl)), two_ty m a b u w x k ha hb e2)
   eval_ty m (unary op a) t r k (u, s, ha) e =
       let (_, e1, k1) = bind_some e in
       let (x, e2, k2) = bind_some k1 in

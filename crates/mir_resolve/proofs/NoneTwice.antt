@@ -23,7 +23,7 @@ some-else None false n = refl
 some-else (Some x) true n = refl
 some-else (Some x) false n = refl
 
-stands-first : (x : List ℕ) (xs : List (List ℕ)) (t : List ℕ) → stands_in (x ∷ xs) t ≡ (bytes_eq x t || stands_in xs t)
+pub stands-first : (x : List ℕ) (xs : List (List ℕ)) (t : List ℕ) → stands_in (x ∷ xs) t ≡ (bytes_eq x t || stands_in xs t)
 stands-first x xs t = some-cond (bytes_eq x t) 0 (place_from 1 xs t) ∙ ap (λ b. bytes_eq x t || b) (stands-from 1 0 xs t)
 
 pub seen_new : (seen : List (List ℕ)) (x : List ℕ) → SameTexts (seen ++ x ∷ []) (x ∷ seen)

@@ -22,3 +22,14 @@ mod laws;
 mod once;
 mod paths;
 mod types;
+
+pub use definitions::{copy_path, read_enum, read_struct};
+pub use draft::Draft;
+pub use faults::{NameFault, Noted};
+pub use fields::{both, copy_name, read_noted};
+pub use headers::read_outside;
+pub use index::{Added, PathIndex};
+pub use laws::faults_in_any_order;
+pub use once::is_new;
+pub use paths::{put_name, put_path, string_of};
+pub use types::{ReadTy, Scratch, read_type};

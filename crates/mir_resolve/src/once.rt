@@ -11,7 +11,7 @@ use mir_tree::{FieldText, VariantText};
 use std::alloc::Global;
 
 /// Adds a text to those that stood before it, and says whether it is a new one.
-fn is_new(seen: &mut Names, text: &[u8]) -> Result<bool, OutOfMemory>
+pub fn is_new(seen: &mut Names, text: &[u8]) -> Result<bool, OutOfMemory>
     ensures new { IfOk result (λ new. new ≡ not (stands_in seen.old text.now)) }
     ensures seen { OnOk result (SameTexts seen.new (text.now ∷ seen.old)) }
 {

@@ -16,7 +16,8 @@ pub fn string_of<'a>(strings: &'a Names, number: u32) -> &'a [u8]
     }
 }
 
-fn put_name(buffer: &mut List<u8>, strings: &Names, number: u32) -> Result<(), OutOfMemory>
+/// Puts `::` and a name behind what a buffer holds.
+pub fn put_name(buffer: &mut List<u8>, strings: &Names, number: u32) -> Result<(), OutOfMemory>
     ensures { OnOk result (buffer.new ≡ buffer.old ++ (codes "::" ++ string_at strings.now number)) }
 {
     buffer.extend(b"::")?;

@@ -4,7 +4,10 @@ pub mod PartTypes
 pub mod Values
 pub mod PathSteps
 pub mod TermCodes
-pub mod HeadersOf
 pub mod Faulty
 pub mod FormedParts
 pub mod Located
+pub mod Gathering
+pub mod Fitting
+pub mod Earlier
+pub mod Completing

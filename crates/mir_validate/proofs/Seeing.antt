@@ -1,5 +1,5 @@
 -- The types that are seen, and whether they are those of the table.
-use Rattle.std.proofs.Common.{◌≡◌, ℕ, ◌<◌, Bool, true, false, ◌&&◌, nat_eq, List, [], ◌∷◌, length, Option, Some, None, refl, sym, ap, arith, eqb-true}
+use Rattle.std.proofs.Common.{◌≡◌, ℕ, ◌<◌, Bool, true, false, ◌&&◌, nat_eq, List, [], ◌∷◌, length, Option, Some, None, refl, ap, eqb-true}
 use Rattle.std.proofs.lemmas.Bool.{eqb-false}
 use Rattle.mir_syntax.specs.declared.types.TyId.{TyId}
 use Rattle.mir_syntax.specs.declared.types.ScalarTy.{ScalarTy}
@@ -9,7 +9,7 @@ use Rattle.mir_syntax.specs.declared.types.Ty.TheVariants.{Scalar, Tuple, Ref, R
 use Rattle.mir_syntax.specs.declared.body.Proj.{Proj}
 use Rattle.mir_syntax.specs.declared.body.Proj.TheVariants as proj
 use Rattle.mir_syntax.specs.declared.body.Place.{Place}
-use Rattle.mir_syntax.specs.Tree.{Tree, scalar, empty, more, ref, ref_mut, named, at_id, at_ids, node, trees_of}
+use Rattle.mir_syntax.specs.Tree.{Tree, scalar, more, ref, ref_mut, named, at_id, at_ids, node, trees_of}
 use Rattle.mir_syntax.specs.Table.{IsTable}
 use Rattle.mir_syntax.specs.Shapes.{Shape, place_ty, path_ty, whole_path_ty, whole_place_ty, ends_in_downcast, ◌>>=◌}
 use Rattle.mir_syntax.proofs.OneId.{one-id-each}
@@ -76,19 +76,6 @@ not_tuple trees t ts (Tuple ids) h = absurd (h ids refl)
 not_tuple trees t ts (Ref a) h = refl
 not_tuple trees t ts (RefMut a) h = refl
 not_tuple trees t ts (Named d) h = refl
-
-pub not_unit : (trees : List Tree) (ty : Ty) → ((ids : List TyId) → ty ≡ Tuple ids → ⊥) → same_tree empty (node trees ty) ≡ false
-unfolding same_tree
-not_unit trees (Scalar s) h = refl
-not_unit trees (Tuple ids) h = absurd (h ids refl)
-not_unit trees (Ref a) h = refl
-not_unit trees (RefMut a) h = refl
-not_unit trees (Named d) h = refl
-
-pub unit_is : (trees : List Tree) (ids : List TyId) → same_tree empty (at_ids trees ids) ≡ nat_eq (length ids) 0
-unfolding same_tree
-unit_is trees [] = refl
-unit_is trees (id ∷ ids) = sym (not_true (nat_eq (length (id ∷ ids)) 0) (λ e. absurd (omega (arith, eqb-true (length (id ∷ ids)) 0 e))))
 
 pub not_ref : (trees : List Tree) (t : Tree) (ty : Ty) → ((a : TyId) → ty ≡ Ref a → ⊥) → same_tree (ref t) (node trees ty) ≡ false
 unfolding same_tree

@@ -21,7 +21,8 @@ use Rattle.mir_rules.specs.Broken.{if_broken, rvalue_broken, operands_broken, st
 use Rattle.mir_rules.specs.Typing.{operand_ty, operands_ty, rvalue_ty, enum_of}
 use Rattle.mir_rules.proofs.Lists.{or_false-left, or_false-right}
 use Rattle.mir_validate.specs.Codes.{place_untyped, operand_untyped, parts_untyped, untupled_ty, has_type, rvalue_any, own_rule, value_broken, variant_count, moves_code, first_code}
-use Rattle.mir_validate.proofs.Seeing.{not_unit, not_tuple}
+use Rattle.drop_tables.proofs.HeadersOf.{not_unit}
+use Rattle.mir_validate.proofs.Seeing.{not_tuple}
 
 -- ---- tests of all parts
 

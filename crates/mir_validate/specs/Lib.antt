@@ -1,5 +1,5 @@
 pub mod Inside
 pub mod Codes
 pub mod Terms
-pub mod Headers
 pub mod Walk
+pub mod Complete

@@ -1,6 +1,6 @@
 use Rattle.std.proofs.Common.{sym, ◌∙◌}
 use Rattle.mir_syntax.specs.Tree.{trees_of}
-use Rattle.mir_validate.proofs.Seeing.{not_unit, unit_is}
+use Rattle.drop_tables.proofs.HeadersOf.{not_unit, unit_is}
 use Rattle.mir_validate.proofs.inside.Inside.is_unit.Goals as goal
 
 pub returns-in-Tuple : goal.returns-in-Tuple

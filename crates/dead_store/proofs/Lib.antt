@@ -1,0 +1,4 @@
+pub mod Staying
+pub mod Going
+pub mod Judged
+pub mod Ready

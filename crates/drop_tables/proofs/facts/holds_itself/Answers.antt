@@ -1,0 +1,25 @@
+use Rattle.std.proofs.Common.{◌≡◌, ◌-◌, ◌<◌, ◌||◌, ◌==◌, ℕ, suc, Bool, false, length, slice_get, ap, ap₂, ◌∙◌, arith}
+use Rattle.std.proofs.Math.Path.{fun_ext}
+use Rattle.mir_syntax.specs.Crate.{crate_of}
+use Rattle.mir_syntax.specs.Shapes.{shapes_of}
+use Rattle.mir_rules.specs.DefinitionRules.{holds_one, holds}
+use Rattle.drop_tables.specs.Marks.{is_marked}
+use Rattle.drop_tables.proofs.Destroying.{shapes_count}
+use Rattle.drop_tables.proofs.Levels.{holds_spread}
+use Rattle.drop_tables.proofs.MarkLists.{none_marked, one_marked}
+use Rattle.drop_tables.proofs.facts.holds_itself.Goals as goal
+
+pub returns : goal.returns
+returns c =
+    let p = c.args.program.now in
+    let D = shapes_of (crate_of p) in
+    let e = c.args.def in
+    let before = c.len-count.result - 1 in
+    let inside : e < c.len-count.result = omega (arith, c.len-count.ensures, c.requires.there) in
+    let many : suc before ≡ length D = omega (arith, c.len-count.ensures, shapes_count p, c.requires.there) in
+    let own : (k : ℕ) → is_marked c.as_slice.result.now k ≡ (k == e) = λ k. ap (λ l. is_marked l k) (c.as_slice.ensures ∙ c.in_ok-own.ensures) ∙ one_marked c.len-count.result e k inside in
+    let start : (k : ℕ) → is_marked c.in_ok-start.start k ≡ (k == e) = λ k. ap (λ l. is_marked l k) c.in_ok-start.ensures ∙ one_marked c.len-count.result e k inside in
+    let reached : is_marked c.as_slice-3.result.now ≡ (λ (k : ℕ). k == e || holds D before e k) =
+    fun_ext (λ k. ap (λ l. is_marked l k) c.as_slice-3.ensures ∙ (c.in_ok-reached.ensures.marks k ∙ holds_spread D (is_marked c.as_slice.result.now) (is_marked c.in_ok-start.start) e own start before k)) in
+    let none : is_marked c.as_slice-2.result.now e ≡ false = ap (λ l. is_marked l e) (c.as_slice-2.ensures ∙ c.in_ok-none.ensures) ∙ none_marked c.len-count.result e in
+    c.is_marked.ensures ∙ (ap (λ l. is_marked l e) c.as_slice-4.ensures ∙ (c.in_ok-held.ensures.marks e ∙ (ap₂ (λ b (f : ℕ → Bool). b || holds_one f (slice_get D e)) none reached ∙ ap (λ n. holds D n e e) many)))

@@ -1,0 +1,179 @@
+-- The least solution of the flow of live locals is exactly the live locals.
+use Rattle.std.proofs.Common.{◌≡◌, ◌⊎◌, inl, inr, refl, sym, ap, ap₂, ◌∙◌, subst, ℕ, zero, suc, ◌+◌, ◌<◌, Bool, true, false, not, ◌&&◌, ◌||◌, if◌then◌else◌, nat_lt, List, [], ◌∷◌, ◌++◌, drop, length, get_or, replicate, Option, Some, None, slice_get, IsTrue, ◌↔◌, arith}
+use Rattle.std.specs.List.{Contains, flat_map}
+use Rattle.std.proofs.lemmas.Option.{slice_get_within, slice_get-get_or, get_or_from_slice_get}
+use Rattle.std.proofs.lemmas.List.Elements.{Contains-append_left, Contains-append_right, Contains-append_cases}
+use Rattle.mir_syntax.specs.Tree.{Tree}
+use Rattle.mir_syntax.specs.Crate.{TypedStmt, TypedBlock, TypedBody}
+use Rattle.mir_syntax.specs.Shapes.{Shape}
+use Rattle.mir_rules.specs.Parts.{targets}
+use Rattle.bit_rows.specs.Rows.{row_at, flag, HasSize}
+use Rattle.flow_engine.specs.declared.edges.Edge.{Edge}
+use Rattle.flow_engine.specs.Flow.{Least, Lawful, problem}
+use Rattle.flow_engine.proofs.Least.{least_long, least_edge, least_start, least_holds}
+use Rattle.liveness.specs.Live.{stmt_reads, stmt_fills, term_reads, term_fills, LiveIn, Live}
+use Rattle.liveness.specs.Rows.{block_fills, blank, gen_row, kill_row, edge_back, block_at, no_block, IsRows, IsTurned}
+use Rattle.liveness.specs.Facts.{IsSized, IsBelow, count_ones, begun, joined, after, along, sent}
+use Rattle.liveness.specs.Bits.{or_cases, or_left_is, or_right_is, and_cases, and_is, not_is, not_true, bit_within, blank_bit}
+use Rattle.liveness.specs.Lattice.{live_lawful, row_long, joined_bit, after_long, after_bit}
+use Rattle.liveness.proofs.Paths.{live_least}
+use Rattle.liveness.proofs.Through.{Through, through_map, through_split, through_unfilled, gen_through, through_gen, blank_has, has_blank, block_live, live_block, end_live, live_end}
+
+pub contains_at : {A : Type 0} (xs : List A) (i : ℕ) (x : A) → slice_get xs i ≡ Some x → Contains xs x
+contains_at xs i x e = (i, slice_get_within xs i x e, get_or_from_slice_get xs i x x e)
+
+pub at_contains : {A : Type 0} (xs : List A) (x : A) → Contains xs x → (i : ℕ) × (slice_get xs i ≡ Some x)
+at_contains xs x (i, l, e) = (i, slice_get-get_or xs i x l ∙ ap (λ y. Some y) e)
+
+module _ (D : List Shape) (b : TypedBody) (n bits : ℕ) (nb : n ≡ length b.blocks) (nl : bits ≡ length b.locals) (edges : List Edge) (gens kills : List (List Bool)) (turned : IsTurned b.blocks n edges) (gr : IsRows n (λ i. gen_row D b.locals (block_at b.blocks i)) gens) (kr : IsRows n (λ i. kill_row b.locals (block_at b.blocks i)) kills) (closed : (i u : ℕ) → i < n → Contains (targets (block_at b.blocks i).term) u → u < n) (sized : IsSized n bits edges gens kills) (facts : List (List (List Bool))) (least : Least (λ x. HasSize x 1 bits) (IsBelow bits) (problem joined (begun n bits gens) (sent bits edges gens kills) n edges) facts) where
+  law : Lawful (λ x. HasSize x 1 bits) (IsBelow bits) count_ones bits (begun n bits gens) joined (sent bits edges gens kills)
+  law = live_lawful n bits edges gens kills sized
+
+  facts_long : length facts ≡ n
+  facts_long = least_long (λ x. HasSize x 1 bits) (IsBelow bits) count_ones bits (begun n bits gens) joined (sent bits edges gens kills) law n edges facts least
+
+  abbrev fact : ℕ → List (List Bool)
+  fact i = get_or facts i []
+
+  fact_at : (i : ℕ) → i < n → slice_get facts i ≡ Some (get_or facts i [])
+  fact_at i l = slice_get-get_or facts i [] (omega (arith, facts_long))
+
+  fact_size : (i : ℕ) → i < n → HasSize (get_or facts i []) 1 bits
+  fact_size i l = least.facts i (get_or facts i []) (fact_at i l)
+
+  block_is : (i : ℕ) → i < n → slice_get b.blocks i ≡ Some (block_at b.blocks i)
+  block_is i l = slice_get-get_or b.blocks i no_block (omega (arith, nb))
+
+  within : (i : ℕ) (k : TypedBlock) → slice_get b.blocks i ≡ Some k → i < n
+  within i k e = (let l = slice_get_within b.blocks i k e in omega (arith, nb))
+
+  edge_in : (i : ℕ) (e : Edge) → slice_get edges i ≡ Some e → (e.to < n) × Contains (targets (block_at b.blocks e.to).term) e.from
+  edge_in i e at = turned.only e (contains_at edges i e at)
+
+  gen_size : (i : ℕ) → i < n → length (row_at gens i) ≡ bits
+  gen_size i l = sized.gens_size.bits_is i l
+
+  kill_size : (i : ℕ) → i < n → length (row_at kills i) ≡ bits
+  kill_size i l = sized.kills_size.bits_is i l
+
+  -- ---- each bit is live
+
+  abbrev Lives : ℕ → List (List Bool) → Type 0
+  Lives i x = (y : ℕ) → flag x 0 y ≡ true → Live D b i 0 y
+
+  gen_lives : (i y : ℕ) → i < n → get_or (row_at gens i) y false ≡ true → Live D b i 0 y
+  gen_lives i y l e =
+      let k = block_at b.blocks i in
+      let low : y < length b.locals = (let m = bit_within (row_at gens i) y e in omega (arith, gen_size i l, nl)) in
+      let is = block_is i l in
+      block_live D b i k is y (through_map k.stmts (Contains (term_reads D b.locals k.term) y) (Live D b i (length k.stmts) y) y (λ c. end_live D b i k is y (inl c)) (gen_through D b.locals k y low (ap (λ row. get_or row y false) (sym (gr.each i l)) ∙ e)))
+
+  start_lives : (i : ℕ) → Lives i (begun n bits gens i)
+  start_lives i y e = go (nat_lt i n) (λ c. grind arith) e
+    where
+      go : (c : Bool) → (c ≡ true → i < n) → get_or (if c then row_at gens i else blank bits) y false ≡ true → Live D b i 0 y
+      go true l e = gen_lives i y (l refl) e
+      go false l e = absurd (blank_bit bits y e)
+
+  sent_lives : (i : ℕ) (e : Edge) (x : List (List Bool)) → slice_get edges i ≡ Some e → HasSize x 1 bits → Lives e.from x → Lives e.to (sent bits edges gens kills i x)
+  sent_lives i e x at ok lives y q =
+      let l = (edge_in i e at).0 in
+      let is : along bits gens kills x (slice_get edges i) ≡ after (row_at x 0) (row_at kills e.to) (row_at gens e.to) ∷ [] = ap (along bits gens kills x) at in
+      let q2 : get_or (after (row_at x 0) (row_at kills e.to) (row_at gens e.to)) y false ≡ true = ap (λ t. flag t 0 y) (sym is) ∙ q in
+      let rl = row_long bits x ok in
+      let low : y < bits = (let m = bit_within (after (row_at x 0) (row_at kills e.to) (row_at gens e.to)) y q2 in omega (arith, after_long bits (row_at x 0) (row_at kills e.to) (row_at gens e.to) rl (kill_size e.to l) (gen_size e.to l))) in
+      elim (or_cases (get_or (row_at x 0) y false && not (get_or (row_at kills e.to) y false)) (get_or (row_at gens e.to) y false) (sym (after_bit bits (row_at x 0) (row_at kills e.to) (row_at gens e.to) rl (kill_size e.to l) (gen_size e.to l) y low) ∙ q2)) [
+        | inr g ↦ gen_lives e.to y l g
+        | inl h ↦ (let two = and_cases (get_or (row_at x 0) y false) (not (get_or (row_at kills e.to) y false)) h in
+            on l low two.0 (λ c. not_true (get_or (row_at kills e.to) y false) two.1 (ap (λ row. get_or row y false) (kr.each e.to l) ∙ has_blank (length b.locals) (block_fills (block_at b.blocks e.to)) y (omega (arith, nl)) c)))
+      ]
+    where
+      on : e.to < n → y < bits → flag x 0 y ≡ true → (Contains (block_fills (block_at b.blocks e.to)) y → ⊥) → Live D b e.to 0 y
+      on l low live unfilled =
+          let k = block_at b.blocks e.to in
+          let is = block_is e.to l in
+          block_live D b e.to k is y (through_unfilled k.stmts (Live D b e.to (length k.stmts) y) y (λ c. unfilled (Contains-append_left (flat_map stmt_fills k.stmts) (term_fills k.term) y c))
+          (end_live D b e.to k is y (inr (e.from, (edge_in i e at).1, (λ c. unfilled (Contains-append_right (flat_map stmt_fills k.stmts) (term_fills k.term) y c)), lives y live))))
+
+  joined_lives : (i : ℕ) (e : Edge) (x y : List (List Bool)) → slice_get edges i ≡ Some e → HasSize x 1 bits → HasSize y 1 bits → Lives e.from x → Lives e.to y → Lives e.to (joined y (sent bits edges gens kills i x))
+  joined_lives i e x y at okx oky lx ly z q =
+      let oks = law.flow_ok i x okx in
+      let low : z < bits = (let m = bit_within (row_at (joined y (sent bits edges gens kills i x)) 0) z q in omega (arith, row_long bits (joined y (sent bits edges gens kills i x)) (law.join_ok y (sent bits edges gens kills i x) oky oks))) in
+      elim (or_cases (flag y 0 z) (flag (sent bits edges gens kills i x) 0 z) (sym (joined_bit bits y (sent bits edges gens kills i x) oky oks z low) ∙ q)) [
+        | inl h ↦ ly z h
+        | inr h ↦ sent_lives i e x at okx lx z h
+      ]
+
+  pub bit_lives : (i y : ℕ) → i < n → flag (get_or facts i []) 0 y ≡ true → Live D b i 0 y
+  bit_lives i y l e = least_holds (λ x. HasSize x 1 bits) (IsBelow bits) count_ones bits (begun n bits gens) joined (sent bits edges gens kills) law n edges facts least Lives start_lives joined_lives i (get_or facts i []) (fact_at i l) y e
+
+  -- ---- all that is live has its bit
+
+  abbrev Behind : TypedBlock → ℕ → Type 0
+  Behind k x = Contains (term_reads D b.locals k.term) x ⊎ ((u : ℕ) × Contains (targets k.term) u × (Contains (term_fills k.term) x → ⊥) × (flag (get_or facts u []) 0 x ≡ true))
+
+  -- what holds along paths
+  abbrev Points : ℕ → ℕ → ℕ → Type 0
+  Points i m x = (k : TypedBlock) → slice_get b.blocks i ≡ Some k → x < bits → Through (drop m k.stmts) (Behind k x) x
+
+  gens_in : (i x : ℕ) → i < n → get_or (row_at gens i) x false ≡ true → flag (get_or facts i []) 0 x ≡ true
+  gens_in i x l e =
+      let low = least_start (λ x. HasSize x 1 bits) (IsBelow bits) count_ones bits (begun n bits gens) joined (sent bits edges gens kills) law n edges facts least i (get_or facts i []) (fact_at i l) in
+      low.ones x (go (nat_lt i n) (grind arith) e)
+    where
+      go : (c : Bool) → c ≡ true → get_or (row_at gens i) x false ≡ true → get_or (if c then row_at gens i else blank bits) x false ≡ true
+      go true h e = e
+      go false h e = absurd (grind arith)
+
+  flown_in : (i u x : ℕ) → i < n → Contains (targets (block_at b.blocks i).term) u → x < bits → (Contains (block_fills (block_at b.blocks i)) x → ⊥) → flag (get_or facts u []) 0 x ≡ true → flag (get_or facts i []) 0 x ≡ true
+  flown_in i u x l c low unfilled live =
+      let lu = closed i u l c in
+      let p = at_contains edges (edge_back i u) (turned.all i u l c) in
+      let below = least_edge (λ x. HasSize x 1 bits) (IsBelow bits) count_ones bits (begun n bits gens) joined (sent bits edges gens kills) law n edges facts least p.0 (edge_back i u) (get_or facts u []) (get_or facts i []) p.1 (fact_at u lu) (fact_at i l) in
+      let is : along bits gens kills (get_or facts u []) (slice_get edges p.0) ≡ after (row_at (get_or facts u []) 0) (row_at kills i) (row_at gens i) ∷ [] = ap (along bits gens kills (get_or facts u [])) p.1 in
+      let rl = row_long bits (get_or facts u []) (fact_size u lu) in
+      below.ones x (ap (λ t. flag t 0 x) is ∙ after_bit bits (row_at (get_or facts u []) 0) (row_at kills i) (row_at gens i) rl (kill_size i l) (gen_size i l) x low
+      ∙ or_left_is (get_or (row_at (get_or facts u []) 0) x false && not (get_or (row_at kills i) x false)) (get_or (row_at gens i) x false)
+      (and_is (get_or (row_at (get_or facts u []) 0) x false) (not (get_or (row_at kills i) x false)) live (not_is (get_or (row_at kills i) x false) (λ e. unfilled (blank_has (length b.locals) (block_fills (block_at b.blocks i)) x (omega (arith, nl)) (ap (λ row. get_or row x false) (sym (kr.each i l)) ∙ e))))))
+
+  -- at a block's start
+  start_in : (i x : ℕ) → i < n → x < bits → Through (block_at b.blocks i).stmts (Behind (block_at b.blocks i) x) x → flag (get_or facts i []) 0 x ≡ true
+  start_in i x l low h =
+      let k = block_at b.blocks i in
+      elim (through_split k.stmts (Contains (term_reads D b.locals k.term) x) ((u : ℕ) × Contains (targets k.term) u × (Contains (term_fills k.term) x → ⊥) × (flag (get_or facts u []) 0 x ≡ true)) x h) [
+        | inl g ↦ gens_in i x l (ap (λ row. get_or row x false) (gr.each i l) ∙ through_gen D b.locals k x (omega (arith, nl)) g)
+        | inr f ↦ flown_in i f.1.0 x l f.1.1 low (λ c. elim (Contains-append_cases (flat_map stmt_fills k.stmts) (term_fills k.term) x c) [ inl q ↦ f.0 q | inr q ↦ f.1.2 q ]) f.1.3
+      ]
+
+  drop_some : (stmts : List TypedStmt) (m : ℕ) (s : TypedStmt) → slice_get stmts m ≡ Some s → drop m stmts ≡ s ∷ drop (suc m) stmts
+  drop_some [] m s e = absurd (grind arith)
+  drop_some (x ∷ stmts) zero s e = ap (λ (y : TypedStmt). y ∷ stmts) (let k : x ≡ s = grind arith in k)
+  drop_some (x ∷ stmts) (suc m) s e = drop_some stmts m s e
+
+  drop_none : (stmts : List TypedStmt) (m : ℕ) → slice_get stmts m ≡ None → drop m stmts ≡ []
+  drop_none [] zero e = refl
+  drop_none [] (suc m) e = refl
+  drop_none (x ∷ stmts) zero e = absurd (grind arith)
+  drop_none (x ∷ stmts) (suc m) e = drop_none stmts m e
+
+  points_closed : (i m x : ℕ) (k : TypedBlock) → slice_get b.blocks i ≡ Some k → LiveIn D b.locals k (λ u. Points u 0 x) (Points i (suc m) x) x (slice_get k.stmts m) → Points i m x
+  points_closed i m x k is h k2 is2 low = subst (λ (k : TypedBlock). Through (drop m k.stmts) (Behind k x) x) (let q : k ≡ k2 = (let z = sym is ∙ is2 in grind arith) in q) (go (slice_get k.stmts m) refl h)
+    where
+      next : (u : ℕ) → Contains (targets k.term) u → Points u 0 x → flag (get_or facts u []) 0 x ≡ true
+      next u c p =
+          let l = within i k is in
+          let same : block_at b.blocks i ≡ k = get_or_from_slice_get b.blocks i k no_block is in
+          let lu = closed i u l (subst (λ (k : TypedBlock). Contains (targets k.term) u) (sym same) c) in
+          start_in u x lu low (p (block_at b.blocks u) (block_is u lu) low)
+
+      go : (o : Option TypedStmt) → slice_get k.stmts m ≡ o → LiveIn D b.locals k (λ u. Points u 0 x) (Points i (suc m) x) x o → Through (drop m k.stmts) (Behind k x) x
+      go None q (inl r) = subst (λ ss. Through ss (Behind k x) x) (sym (drop_none k.stmts m q)) (inl r)
+      go None q (inr (u, c, f, p)) = subst (λ ss. Through ss (Behind k x) x) (sym (drop_none k.stmts m q)) (inr (u, c, f, next u c p))
+      go (Some s) q (inl r) = subst (λ ss. Through ss (Behind k x) x) (sym (drop_some k.stmts m s q)) (inl r)
+      go (Some s) q (inr (f, p)) = subst (λ ss. Through ss (Behind k x) x) (sym (drop_some k.stmts m s q)) (inr (f, p k is low))
+
+  pub live_bit : (i x : ℕ) → i < n → x < bits → Live D b i 0 x → flag (get_or facts i []) 0 x ≡ true
+  live_bit i x l low h = start_in i x l low (live_least D b Points points_closed i 0 x h (block_at b.blocks i) (block_is i l) low)
+
+  pub solved : (i x : ℕ) → i < n → x < bits → IsTrue (flag (get_or facts i []) 0 x) ↔ Live D b i 0 x
+  solved i x l low = (λ t. bit_lives i x l t, λ h. live_bit i x l low h)

@@ -1,0 +1,24 @@
+use Rattle.std.proofs.Common.{◌≡◌, List, ℕ, ap, ◌∙◌, map, set}
+use Rattle.bit_rows.specs.Rows.{row_at, marked}
+use Rattle.mir_syntax.specs.Tree.{at_id, trees_of}
+use Rattle.mir_syntax.specs.Crate.{crate_of}
+use Rattle.mir_syntax.specs.Shapes.{shapes_of}
+use Rattle.mir_rules.specs.Parts.{targets}
+use Rattle.liveness.specs.Live.{term_reads, term_fills}
+use Rattle.liveness.specs.Rows.{cleared, or_rows}
+use Rattle.liveness.proofs.Carried.{row_then}
+use Rattle.liveness.proofs.rows.end_block.Goals as goal
+
+pub returns : goal.returns
+returns c =
+    let p = c.args.program.now in
+    let locals = map (at_id (trees_of p.types)) c.args.body.now.locals in
+    let t = c.args.block.now.term in
+    let rows = c.args.rows.now in
+    let row = c.args.row in
+    let starts = c.args.starts.now in
+    let reads = term_reads (shapes_of (crate_of p)) locals t in
+    let next : c.as_slice.result.now ≡ targets t = c.as_slice.ensures ∙ c.in_ok-next.ensures in
+    let first : c.or_all.new.rows ≡ set rows row (or_rows starts (row_at rows row) (targets t)) = c.or_all.ensures ∙ ap (λ (xs : List ℕ). set rows row (or_rows starts (row_at rows row) xs)) next in
+    let second = row_then rows c.or_all.new.rows c.fill_term.new.rows row (λ x. or_rows starts x (targets t)) (λ x. cleared x (term_fills t)) c.requires.within first c.fill_term.ensures in
+    row_then rows c.fill_term.new.rows c.read_term.new.rows row (λ x. cleared (or_rows starts x (targets t)) (term_fills t)) (λ x. marked x reads) c.requires.within second c.read_term.ensures

@@ -1,0 +1,136 @@
+//! What a terminator reads, and what blocks fill.
+ghost use Rattle.std.specs.Prelude.{◌≡◌, ◌<◌, ◌||◌, not, set, length, IsTrue, false, true};
+ghost use Rattle.std.specs.List.{flat_map};
+ghost use Rattle.bit_rows.specs.Rows.{row_at, marked};
+ghost use Rattle.mir_rules.specs.Parts.{is_direct as path_is_direct};
+ghost use Rattle.mir_rules.specs.BodyRules.{goes_through_destructor};
+ghost use Rattle.mir_syntax.specs.Tree.{trees_of};
+ghost use Rattle.mir_syntax.specs.Crate.{crate_of, body_of};
+ghost use Rattle.mir_syntax.specs.Shapes.{shapes_of};
+ghost use Rattle.mir_syntax.specs.Drops.{KnowsDrops};
+ghost use Rattle.mir_syntax.specs.Ids.{IdsInTable, BodyInTable};
+ghost use Rattle.liveness.specs.Live.{result_reads, term_reads, term_fills, whole};
+ghost use Rattle.liveness.specs.Rows.{cleared, bare_fills};
+
+use crate::backward::{fill, is_direct, read_operand, read_operands, read_written};
+use bit_rows::BitRows;
+use mir_syntax::{Body, Place, Program, Proj, Stmt, Term};
+
+/// Whether a place without a dereference or a downcast takes a part of a value whose type has a destructor.
+fn goes_through_destructor(program: &Program, body: &Body, place: &Place) -> bool
+    requires knows { KnowsDrops program.now }
+    requires ids { IdsInTable program.now }
+    requires body_ids { BodyInTable program.now.types body.now }
+    requires direct { IsTrue (path_is_direct place.now.proj) }
+    ensures { result ≡ goes_through_destructor (shapes_of (crate_of program.now)) (body_of (trees_of program.now.types) body.now).locals place.now }
+{
+    let Some(local) = body.locals.get(place.local as usize) else {
+        return false;
+    };
+    let mut id = *local;
+    for proj in place.proj.as_slice() {
+        if program.destructor(id).is_some() {
+            return true;
+        }
+        let Proj::Field(index) = proj else {
+            return false;
+        };
+        let Some(next) = program.field_ty(id, *index) else {
+            return false;
+        };
+        id = next;
+    }
+    false
+}
+
+/// The place of a call's result is read where it isn't there in each value of its local's type.
+fn read_result(program: &Program, body: &Body, place: &Place, rows: &mut BitRows, row: u32)
+    requires knows { KnowsDrops program.now }
+    requires ids { IdsInTable program.now }
+    requires body_ids { BodyInTable program.now.types body.now }
+    requires row { row < length rows.old }
+    ensures { rows.new ≡ set rows.old row (marked (row_at rows.old row) (result_reads (shapes_of (crate_of program.now)) (body_of (trees_of program.now.types) body.now).locals place.now)) }
+{
+    if is_direct(place) && goes_through_destructor(program, body, place) {
+        rows.write(row, place.local, true);
+    } else {
+        read_written(place, rows, row);
+    }
+}
+
+/// Adds to a row the locals that a terminator reads.
+pub(crate) fn read_term(program: &Program, body: &Body, term: &Term, rows: &mut BitRows, row: u32)
+    requires knows { KnowsDrops program.now }
+    requires ids { IdsInTable program.now }
+    requires body_ids { BodyInTable program.now.types body.now }
+    requires row { row < length rows.old }
+    ensures { rows.new ≡ set rows.old row (marked (row_at rows.old row) (term_reads (shapes_of (crate_of program.now)) (body_of (trees_of program.now.types) body.now).locals term.now)) }
+{
+    match term {
+        Term::Switch(operand, _, _) => read_operand(operand, rows, row),
+        Term::Return => rows.write(row, 0, true),
+        Term::Drop(place, _) => rows.write(row, place.local, true),
+        Term::Call(place, _, args, _) => {
+            read_operands(args.as_slice(), rows, row);
+            read_result(program, body, place, rows, row);
+        }
+        Term::Assert(operand, _, _, values, _) => {
+            read_operand(operand, rows, row);
+            read_operands(values.as_slice(), rows, row);
+        }
+        Term::Goto(_) => {}
+        Term::Unreachable => {}
+    }
+}
+
+/// Takes from a row the local of which a terminator writes the whole.
+pub(crate) fn fill_term(term: &Term, rows: &mut BitRows, row: u32)
+    requires { row < length rows.old }
+    ensures { rows.new ≡ set rows.old row (cleared (row_at rows.old row) (term_fills term.now)) }
+{
+    if let Term::Call(place, _, _, _) = term {
+        fill(place, rows, row);
+    }
+}
+
+fn mark_whole(place: &Place, rows: &mut BitRows, row: u32)
+    requires { row < length rows.old }
+    ensures { rows.new ≡ set rows.old row (marked (row_at rows.old row) (whole place.now)) }
+{
+    if place.proj.is_empty() {
+        rows.write(row, place.local, true);
+    }
+}
+
+/// Adds to a row the local of which a statement writes the whole.
+fn mark_filled(stmt: &Stmt, rows: &mut BitRows, row: u32)
+    requires { row < length rows.old }
+    ensures { rows.new ≡ set rows.old row (marked (row_at rows.old row) (bare_fills stmt.now)) }
+{
+    match stmt {
+        Stmt::Assign(place, _) => mark_whole(place, rows, row),
+        Stmt::StorageLive(local) => rows.write(row, *local, true),
+        Stmt::StorageDead(local) => rows.write(row, *local, true),
+        Stmt::SetDiscriminant(_, _) => {}
+    }
+}
+
+/// Adds to a row the locals of which statements write the whole.
+pub(crate) fn mark_all_filled(stmts: &[Stmt], rows: &mut BitRows, row: u32)
+    requires { row < length rows.old }
+    ensures { rows.new ≡ set rows.old row (marked (row_at rows.old row) (flat_map bare_fills stmts.now)) }
+{
+    for stmt in stmts {
+        mark_filled(stmt, rows, row);
+    }
+}
+
+/// Adds to a row the local of which a terminator writes the whole.
+pub(crate) fn mark_filled_by_term(term: &Term, rows: &mut BitRows, row: u32)
+    requires { row < length rows.old }
+    ensures { rows.new ≡ set rows.old row (marked (row_at rows.old row) (term_fills term.now)) }
+{
+    if let Term::Call(place, _, _, _) = term {
+        mark_whole(place, rows, row);
+    }
+}

@@ -1,0 +1,11 @@
+pub mod FirstTypes
+pub mod LabelSteps
+pub mod Shaped
+pub mod SameTypes
+pub mod TellsOn
+pub mod OnTypes
+pub mod PlaceSteps
+pub mod Reading
+pub mod Building
+pub mod Calling
+pub mod Blocks

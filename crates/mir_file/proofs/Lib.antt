@@ -1,0 +1,10 @@
+pub mod Steps
+pub mod FirstItems
+pub mod Clashing
+pub mod Scopes
+pub mod AllFaults
+pub mod Declaring
+pub mod HeadSteps
+pub mod LineSteps
+pub mod TypesOf
+pub mod HeadFaults

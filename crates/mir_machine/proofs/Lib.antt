@@ -1,0 +1,4 @@
+pub mod Entering
+pub mod Visiting
+pub mod DropsOn
+pub mod Bits

@@ -1,0 +1,160 @@
+ghost use Rattle.std.specs.Prelude.{◌≡◌, ℕ, ◌<◌, ◌^◌, IsTrue, IfSome, Some, slice_get, length, map, option_map};
+ghost use Rattle.mir_syntax.specs.Tree.{named, at_id, trees_of};
+ghost use Rattle.mir_syntax.specs.declared.body.Function.{Function as FunctionData};
+ghost use Rattle.mir_syntax.specs.Crate.{crate_of, def_of, outside_of, function_of};
+ghost use Rattle.mir_syntax.specs.Ids.{outside_below, BodyInTable, IdsInTable};
+ghost use Rattle.mir_syntax.specs.Drops.{KnowsDrops};
+ghost use Rattle.mir_text.specs.NameFaults.{first_fault};
+ghost use Rattle.mir_rules.specs.Formed.{is_formed};
+ghost use Rattle.mir_rules.specs.DefinitionRules.{breaks_v01, breaks_v04};
+ghost use Rattle.mir_rules.specs.Broken.{gather, if_broken, header_broken, definition_found, outside_found, function_found};
+ghost use Rattle.mir_rules.specs.Faults.{by_line, lines_fit, wrong_field_fault, first_rule};
+ghost use Rattle.drop_tables.specs.Marks.{is_marked, drop_of};
+ghost use Rattle.mir_validate.specs.Codes.{first_code};
+ghost use Rattle.mir_validate.specs.Inside.{shapes};
+ghost use Rattle.mir_validate.specs.Walk.{place_of};
+
+use crate::fault::{Broken, on_line, sooner};
+use crate::inside::Inside;
+use drop_tables::header::{breaks_v02, breaks_v03};
+use drop_tables::{drop_of, is_marked};
+use mir_syntax::{Function, Lines, Program, TyId};
+
+fn code_if(broken: bool, code: u8) -> Option<u8>
+    ensures { result ≡ first_code (if_broken broken code) }
+{
+    if broken { Some(code) } else { None }
+}
+
+/// What definitions break: those that hold themselves by value.
+fn definitions_fault(program: &Program, lines: &Lines, holding: &[bool]) -> Option<Broken>
+    requires fit { IsTrue (lines_fit lines.now (crate_of program.now)) }
+    requires few { length program.now.defs < 2 ^ 32 }
+    requires holding { (d : ℕ) → d < length program.now.defs → is_marked holding.now d ≡ breaks_v01 (shapes program.now) d }
+    ensures { option_map place_of result ≡ first_fault (map (by_line lines.now) (gather (definition_found (shapes program.now)) 0 (crate_of program.now).defs)) }
+{
+    let mut found = None;
+    for at in 0..program.defs.len() {
+        let code = code_if(is_marked(holding, at as u32), 1);
+        found = sooner(found, on_line(lines.defs.as_slice()[at], code));
+    }
+    found
+}
+
+fn outsides_fault(program: &Program, lines: &Lines) -> Option<Broken>
+    requires fit { IsTrue (lines_fit lines.now (crate_of program.now)) }
+    requires ids { IdsInTable program.now }
+    ensures { option_map place_of result ≡ first_fault (map (by_line lines.now) (gather outside_found 0 (crate_of program.now).outsides)) }
+{
+    let mut found = None;
+    for at in 0..program.outsides.len() {
+        let code = code_if(breaks_v02(program, &program.outsides.as_slice()[at]), 2);
+        found = sooner(found, on_line(lines.outsides.as_slice()[at], code));
+    }
+    found
+}
+
+/// The type that a `drop fn` with the header of a destructor drops.
+fn dropped_type(program: &Program, function: &Function) -> Option<TyId>
+    requires ids { IdsInTable program.now }
+    requires in_table { BodyInTable program.now.types function.now.body }
+    ensures ty { option_map (at_id (trees_of program.now.types)) result ≡ option_map named (drop_of (function_of (trees_of program.now.types) function.now)) }
+    ensures in_table { IfSome result (λ id. id.0 < length program.now.types) }
+{
+    drop_of(program, function)?;
+    program.pointee(*function.body.locals.get(1)?)
+}
+
+/// Whether a function is a `drop fn` of a type whose destructor is an earlier one.
+fn breaks_v04(program: &Program, function: &Function, at: u32) -> bool
+    requires drops { KnowsDrops program.now }
+    requires ids { IdsInTable program.now }
+    requires in_table { BodyInTable program.now.types function.now.body }
+    ensures { result ≡ breaks_v04 (shapes program.now) at (function_of (trees_of program.now.types) function.now) }
+{
+    let Some(id) = dropped_type(program, function) else {
+        return false;
+    };
+    match program.destructor(id) {
+        Some(first) => first.0 < at,
+        None => false,
+    }
+}
+
+fn header_code(program: &Program, function: &Function, at: u32) -> Option<u8>
+    requires drops { KnowsDrops program.now }
+    requires ids { IdsInTable program.now }
+    requires in_table { BodyInTable program.now.types function.now.body }
+    ensures { result ≡ first_code (header_broken (shapes program.now) at (function_of (trees_of program.now.types) function.now)) }
+{
+    if breaks_v03(program, function) {
+        Some(3)
+    } else {
+        code_if(breaks_v04(program, function, at), 4)
+    }
+}
+
+/// What a function breaks, in its header and in its body.
+fn function_fault(program: &Program, lines: &Lines, at: usize) -> Option<Broken>
+    requires drops { KnowsDrops program.now }
+    requires ids { IdsInTable program.now }
+    requires formed { IsTrue (is_formed (crate_of program.now)) }
+    requires fit { IsTrue (lines_fit lines.now (crate_of program.now)) }
+    requires there { at < length program.now.functions }
+    requires small { length program.now.functions < 2 ^ 32 }
+    ensures { (function : FunctionData) → slice_get program.now.functions at ≡ Some function
+        → option_map place_of result ≡ first_fault (map (by_line lines.now) (function_found (crate_of program.now) (shapes program.now) at (function_of (trees_of program.now.types) function))) }
+{
+    let function = &program.functions.as_slice()[at];
+    let lines = &lines.functions.as_slice()[at];
+    let inside = Inside {
+        program,
+        body: &function.body,
+    };
+    let header = on_line(lines.head, header_code(program, function, at as u32));
+    sooner(header, inside.body_fault(lines))
+}
+
+fn functions_fault(program: &Program, lines: &Lines) -> Option<Broken>
+    requires drops { KnowsDrops program.now }
+    requires ids { IdsInTable program.now }
+    requires formed { IsTrue (is_formed (crate_of program.now)) }
+    requires fit { IsTrue (lines_fit lines.now (crate_of program.now)) }
+    requires small { length program.now.functions < 2 ^ 32 }
+    ensures { option_map place_of result ≡ first_fault (map (by_line lines.now) (gather (function_found (crate_of program.now) (shapes program.now)) 0 (crate_of program.now).functions)) }
+{
+    let mut found = None;
+    for at in 0..program.functions.len() {
+        found = sooner(found, function_fault(program, lines, at));
+    }
+    found
+}
+
+/// The first field whose type is written otherwise than it is.
+fn written_fault(lines: &Lines) -> Option<Broken>
+    ensures { option_map place_of result ≡ first_fault (wrong_field_fault lines.now.wrong_field) }
+{
+    match lines.wrong_field {
+        Some(line) => Some(Broken { line, code: 7 }),
+        None => None,
+    }
+}
+
+/// What is answered of all that a program breaks: the rule on the first line, and on one line the one of least code. `None` exactly where
+/// it breaks none.
+pub fn first_rule(program: &Program, lines: &Lines, holding: &[bool]) -> Option<Broken>
+    requires drops { KnowsDrops program.now }
+    requires ids { IdsInTable program.now }
+    requires formed { IsTrue (is_formed (crate_of program.now)) }
+    requires fit { IsTrue (lines_fit lines.now (crate_of program.now)) }
+    requires small { length program.now.functions < 2 ^ 32 }
+    requires few { length program.now.defs < 2 ^ 32 }
+    requires holding { (d : ℕ) → d < length program.now.defs → is_marked holding.now d ≡ breaks_v01 (shapes program.now) d }
+    ensures { option_map place_of result ≡ first_rule lines.now (crate_of program.now) }
+{
+    let written = written_fault(lines);
+    let definitions = definitions_fault(program, lines, holding);
+    let outsides = outsides_fault(program, lines);
+    let functions = functions_fault(program, lines);
+    sooner(written, sooner(definitions, sooner(outsides, functions)))
+}

@@ -1,0 +1,21 @@
+use Rattle.std.proofs.Common.{◌≡◌, ◌∷◌, List, drop, reverse, length, sym, ap, ◌∙◌}
+use Rattle.mir_syntax.specs.declared.body.Stmt.{Stmt}
+use Rattle.bit_rows.specs.Rows.{row_at}
+use Rattle.trim_locals.specs.Code.{bare_trimmed_stmts}
+use Rattle.trim_locals.proofs.Taken.{taken_next, taken_more, kept_more}
+use Rattle.trim_locals.proofs.blocks.trimmed_stmts.Goals as goal
+
+pub loop-stmt-preserved : goal.loop-stmt-preserved
+loop-stmt-preserved c =
+    let all = c.args.stmts in
+    let left = c.loop-stmt.left in
+    let next = c.pop.new.self in
+    let s = c.in-Some.stmt in
+    let taken = c.loop-stmt.invariant.0 in
+    let done = drop (length left) all in
+    let on : drop (length next) all ≡ s ∷ done = taken_next all left next s taken c.in-Some.ensures in
+    let marks = row_at c.args.used.now 0 in (
+      taken_more all left next s taken c.in-Some.ensures,
+      kept_more marks c.args.numbers.now c.loop-stmt.kept.items c.keep.new.kept.items s done c.loop-stmt.invariant.1 c.in_ok-keep.ensures
+          ∙ ap (λ (ss : List Stmt). reverse (bare_trimmed_stmts marks c.args.numbers.now ss)) (sym on),
+    )

@@ -1,0 +1,3 @@
+pub mod UpTo
+pub mod Measures
+pub mod Sized

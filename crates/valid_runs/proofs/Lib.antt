@@ -1,0 +1,4 @@
+pub mod Blanks
+pub mod Codes
+pub mod Starts
+pub mod Shown
