@@ -6,3 +6,5 @@ pub mod Knows
 pub mod Operands
 pub mod Rvalues
 pub mod Terms
+pub mod Counting
+pub mod Declarations

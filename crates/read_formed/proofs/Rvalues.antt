@@ -77,19 +77,19 @@ module _ (C : Crate) (N : Names) (knows : Knows C N) (L : Declared) (labels : Li
   rvalue-formed (r.cast x u) h good =
       formed-by (rvalue_named N L (r.cast x u)) (ty_formed C N knows.paths u (append_empty-right (operand_codes N L x) _ h)) (one_fitting N L x good.0) (one_placed N L labels b holds x (append_empty-left (operand_codes N L x) _ h))
   rvalue-formed (r.binary op x y) h good =
-      formed-by (rvalue_named N L (r.binary op x y)) refl (more_fitting N L x _ good.0 (one_fitting N L y good.1))
-      (more_placed N L labels b holds x _ (append_empty-left (operand_codes N L x) _ h) (one_placed N L labels b holds y (append_empty-right (operand_codes N L x) _ h)))
+      formed-by (rvalue_named N L (r.binary op x y)) refl (more_fitting N L x (operand_named N L y ∷ []) good.0 (one_fitting N L y good.1))
+      (more_placed N L labels b holds x (operand_named N L y ∷ []) (append_empty-left (operand_codes N L x) _ h) (one_placed N L labels b holds y (append_empty-right (operand_codes N L x) _ h)))
   rvalue-formed (r.overflow op x y) h good =
-      formed-by (rvalue_named N L (r.overflow op x y)) refl (more_fitting N L x _ good.0 (one_fitting N L y good.1))
-      (more_placed N L labels b holds x _ (append_empty-left (operand_codes N L x) _ h) (one_placed N L labels b holds y (append_empty-right (operand_codes N L x) _ h)))
+      formed-by (rvalue_named N L (r.overflow op x y)) refl (more_fitting N L x (operand_named N L y ∷ []) good.0 (one_fitting N L y good.1))
+      (more_placed N L labels b holds x (operand_named N L y ∷ []) (append_empty-left (operand_codes N L x) _ h) (one_placed N L labels b holds y (append_empty-right (operand_codes N L x) _ h)))
   rvalue-formed (r.unary op x) h good = formed-by (rvalue_named N L (r.unary op x)) refl (one_fitting N L x good) (one_placed N L labels b holds x h)
   rvalue-formed (r.reference true q) h good = of-place (c.ref_mut (place_named N L q)) refl refl q refl h
   rvalue-formed (r.reference false q) h good = of-place (c.ref (place_named N L q)) refl refl q refl h
   rvalue-formed (r.discriminant q) h good = of-place (c.discriminant (place_named N L q)) refl refl q refl h
   rvalue-formed r.nothing h good = refl
   rvalue-formed (r.tuple_of x xs) h good =
-      formed-by (rvalue_named N L (r.tuple_of x xs)) refl (more_fitting N L x _ (first-good x good.0) (items_fitting N L xs good.1))
-      (more_placed N L labels b holds x _ (append_empty-left (operand_codes N L x) _ h) (items_placed N L labels b holds xs (append_empty-right (operand_codes N L x) _ h)))
+      formed-by (rvalue_named N L (r.tuple_of x xs)) refl (more_fitting N L x (items_of (operand_named N L) xs) (first-good x good.0) (items_fitting N L xs good.1))
+      (more_placed N L labels b holds x (items_of (operand_named N L) xs) (append_empty-left (operand_codes N L x) _ h) (items_placed N L labels b holds xs (append_empty-right (operand_codes N L x) _ h)))
   rvalue-formed (r.build path x) h good =
       let own = unless_met (variant_fits N x (built_by N path >>= built_variant N)) 13 (append_empty-left (build_codes N path x) (parts_codes N L x) h) in
       formed-by (rvalue_named N L (r.build path x)) (build-there C N knows x (built_by N path) own) (parts_fitting N L x good)
