@@ -8,3 +8,6 @@ pub mod Rvalues
 pub mod Terms
 pub mod Counting
 pub mod Declarations
+pub mod Functions
+pub mod Files
+pub mod Lines
