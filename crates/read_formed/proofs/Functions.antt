@@ -9,7 +9,7 @@ use Rattle.mir_text.specs.GrammarTerms.{BlockRule, block_put}
 use Rattle.mir_text.specs.GrammarItems.{FnRule}
 use Rattle.mir_text.specs.Names.{Names, ty_of}
 use Rattle.mir_text.specs.NamedBodies.{Declared, declared_ty, block_named}
-use Rattle.mir_text.specs.Naming.{declares, declared, locals_from, body_named, function_named}
+use Rattle.mir_text.specs.Naming.{declares, declared, body_named, function_named}
 use Rattle.mir_text.specs.PartLines.{LinesFrom, past, LinedFn, blocks_lined, fn_lined}
 use Rattle.mir_text.specs.NameFaults.{on_line, unless, each, type_codes, none_missing, none_missing_in, blocks_in_order, labels_of, declaration_faults, args_in_place, declared_once, result_faults, block_faults, fn_faults}
 use Rattle.mir_text.specs.Nesting.{FnGood}

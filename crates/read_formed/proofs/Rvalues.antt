@@ -1,22 +1,20 @@
 -- Rvalues and statements whose names have no fault are formed.
-use Rattle.std.proofs.Common.{◌≡◌, ◌∙◌, ℕ, zero, suc, Bool, true, false, List, [], ◌∷◌, ◌++◌, length, slice_get, Option, Some, None, is_some, refl, sym, ap, arith}
-use Rattle.std.specs.List.{list_all, flat_map}
+use Rattle.std.proofs.Common.{◌≡◌, ◌∙◌, ℕ, zero, suc, true, false, List, [], ◌∷◌, slice_get, Option, Some, None, is_some, refl, sym, ap, arith}
+use Rattle.std.specs.List.{list_all}
 use Rattle.std.proofs.lemmas.Bool.{and_from}
-use Rattle.mir_syntax.specs.declared.body.Operand.{Operand}
 use Rattle.mir_syntax.specs.Crate as c
 use Rattle.mir_syntax.specs.Crate.{TypedVariant, TypedDef, TypedRvalue, TypedBody, Crate}
 use Rattle.mir_syntax.specs.Shapes.{◌>>=◌}
-use Rattle.mir_text.specs.Grammar.{Items, items_of, AllItems, AllOf}
-use Rattle.mir_text.specs.GrammarTypes.{PathRule}
+use Rattle.mir_text.specs.Grammar.{items_of, AllOf}
 use Rattle.mir_text.specs.GrammarPlaces as p
 use Rattle.mir_text.specs.GrammarPlaces.{PlaceRule, OperandRule}
 use Rattle.mir_text.specs.GrammarStatements as r
 use Rattle.mir_text.specs.GrammarStatements.{BuildRule, RvalueRule, StmtRule}
 use Rattle.mir_text.specs.Names.{Names}
-use Rattle.mir_text.specs.NamedBodies.{Declared, declared_ty, place_named, operand_named, built_by, or_first, parts_named, rvalue_named, stmt_named, stmts_named}
-use Rattle.mir_text.specs.NameFaults.{each_item, local_codes, place_codes, operand_codes, named_operand_codes, parts_codes, variant_fits, variant_number, def_number, built_variant, build_codes, rvalue_codes, stmt_codes}
-use Rattle.mir_text.specs.Nesting.{OperandGood, NamedGood, FirstGood, PartsGood, RvalueGood, StmtGood}
-use Rattle.mir_rules.specs.Parts.{operand_places, rvalue_operands, rvalue_places}
+use Rattle.mir_text.specs.NamedBodies.{Declared, declared_ty, place_named, operand_named, built_by, or_first, rvalue_named, stmt_named, stmts_named}
+use Rattle.mir_text.specs.NameFaults.{local_codes, place_codes, operand_codes, parts_codes, variant_fits, variant_number, def_number, built_variant, build_codes, rvalue_codes, stmt_codes}
+use Rattle.mir_text.specs.Nesting.{OperandGood, FirstGood, RvalueGood, StmtGood}
+use Rattle.mir_rules.specs.Parts.{rvalue_operands, rvalue_places}
 use Rattle.mir_rules.specs.Formed.{place_formed, operand_formed, has_variant, shape_formed, rvalue_formed, local_formed, stmt_formed}
 use Rattle.mir_rules.proofs.Lists.{append_empty-left, append_empty-right}
 use Rattle.read_formed.proofs.Tests.{unless_met, all_append}

@@ -1,19 +1,18 @@
 -- Terminators and blocks whose names have no fault are formed.
-use Rattle.std.proofs.Common.{◌≡◌, ℕ, Bool, true, false, ◌&&◌, nat_lt, List, [], ◌∷◌, ◌++◌, map, length, Option, Some, None, is_some, refl, subst}
+use Rattle.std.proofs.Common.{◌≡◌, ℕ, true, nat_lt, List, [], ◌∷◌, ◌++◌, map, Option, Some, None, is_some, refl, subst}
 use Rattle.std.specs.List.{list_all, flat_map}
 use Rattle.std.proofs.lemmas.Bool.{and_from}
-use Rattle.mir_syntax.specs.declared.body.Operand.{Operand}
 use Rattle.mir_syntax.specs.declared.body.Term.{Term}
 use Rattle.mir_syntax.specs.declared.body.Term.TheVariants as term
 use Rattle.mir_syntax.specs.Crate.{TypedBody, Crate}
 use Rattle.mir_text.specs.Words.{place_in}
-use Rattle.mir_text.specs.Grammar.{Items, items_of, AllOf}
+use Rattle.mir_text.specs.Grammar.{items_of, AllOf}
 use Rattle.mir_text.specs.GrammarTypes.{PathRule}
 use Rattle.mir_text.specs.GrammarPlaces.{PlaceRule, OperandRule}
 use Rattle.mir_text.specs.GrammarStatements.{StmtRule}
 use Rattle.mir_text.specs.GrammarTerms as g
 use Rattle.mir_text.specs.GrammarTerms.{ArmRule, TermRule, BlockRule, ended_put, block_put}
-use Rattle.mir_text.specs.Names.{Names, string_at, path_bytes}
+use Rattle.mir_text.specs.Names.{Names, path_bytes}
 use Rattle.mir_text.specs.NamedBodies.{Declared, place_named, operand_named, function_or, called_by, or_first_function, arm_named, stmts_named, term_named, block_named}
 use Rattle.mir_text.specs.PartLines.{LinesFrom, past, each_lined, block_lined, blocks_lined}
 use Rattle.mir_text.specs.NameFaults.{on_line, each, each_item, is_among, place_codes, operand_codes, stmt_codes, target_codes, call_codes, arm_codes, term_codes, stmt_faults, block_faults}

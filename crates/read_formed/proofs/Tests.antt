@@ -1,5 +1,5 @@
 -- What no codes and no faults say, and tests of whole lists.
-use Rattle.std.proofs.Common.{◌≡◌, ◌∙◌, ℕ, Bool, true, false, List, [], ◌∷◌, ◌++◌, map, refl, ap}
+use Rattle.std.proofs.Common.{◌≡◌, ◌∙◌, ℕ, Bool, true, false, List, [], ◌∷◌, ◌++◌, map, refl}
 use Rattle.std.specs.List.{list_all, flat_map}
 use Rattle.std.proofs.lemmas.Bool.{and_from, and_parts}
 use Rattle.std.proofs.lemmas.List.Folds.{list_all-append}
@@ -13,7 +13,6 @@ unless_met false code h = absurd cc
 
 pub no_codes : (n : ℕ) (codes : List ℕ) → on_line n codes ≡ [] → codes ≡ []
 no_codes n codes h = map_empty-source (λ code. let f : Fault = (n, code) in f) codes h
-
 
 -- ---- lists
 

@@ -1,8 +1,8 @@
 -- A type whose paths are known is formed; so are the structs and enums, and the outside functions, that a file names.
-use Rattle.std.proofs.Common.{◌≡◌, ◌∙◌, ◌<◌, ◌+◌, ℕ, suc, Bool, true, false, ◌||◌, nat_lt, nat_eq, bytes_eq, List, [], ◌∷◌, ◌++◌, map, length, Option, Some, None, is_some, refl, sym, subst, arith}
+use Rattle.std.proofs.Common.{◌≡◌, ◌<◌, ◌+◌, ℕ, suc, Bool, true, false, nat_lt, bytes_eq, List, [], ◌∷◌, map, length, Option, Some, None, is_some, refl, subst, arith}
 use Rattle.std.specs.List.{list_all}
 use Rattle.std.proofs.lemmas.Bool.{and_from, and_parts, lt-ltb}
-use Rattle.mir_syntax.specs.Crate.{TypedField, TypedVariant, TypedDef, Crate}
+use Rattle.mir_syntax.specs.Crate.{Crate}
 use Rattle.mir_text.specs.Words.{place_from, place_in}
 use Rattle.mir_text.specs.GrammarTypes as t
 use Rattle.mir_text.specs.GrammarTypes.{TypeRule, TypesRule, types_in}
