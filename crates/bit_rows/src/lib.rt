@@ -7,6 +7,7 @@
 #![tactic(auto)]
 
 mod kernel;
+mod lanes;
 mod rows;
 #[cfg(test)]
 mod tests;

@@ -1,0 +1,9 @@
+use Rattle.std.proofs.Common.{◌≡◌, ◌≢◌, ◌⊎◌, inl, inr, ℕ, ◌+◌, ◌<◌, ◌≤◌, false, true, List, length, get_or, refl, sym, ap, ap₂, ◌∙◌, arith}
+use Rattle.std.proofs.lemmas.Simd.{get_or-chunk, length-put_chunk, get_or-put_chunk_at, get_or-put_chunk_below, get_or-put_chunk_above}
+use lib.Lanes.{put_chunk, chunk}
+use Rattle.bit_rows.specs.Words.{mixed_word, Mixed}
+use Rattle.bit_rows.proofs.Lanes.{mixed_chunk}
+use Rattle.bit_rows.proofs.lanes.mix_block.Goals as goal
+
+pub returns : goal.returns
+returns c = mixed_chunk c.args.mix c.args.words.now c.args.into c.args.others.now c.args.from c.mixed_lanes-new.result c.differ.result c.requires.into_in c.mixed_lanes-new.ensures.lanes c.mixed_lanes-new.ensures.each c.differ.ensures
