@@ -1,4 +1,4 @@
 pub mod Tables
 pub mod Kept
 pub mod Marks
-pub mod Lanes
+pub mod Blocks

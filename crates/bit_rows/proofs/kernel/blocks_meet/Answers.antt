@@ -1,6 +1,6 @@
 use Rattle.std.proofs.Common.{◌≡◌, ◌+◌, ◌-◌, ◌*◌, ◌<◌, inl, inr, refl, arith}
 use Rattle.std.proofs.lemmas.Bool.{both_ways}
-use Rattle.bit_rows.proofs.Lanes.{meet_later, meet_split, no_meet}
+use Rattle.bit_rows.proofs.Blocks.{meet_later, meet_split, no_meet}
 use Rattle.bit_rows.proofs.kernel.blocks_meet.Goals as goal
 
 pub returns-then-block_meets : goal.returns-then-block_meets

@@ -1,6 +1,6 @@
 use Rattle.std.proofs.Common.{◌≡◌, ◌+◌, ◌-◌, ◌*◌, ◌/◌, ◌||◌, subst, arith}
 use Rattle.bit_rows.specs.Words.{Mixed}
-use Rattle.bit_rows.proofs.Lanes.{mixed_more}
+use Rattle.bit_rows.proofs.Blocks.{mixed_more}
 use Rattle.bit_rows.proofs.kernel.mix_others.Goals as goal
 
 pub returns : goal.returns

@@ -1,6 +1,6 @@
 use Rattle.std.proofs.Common.{◌≡◌, ◌+◌, ◌-◌, ◌*◌, ◌/◌, inl, inr, arith}
 use Rattle.std.proofs.lemmas.Bool.{both_ways}
-use Rattle.bit_rows.proofs.Lanes.{meet_first, meet_later, meet_split}
+use Rattle.bit_rows.proofs.Blocks.{meet_first, meet_later, meet_split}
 use Rattle.bit_rows.proofs.kernel.words_meet.Goals as goal
 
 pub returns-else-blocks_meet : goal.returns-else-blocks_meet

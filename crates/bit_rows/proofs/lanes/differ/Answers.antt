@@ -1,7 +1,7 @@
 use Rattle.std.proofs.Common.{ap, w64, ◌%◌, ◌^◌}
 use Rattle.std.proofs.lemmas.Simd.{tops_compared}
 use lib.Lanes.{mask_l}
-use Rattle.bit_rows.proofs.Lanes.{other, lanes_differ}
+use Rattle.bit_rows.proofs.Blocks.{other, lanes_differ}
 use Rattle.bit_rows.proofs.lanes.differ.Goals as goal
 
 pub returns : goal.returns

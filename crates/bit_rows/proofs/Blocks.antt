@@ -1,8 +1,9 @@
 -- Words in lanes, and words that are mixed in parts.
-use Rattle.std.proofs.Common.{◌≡◌, ◌≢◌, ◌⊎◌, inl, inr, refl, sym, ap, ap₂, ◌∙◌, subst, ℕ, zero, suc, ◌+◌, ◌-◌, ◌*◌, ◌/◌, ◌^◌, ◌<◌, ◌≤◌, eqb, nat_eq, Bool, true, false, not, ◌||◌, List, [], ◌∷◌, ◌++◌, length, get_or, IsTrue, ◌↔◌, ◌%◌, arith}
+use Rattle.std.proofs.Common.{◌≡◌, ◌≢◌, ◌⊎◌, inl, inr, refl, sym, ap, ap₂, ◌∙◌, subst, ℕ, zero, suc, ◌+◌, ◌-◌, ◌*◌, ◌/◌, ◌^◌, ◌<◌, ◌≤◌, eqb, nat_eq, Bool, true, false, not, ◌||◌, List, [], ◌∷◌, ◌++◌, length, get_or, T, IsTrue, ◌↔◌, ◌%◌, arith}
 use Rattle.std.specs.Prelude.{bit_and}
-use Rattle.std.proofs.lemmas.Bool.{cases_eq, cases_lt, cases_Bool, both_ways, eqb-true, ne_eqb}
-use Rattle.std.proofs.lemmas.List.{get_or_append_left, get_or-append_right, get_or_past}
+use Rattle.std.proofs.lemmas.Bool.{cases_eq, cases_lt, cases_Bool, both_ways, ne_eqb}
+use Rattle.std.proofs.Math.Facts.{eqb_no}
+use Rattle.std.proofs.lemmas.List.{length-append, get_or_append_left, get_or-append_right, get_or_past}
 use Rattle.std.proofs.lemmas.Simd.{length-zip2, get_or-zip2, mask_l-mod, get_or-chunk, length-put_chunk, get_or-put_chunk_at, get_or-put_chunk_below, get_or-put_chunk_above}
 use lib.Lanes.{zip2, mask_l, chunk, put_chunk}
 use Rattle.bit_rows.specs.declared.kernel.Mix.{Mix}
@@ -25,11 +26,7 @@ abbrev pub other : ℕ → ℕ → Bool
 other x y = not (eqb x y)
 
 other-is : (x y : ℕ) → other x y ≡ true → x ≢ y
-other-is x y t e = both_ways (other x y) (ap (λ z. not (eqb x z)) (sym e) ∙ ap not (same x)) t
-  where
-    same : (n : ℕ) → eqb n n ≡ true
-    same zero = refl
-    same (suc n) = same n
+other-is x y t = eqb_no (subst T (sym t) tt)
 
 is-other : (x y : ℕ) → x ≢ y → other x y ≡ true
 is-other x y ne = rw (ne_eqb x y ne) refl
@@ -122,7 +119,7 @@ mixed_front mix a a2 b into from count changed la l m = record {
     long = m.long ∙ la
 
     whole : length (a2 ++ b) ≡ length (a ++ b)
-    whole = omega (arith, m.long)
+    whole = length-append a2 b ∙ ap (λ n. n + length b) m.long ∙ sym (length-append a b)
 
     new : (j : ℕ) → j < from → get_or (a2 ++ b) j 0 ≡ get_or a2 j 0
     new j h = get_or_append_left a2 b 0 j (omega (arith, long))
@@ -147,7 +144,7 @@ mixed_back mix a b b2 into from count changed la l m = record {
 }
   where
     whole : length (a ++ b2) ≡ length (a ++ b)
-    whole = omega (arith, m.long)
+    whole = length-append a b2 ∙ ap (λ n. length a + n) m.long ∙ sym (length-append a b)
 
     past : (j : ℕ) → into ≤ j → (j < into) ⊎ (into + count ≤ j) → (j - into < 0) ⊎ (0 + count ≤ j - into)
     past j h (inl e) = absurd (omega arith)
