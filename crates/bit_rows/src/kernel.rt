@@ -36,7 +36,14 @@ pub(crate) fn with_bit(word: u64, bit: u32, on: bool) -> u64
 }
 
 /// Changes so many words, from a place on, by as many others, and tells whether one is another then: one word at a time.
-fn mix_each(mix: Mix, words: &mut [u64], into: usize, others: &[u64], from: usize, count: usize) -> bool
+fn mix_each(
+    mix: Mix,
+    words: &mut [u64],
+    into: usize,
+    others: &[u64],
+    from: usize,
+    count: usize,
+) -> bool
     requires into_in { into + count ≤ length words.old }
     requires from_in { from + count ≤ length others.now }
     ensures { Mixed mix words.old words.new into others.now from count result }
@@ -52,7 +59,14 @@ fn mix_each(mix: Mix, words: &mut [u64], into: usize, others: &[u64], from: usiz
 }
 
 /// The same for so many blocks of words, one block at a time.
-fn mix_blocks(mix: Mix, words: &mut [u64], into: usize, others: &[u64], from: usize, blocks: usize) -> bool
+fn mix_blocks(
+    mix: Mix,
+    words: &mut [u64],
+    into: usize,
+    others: &[u64],
+    from: usize,
+    blocks: usize,
+) -> bool
     requires into_in { into + blocks * 8 ≤ length words.old }
     requires from_in { from + blocks * 8 ≤ length others.now }
     ensures { Mixed mix words.old words.new into others.now from (blocks * 8) result }

@@ -30,7 +30,13 @@ fn differ(a: u64x8, b: u64x8) -> bool
 }
 
 /// Changes eight words, from a place on, by as many others, and tells whether one is another then.
-pub(crate) fn mix_block(mix: Mix, words: &mut [u64], into: usize, others: &[u64], from: usize) -> bool
+pub(crate) fn mix_block(
+    mix: Mix,
+    words: &mut [u64],
+    into: usize,
+    others: &[u64],
+    from: usize,
+) -> bool
     requires into_in { into + 8 ≤ length words.old }
     requires from_in { from + 8 ≤ length others.now }
     ensures { Mixed mix words.old words.new into others.now from 8 result }

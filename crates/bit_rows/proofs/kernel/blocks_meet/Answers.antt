@@ -1,12 +1,11 @@
-use Rattle.std.proofs.Common.{◌≡◌, ◌+◌, ◌-◌, ◌*◌, ◌<◌, inl, inr, refl, arith}
+use Rattle.std.proofs.Common.{◌+◌, ◌*◌, inl, inr, refl, arith}
 use Rattle.std.proofs.lemmas.Bool.{both_ways}
 use Rattle.bit_rows.proofs.Blocks.{meet_later, meet_split, no_meet}
 use Rattle.bit_rows.proofs.kernel.blocks_meet.Goals as goal
 
 pub returns-then-block_meets : goal.returns-then-block_meets
 returns-then-block_meets c =
-    let at = c.loop-block.block * 8 in
-    (
+    let at = c.loop-block.block * 8 in (
       λ t. meet_later c.args.words.now c.args.a c.args.b at 8 (c.args.blocks * 8) (omega (arith, c.loop-block-test.true)) (c.block_meets.ensures.0 c.if-block_meets.true),
       λ r. refl,
     )

@@ -1,4 +1,4 @@
-use Rattle.std.proofs.Common.{◌≡◌, ◌+◌, ◌≤◌, ◌<◌, ◌⊎◌, ◌++◌, List, ℕ, sym, subst, arith}
+use Rattle.std.proofs.Common.{◌++◌, List, ℕ, sym, subst, arith}
 use Rattle.bit_rows.specs.Words.{Mixed}
 use Rattle.bit_rows.proofs.Blocks.{mixed_front, mixed_back}
 use Rattle.bit_rows.proofs.kernel.mix_words.Goals as goal

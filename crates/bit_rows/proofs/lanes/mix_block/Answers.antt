@@ -1,7 +1,3 @@
-use Rattle.std.proofs.Common.{◌≡◌, ◌≢◌, ◌⊎◌, inl, inr, ℕ, ◌+◌, ◌<◌, ◌≤◌, false, true, List, length, get_or, refl, sym, ap, ap₂, ◌∙◌, arith}
-use Rattle.std.proofs.lemmas.Simd.{get_or-chunk, length-put_chunk, get_or-put_chunk_at, get_or-put_chunk_below, get_or-put_chunk_above}
-use lib.Lanes.{put_chunk, chunk}
-use Rattle.bit_rows.specs.Words.{mixed_word, Mixed}
 use Rattle.bit_rows.proofs.Blocks.{mixed_chunk}
 use Rattle.bit_rows.proofs.lanes.mix_block.Goals as goal
 

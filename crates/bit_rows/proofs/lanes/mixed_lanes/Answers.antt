@@ -1,4 +1,4 @@
-use Rattle.std.proofs.Common.{◌≡◌, ap, ◌∙◌, sym, map, get_or, bit_and, bit_or, arith}
+use Rattle.std.proofs.Common.{ap, ◌∙◌, sym, map, get_or, bit_and, bit_or, arith}
 use Rattle.std.specs.Int.{bit_not, w64}
 use Rattle.std.proofs.lemmas.Simd.{get_or-zip2}
 use Rattle.std.proofs.lemmas.List.{get_or-map, length-map}
