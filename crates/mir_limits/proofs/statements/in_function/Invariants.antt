@@ -1,0 +1,9 @@
+use Rattle.std.proofs.Common.{◌≡◌, ◌+◌, ℕ, IsTrue, length, take}
+use Rattle.mir_syntax.specs.Crate.{TypedFunction}
+use Rattle.mir_rules.specs.Broken.{gather}
+use Rattle.mir_rules.specs.Faults.{function_fits}
+use Rattle.mir_rules.specs.Limits.{block_spots}
+use Rattle.mir_limits.proofs.statements.in_function.Given as goal
+
+abbrev pub invariant-loop-at : goal.invariant-loop-at
+invariant-loop-at l = (f : ℕ) (typed : TypedFunction) → IsTrue (function_fits l.lines typed) → l.start ≡ length (gather (block_spots f) 0 (take l.at typed.body.blocks)) + l.left
