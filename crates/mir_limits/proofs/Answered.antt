@@ -1,8 +1,8 @@
 -- What is answered of lines at which limits are passed.
-use Rattle.std.proofs.Common.{◌≡◌, ℕ, ◌+◌, ◌<◌, ◌≤◌, Bool, true, false, nat_lt, if◌then◌else◌, Option, Some, None, map, Unit, tt, refl, sym, ap, ◌∙◌, arith, ltb-true, ltb-false, eq-eqb}
+use Rattle.std.proofs.Common.{◌≡◌, ℕ, ◌+◌, ◌<◌, ◌≤◌, Bool, true, false, nat_lt, if◌then◌else◌, Option, Some, None, map, refl, sym, ap, ◌∙◌, arith, ltb-true, ltb-false, eq-eqb}
 use Rattle.std.specs.Bool.{then_some}
 use Rattle.std.specs.Option.{option_map, option_or}
-use Rattle.std.proofs.lemmas.Bool.{lt-ltb, le-ltb, eqb-false}
+use Rattle.std.proofs.lemmas.Bool.{lt-ltb, le-ltb, eqb-false, ne_eqb}
 use Rattle.mir_syntax.specs.declared.lines.Lines.{Lines}
 use Rattle.mir_text.specs.NameFaults.{comes_first, earlier, first_fault}
 use Rattle.mir_rules.specs.Broken.{Spot, if_broken, at_spot}
@@ -35,7 +35,7 @@ Later j (Some a) = j < a.0
 wins : (j line : ℕ) (o : Option (ℕ × ℕ)) → Later j o → either (Some (j, line)) o ≡ Some (j, line)
 wins j line None h = refl
 wins j line (Some a) h =
-    rw (le-ltb a.0 j (omega arith), eqb-false a.0 j (omega arith)) refl
+    rw (le-ltb a.0 j (omega arith), ne_eqb a.0 j (λ same. omega (arith, same, h))) refl
 
 later_code : (j k : ℕ) (o : Option ℕ) → j < k → Later j (option_map (at_code k) o)
 later_code j k None h = tt

@@ -13,6 +13,11 @@ use Rattle.mir_limits.proofs.Gathered.{append_more, gather_take}
 
 -- ---- walks that find one at each item
 
+pub absent : {A : Type 0} (xs : List A) (k : ℕ) → slice_get xs k ≡ None → length xs ≤ k
+absent [] k h = omega arith
+absent (x ∷ xs) zero h = absurd cc
+absent (x ∷ xs) (suc k) h = let rest = absent xs k h in omega arith
+
 module _ {A B : Type 0} (find : ℕ → A → List B) (at : ℕ → B) (one : (i : ℕ) (x : A) → find i x ≡ at i ∷ []) where
   single_long_from : (n : ℕ) (xs : List A) → length (gather find n xs) ≡ length xs
   single_long_from n [] = refl

@@ -13,7 +13,7 @@ append_none : {A : Type 0} (xs : List A) → xs ++ [] ≡ xs
 append_none [] = refl
 append_none (x ∷ xs) = ap (λ l. x ∷ l) (append_none xs)
 
-append_more : {A : Type 0} (xs ys zs : List A) → xs ++ (ys ++ zs) ≡ (xs ++ ys) ++ zs
+pub append_more : {A : Type 0} (xs ys zs : List A) → xs ++ (ys ++ zs) ≡ (xs ++ ys) ++ zs
 append_more [] ys zs = refl
 append_more (x ∷ xs) ys zs = ap (λ l. x ∷ l) (append_more xs ys zs)
 
@@ -42,3 +42,7 @@ both_walks tell xs ys = sym (ap first_fault (map_append tell xs ys) ∙ first_fa
 pub gathered_more : {A : Type 0} (tell : Spot × ℕ → ℕ × ℕ) (find : ℕ → A → List (Spot × ℕ)) (xs : List A) (k : ℕ) (x : A) → slice_get xs k ≡ Some x
     → either (first_fault (map tell (gather find 0 (take k xs)))) (first_fault (map tell (find k x))) ≡ first_fault (map tell (gather find 0 (take (k + 1) xs)))
 gathered_more tell find xs k x e = both_walks tell (gather find 0 (take k xs)) (find k x) ∙ ap (λ l. first_fault (map tell l)) (sym (gather_take find xs k x e))
+
+pub three_walks : (tell : Spot × ℕ → ℕ × ℕ) (xs ys zs : List (Spot × ℕ)) → either (either (first_fault (map tell xs)) (first_fault (map tell ys))) (first_fault (map tell zs)) ≡ first_fault (map tell (xs ++ (ys ++ zs)))
+three_walks tell xs ys zs =
+    ap (λ o. either o (first_fault (map tell zs))) (both_walks tell xs ys) ∙ (both_walks tell (xs ++ ys) zs ∙ ap (λ l. first_fault (map tell l)) (sym (append_more xs ys zs)))

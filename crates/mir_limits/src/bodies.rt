@@ -44,7 +44,7 @@ fn calls(blocks: &[Block]) -> usize
 {
     let mut found = 0;
     let mut rest = blocks;
-    'blocks: while let [block, others @ ..] = rest {
+    'walk: while let [block, others @ ..] = rest {
         if is_call(&block.term) {
             found += 1;
         }
@@ -96,7 +96,7 @@ impl Search<'_> {
     {
         let mut total = 0;
         let mut rest = body.blocks.as_slice();
-        'blocks: while let [block, others @ ..] = rest {
+        'walk: while let [block, others @ ..] = rest {
             total = add(total, self.term_weight(body, &block.term));
             rest = others;
         }

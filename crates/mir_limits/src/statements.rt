@@ -8,7 +8,7 @@ ghost use Rattle.mir_rules.specs.Faults.{block_fits, function_fits, lines_fit, b
 ghost use Rattle.mir_rules.specs.Limits.{most_statements, block_spots, function_spots, statement_spots, statements_passed};
 ghost use Rattle.mir_limits.specs.Answer.{at_code, Reaches};
 
-use mir_syntax::{FnLines, Lines};
+use mir_syntax::{FnLines, Lines, List};
 
 /// Where a count over statements ends: at the line of the one that is looked for, or behind them all with so many still to go.
 #[derive(Clone, Copy, Debug, Drop)]
@@ -17,12 +17,12 @@ pub enum Reached {
     Beyond(usize),
 }
 
-fn in_block(lines: &[u32], left: usize) -> Reached
+fn in_block(lines: &List<u32>, left: usize) -> Reached
     ensures { (all : LinesData) (f block : ℕ) (g : FnLinesData) (k : BlockLinesData) (typed : TypedBlock) → slice_get all.functions f ≡ Some g → slice_get g.blocks block ≡ Some k → k.stmts ≡ lines.now
         → IsTrue (block_fits k typed) → Reaches all (block_spots f block typed) left result }
 {
-    match lines.get(left) {
-        Some(line) => Reached::Line(*line),
+    match lines.get(left).copied() {
+        Some(line) => Reached::Line(line),
         None => Reached::Beyond(left - lines.len()),
     }
 }
@@ -32,7 +32,7 @@ fn in_function(lines: &FnLines, start: usize) -> Reached
 {
     let mut left = start;
     for at in 0..lines.blocks.len() {
-        match in_block(lines.blocks.as_slice()[at].stmts.as_slice(), left) {
+        match in_block(&lines.blocks.as_slice()[at].stmts, left) {
             Reached::Line(line) => return Reached::Line(line),
             Reached::Beyond(more) => left = more,
         }

@@ -24,4 +24,7 @@ mod seen;
 mod statement;
 mod terminator;
 mod typing;
+mod validate;
 mod walk;
+
+pub use validate::{Fault, Refused, Valid, validate};

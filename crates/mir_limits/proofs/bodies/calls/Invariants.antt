@@ -5,10 +5,10 @@ use Rattle.mir_syntax.specs.Crate.{block_of}
 use Rattle.mir_rules.specs.Limits.{ends_in_call}
 use Rattle.mir_limits.proofs.bodies.calls.Given as goal
 
-abbrev pub invariant-blocks : goal.invariant-blocks
-invariant-blocks l =
+abbrev pub invariant-walk : goal.invariant-walk
+invariant-walk l =
     (l.found + length l.rest ≤ length l.blocks)
     × ((trees : List Tree) → l.found + count_by ends_in_call (map (block_of trees) l.rest) ≡ count_by ends_in_call (map (block_of trees) l.blocks))
 
-abbrev pub decreases-blocks : goal.decreases-blocks
-decreases-blocks l = length l.rest
+abbrev pub decreases-walk : goal.decreases-walk
+decreases-walk l = length l.rest
