@@ -7,7 +7,8 @@ use Rattle.mir_syntax.specs.declared.lines.Lines.{Lines}
 use Rattle.mir_text.specs.NameFaults.{comes_first, earlier, first_fault}
 use Rattle.mir_rules.specs.Broken.{Spot, if_broken, at_spot}
 use Rattle.mir_rules.specs.Faults.{line_at, by_code}
-use Rattle.mir_limits.specs.Answer.{at_code, either}
+use Rattle.mir_limits.specs.declared.passed.Passed.{Passed}
+use Rattle.mir_limits.specs.Answer.{answer_of, at_code, either}
 
 -- ---- one limit
 
@@ -50,7 +51,7 @@ later_both j (Some a) (Some b) h g = go (comes_first b a)
     go true = g
     go false = h
 
-abbrev on : ℕ → Option ℕ → Option (ℕ × ℕ)
+abbrev pub on : ℕ → Option ℕ → Option (ℕ × ℕ)
 on code line = option_map (at_code code) line
 
 pub in_order : (a b c d e : Option ℕ) → option_or (option_or (option_or (option_or (on 2 a) (on 3 b)) (on 4 c)) (on 5 d)) (on 6 e) ≡ either (on 2 a) (either (on 3 b) (either (either (on 4 c) (on 5 d)) (on 6 e)))
@@ -66,3 +67,7 @@ in_order None None (Some c) d e =
 in_order None None None (Some d) e = sym (wins 5 d (on 6 e) (later_code 5 6 e (omega arith)))
 in_order None None None None None = refl
 in_order None None None None (Some e) = refl
+
+pub or_answer : (a b : Option Passed) → option_map answer_of (option_or a b) ≡ option_or (option_map answer_of a) (option_map answer_of b)
+or_answer None b = refl
+or_answer (Some x) b = refl

@@ -1,4 +1,4 @@
-use Rattle.std.proofs.Common.{◌≡◌, ◌<◌, Some, nat_lt, length, get_or, slice_get, map, refl, ap, ap₂, ◌∙◌, arith}
+use Rattle.std.proofs.Common.{◌≡◌, ◌<◌, Some, nat_lt, length, get_or, slice_get, map, refl, sym, ap, ap₂, ◌∙◌, arith}
 use Rattle.std.specs.Bool.{then_some}
 use Rattle.std.specs.Option.{option_map}
 use Rattle.std.proofs.lemmas.Option.{slice_get_read, slice_get-map}
@@ -54,10 +54,10 @@ loop-at-preserved c =
     let is : slice_get C.functions at ≡ Some (view f) = slice_get-map view p.functions at ∙ ap (option_map view) found in
     let head = header_line lines at l there in
     let blocks : option_map (at_code 4) c.then_some.result ≡ first_fault (map (by_code lines) (count_passed 4 (blocks_count D) at (view f))) =
-    ap (option_map (at_code 4)) (c.then_some.ensures ∙ ap₂ then_some (c.too_many-many.ensures.blocks f found) (ap (λ x. x.head) c.index-as_slice-at.is))
+    ap (option_map (at_code 4)) (c.then_some.ensures ∙ ap₂ then_some (c.too_many-many.ensures.blocks f found) (ap (λ x. x.head) (sym c.index-as_slice-at.is)))
     ∙ spot_passed lines (header at) l.head (nat_lt most_in_body (blocks_count D (view f).body)) 4 head in
     let locals : option_map (at_code 5) c.then_some-in-loop-at.result ≡ first_fault (map (by_code lines) (count_passed 5 (locals_count D) at (view f))) =
-    ap (option_map (at_code 5)) (c.then_some-in-loop-at.ensures ∙ ap₂ then_some (c.too_many-many.ensures.locals f found) (ap (λ x. x.head) c.index-as_slice-at.is))
+    ap (option_map (at_code 5)) (c.then_some-in-loop-at.ensures ∙ ap₂ then_some (c.too_many-many.ensures.locals f found) (ap (λ x. x.head) (sym c.index-as_slice-at.is)))
     ∙ spot_passed lines (header at) l.head (nat_lt most_in_body (locals_count D (view f).body)) 5 head in (
       c.earlier-blocks.ensures 4 ∙ (ap₂ either c.loop-at.invariant.0 blocks ∙ gathered_more (by_code lines) (count_passed 4 (blocks_count D)) C.functions at (view f) is),
       c.earlier-locals.ensures 5 ∙ (ap₂ either c.loop-at.invariant.1 locals ∙ gathered_more (by_code lines) (count_passed 5 (locals_count D)) C.functions at (view f) is),
