@@ -24,7 +24,7 @@ mod seen;
 mod statement;
 mod terminator;
 mod typing;
-mod validate;
+mod verdict;
 mod walk;
 
-pub use validate::{Fault, Refused, Valid, validate};
+pub use verdict::{Fault, Refused, Valid, validate};

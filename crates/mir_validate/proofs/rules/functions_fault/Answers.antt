@@ -4,6 +4,7 @@ use Rattle.std.proofs.lemmas.Option.{slice_get-map}
 use Rattle.mir_syntax.specs.Tree.{trees_of}
 use Rattle.mir_syntax.specs.Crate.{crate_of, function_of}
 use Rattle.mir_rules.specs.Broken.{function_found}
+use Rattle.mir_rules.specs.Faults.{by_line}
 use Rattle.mir_rules.proofs.Terminators.{slice_get_there}
 use Rattle.mir_validate.specs.Inside.{shapes}
 use Rattle.mir_limits.specs.Answer.{either}

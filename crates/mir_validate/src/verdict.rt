@@ -1,4 +1,4 @@
-ghost use Rattle.std.specs.Prelude.{◌≡◌, ℕ, ◌+◌, ◌*◌, ◌<◌, ◌≤◌, ◌^◌, [], IsTrue, IfOk, IfErr, OnOk, None, Some, length};
+ghost use Rattle.std.specs.Prelude.{◌≡◌, ℕ, ◌+◌, ◌*◌, ◌<◌, ◌≤◌, ◌^◌, [], IsTrue, IfOk, IfErr, OnOk, None, Some, false, length};
 ghost use Rattle.mir_syntax.specs.declared.types.Ty.TheVariants as ty;
 ghost use Rattle.mir_syntax.specs.declared.types.ScalarTy.TheVariants as scalar_ty;
 ghost use Rattle.mir_syntax.specs.declared.types.IntTy.TheVariants as int_ty;
@@ -9,7 +9,7 @@ ghost use Rattle.mir_rules.specs.Formed.{is_formed};
 ghost use Rattle.mir_rules.specs.Faults.{lines_fit, first_rule, first_limit};
 ghost use Rattle.mir_rules.specs.Valid as rules;
 ghost use Rattle.mir_validate.specs.Complete.{Grown, Has, mutable};
-ghost use Rattle.mir_validate.specs.declared.validate.Fault.TheVariants as fault;
+ghost use Rattle.mir_validate.specs.declared.verdict.Fault.TheVariants as fault;
 
 use crate::judge::judge;
 use mir_limits::limit_fault;
