@@ -26,30 +26,6 @@ pub not_true : (b : Bool) → (b ≡ true → ⊥) → b ≡ false
 not_true true h = absurd (h refl)
 not_true false h = refl
 
--- ---- whole places
-
-no_end : (ps : List Proj) → path_formed ps ≡ true → ends_in_downcast ps ≡ false
-no_end [] h = refl
-no_end (proj.Field i ∷ []) h = refl
-no_end (proj.Deref ∷ []) h = refl
-no_end (proj.Downcast k ∷ []) h = absurd cc
-no_end (proj.Field i ∷ (q ∷ ps)) h = no_end (q ∷ ps) h
-no_end (proj.Deref ∷ (q ∷ ps)) h = no_end (q ∷ ps) h
-no_end (proj.Downcast k ∷ (q ∷ ps)) h = no_end (q ∷ ps) (and_true-right (begins_with_field (q ∷ ps)) (path_formed (q ∷ ps)) h)
-
-whole_path : (D : List Shape) (t : Tree) (ps : List Proj) → path_formed ps ≡ true → whole_path_ty D t ps ≡ path_ty D t ps
-unfolding whole_path_ty
-whole_path D t ps h = rw (no_end ps h) refl
-
-whole_local : (D : List Shape) (o : Option Tree) (ps : List Proj) → path_formed ps ≡ true → (o >>= λ t. whole_path_ty D t ps) ≡ (o >>= λ t. path_ty D t ps)
-unfolding ◌>>=◌
-whole_local D None ps h = refl
-whole_local D (Some t) ps h = whole_path D t ps h
-
-pub whole_place : (D : List Shape) (locals : List Tree) (p : Place) → path_formed p.proj ≡ true → whole_place_ty D locals p ≡ place_ty D locals p
-unfolding place_ty
-whole_place D locals p h = whole_local D _ p.proj h
-
 -- ---- types of the table, by what they aren't
 
 pub other_scalar : (trees : List Tree) (ty : Ty) → ((s : ScalarTy) → ty ≡ Scalar s → ⊥) → scalar_of (node trees ty) ≡ None

@@ -6,18 +6,12 @@ use Rattle.mir_syntax.specs.declared.body.Block.{Block}
 use Rattle.mir_syntax.specs.Tree.{Tree}
 use Rattle.mir_syntax.specs.Crate.{Crate, stmt_of}
 use Rattle.mir_syntax.specs.Shapes.{Shape}
-use Rattle.mir_text.specs.NameFaults.{earlier}
 use Rattle.mir_rules.specs.Broken.{statement_broken, terminator_broken}
 use Rattle.mir_validate.specs.declared.fault.Broken.{Broken}
 
 -- the line and the code
 abbrev pub place_of : Broken → ℕ × ℕ
 place_of b = (b.line, b.code)
-
--- the fault that is kept of two
-abbrev pub either : Option (ℕ × ℕ) → Option (ℕ × ℕ) → Option (ℕ × ℕ)
-either None b = b
-either (Some a) b = Some (earlier a b)
 
 abbrev pub at_line : ℕ → ℕ → ℕ × ℕ
 at_line line code = (line, code)

@@ -24,4 +24,7 @@ mod seen;
 mod statement;
 mod terminator;
 mod typing;
+mod verdict;
 mod walk;
+
+pub use verdict::{Fault, Refused, Valid, validate};
