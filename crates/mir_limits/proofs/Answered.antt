@@ -1,10 +1,10 @@
 -- What is answered of lines at which limits are passed.
-use Rattle.std.proofs.Common.{◌≡◌, ℕ, ◌+◌, ◌<◌, ◌≤◌, Bool, true, false, nat_lt, if◌then◌else◌, Option, Some, None, map, refl, sym, ap, ◌∙◌, arith, ltb-true, ltb-false, eq-eqb}
+use Rattle.std.proofs.Common.{◌≡◌, ℕ, ◌<◌, ◌≤◌, Bool, true, false, nat_lt, if◌then◌else◌, Option, Some, None, map, refl, sym, ap, ◌∙◌, arith, eq-eqb}
 use Rattle.std.specs.Bool.{then_some}
 use Rattle.std.specs.Option.{option_map, option_or}
-use Rattle.std.proofs.lemmas.Bool.{lt-ltb, le-ltb, eqb-false, ne_eqb}
+use Rattle.std.proofs.lemmas.Bool.{lt-ltb, le-ltb, ne_eqb}
 use Rattle.mir_syntax.specs.declared.lines.Lines.{Lines}
-use Rattle.mir_text.specs.NameFaults.{comes_first, earlier, first_fault}
+use Rattle.mir_text.specs.NameFaults.{comes_first, first_fault}
 use Rattle.mir_rules.specs.Broken.{Spot, if_broken, at_spot}
 use Rattle.mir_rules.specs.Faults.{line_at, by_code}
 use Rattle.mir_limits.specs.declared.passed.Passed.{Passed}

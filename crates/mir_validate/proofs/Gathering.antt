@@ -1,20 +1,17 @@
 -- What is broken at a definition, an outside function or a header, on its line.
-use Rattle.std.proofs.Common.{◌≡◌, ℕ, zero, suc, ◌+◌, Bool, true, false, List, [], ◌∷◌, ◌++◌, map, take, Some, slice_get, refl, sym, ap, ap₂, ◌∙◌, arith}
+use Rattle.std.proofs.Common.{◌≡◌, ℕ, Bool, true, false, List, ◌++◌, map, refl, sym, ap, ◌∙◌}
 use Rattle.mir_syntax.specs.declared.lines.Lines.{Lines}
 use Rattle.mir_syntax.specs.Shapes.{Shape}
 use Rattle.mir_syntax.specs.Crate.{TypedFunction}
 use Rattle.mir_text.specs.NameFaults.{first_fault}
-use Rattle.mir_rules.specs.Broken.{Spot, gather, if_broken, at_spot, header_broken}
+use Rattle.mir_rules.specs.Broken.{Spot, if_broken, at_spot, header_broken}
 use Rattle.mir_rules.specs.DefinitionRules.{breaks_v03, breaks_v04}
 use Rattle.mir_rules.specs.Faults.{line_at, by_line}
-use Rattle.mir_rules.proofs.Least.{first_fault_append}
 use Rattle.mir_validate.specs.Codes.{first_code}
 use Rattle.mir_validate.specs.Terms.{ascends}
 use Rattle.mir_validate.specs.Walk.{on_line}
-use Rattle.mir_limits.specs.Answer.{either}
 use Rattle.mir_validate.proofs.Faulty.{line_first}
 use Rattle.mir_validate.proofs.Located.{at_spots}
-use Rattle.mir_limits.proofs.Gathered.{map_append}
 
 -- what is broken at one spot
 pub spot_first : (lines : Lines) (spot : Spot) (line : ℕ) (codes : List ℕ) → line_at lines spot ≡ line → ascends codes ≡ true → on_line line (first_code codes) ≡ first_fault (map (by_line lines) (map (at_spot spot) codes))

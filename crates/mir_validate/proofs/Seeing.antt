@@ -1,22 +1,16 @@
 -- The types that are seen, and whether they are those of the table.
-use Rattle.std.proofs.Common.{◌≡◌, ℕ, ◌<◌, Bool, true, false, ◌&&◌, nat_eq, List, [], ◌∷◌, length, Option, Some, None, refl, ap, eqb-true}
+use Rattle.std.proofs.Common.{◌≡◌, ℕ, ◌<◌, Bool, true, false, ◌&&◌, nat_eq, List, [], ◌∷◌, length, None, refl, ap, eqb-true}
 use Rattle.std.proofs.lemmas.Bool.{eqb-false}
 use Rattle.mir_syntax.specs.declared.types.TyId.{TyId}
 use Rattle.mir_syntax.specs.declared.types.ScalarTy.{ScalarTy}
 use Rattle.mir_syntax.specs.declared.types.ScalarTy.TheVariants as scalar_ty
 use Rattle.mir_syntax.specs.declared.types.Ty.{Ty}
 use Rattle.mir_syntax.specs.declared.types.Ty.TheVariants.{Scalar, Tuple, Ref, RefMut, Named}
-use Rattle.mir_syntax.specs.declared.body.Proj.{Proj}
-use Rattle.mir_syntax.specs.declared.body.Proj.TheVariants as proj
-use Rattle.mir_syntax.specs.declared.body.Place.{Place}
 use Rattle.mir_syntax.specs.Tree.{Tree, scalar, more, ref, ref_mut, named, at_id, at_ids, node, trees_of}
 use Rattle.mir_syntax.specs.Table.{IsTable}
-use Rattle.mir_syntax.specs.Shapes.{Shape, place_ty, path_ty, whole_path_ty, whole_place_ty, ends_in_downcast, ◌>>=◌}
 use Rattle.mir_syntax.proofs.OneId.{one-id-each}
-use Rattle.mir_rules.specs.Formed.{path_formed, begins_with_field}
 use Rattle.mir_rules.specs.Same.{same_tree}
 use Rattle.mir_rules.specs.Typing.{scalar_of}
-use Rattle.mir_rules.proofs.Lists.{and_true-right}
 use Rattle.mir_validate.specs.Inside.{flagged}
 use Rattle.mir_rules.proofs.Same.{same_tree_is, same_tree_refl}
 

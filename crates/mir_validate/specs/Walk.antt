@@ -1,5 +1,5 @@
 -- The walk over a body with its lines, in the shape of the code. No public promise rests on these.
-use Rattle.std.specs.Prelude.{ℕ, List, [], ◌∷◌, ◌++◌, map, Option, Some, None, option_map}
+use Rattle.std.specs.Prelude.{ℕ, List, [], ◌∷◌, ◌++◌, map, Option, option_map}
 use Rattle.mir_syntax.specs.declared.lines.BlockLines.{BlockLines}
 use Rattle.mir_syntax.specs.declared.body.Stmt.{Stmt}
 use Rattle.mir_syntax.specs.declared.body.Block.{Block}

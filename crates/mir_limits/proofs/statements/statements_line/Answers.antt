@@ -1,5 +1,5 @@
-use Rattle.std.proofs.Common.{◌≡◌, ◌≤◌, ◌+◌, length, arith}
-use Rattle.mir_rules.specs.Limits.{most_statements, statement_spots, statements_passed}
+use Rattle.std.proofs.Common.{arith}
+use Rattle.mir_rules.specs.Limits.{statement_spots, statements_passed}
 use Rattle.mir_limits.proofs.Counted.{told_past, none_past}
 use Rattle.mir_limits.proofs.statements.statements_line.Goals as goal
 

@@ -1,6 +1,5 @@
 use Rattle.std.proofs.Common.{sym, subst}
 use Rattle.mir_syntax.specs.Crate.{Crate, crate_of}
-use Rattle.mir_rules.specs.Formed.{is_formed}
 use Rattle.mir_rules.specs.Valid.{Valid, Within}
 use Rattle.mir_validate.proofs.Completing.{same_crate, ids_stay}
 use Rattle.mir_validate.proofs.Validated.{is_valid, is_within}

@@ -1,4 +1,4 @@
-use Rattle.std.proofs.Common.{◌≡◌, IsTrue, List, map, length, sum_by, refl, ap, subst, sym, arith}
+use Rattle.std.proofs.Common.{IsTrue, List, map, sum_by, subst, sym, arith}
 use Rattle.std.specs.List.{list_all}
 use Rattle.mir_syntax.specs.declared.body.Block.{Block}
 use Rattle.mir_syntax.specs.Tree.{trees_of}
