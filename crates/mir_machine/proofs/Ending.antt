@@ -1,5 +1,5 @@
 -- What terminators do.
-use Rattle.std.proofs.Common.{◌≡◌, refl, sym, ap, subst, ◌∙◌, ℕ, suc, nat_eq, ◌+◌, ◌<◌, ◌≤◌, Bool, true, false, List, [], ◌∷◌, ◌++◌, map, length, drop, get_or, Option, Some, None, slice_get, arith, drop-cons, ℤ}
+use Rattle.std.proofs.Common.{◌≡◌, refl, sym, ap, ◌∙◌, ℕ, suc, nat_eq, ◌+◌, ◌<◌, ◌≤◌, Bool, true, false, List, [], ◌∷◌, ◌++◌, map, length, drop, get_or, Option, Some, None, slice_get, arith, drop-cons, ℤ}
 use Rattle.std.specs.Option.{option_map}
 use Rattle.std.proofs.lemmas.Option.{slice_get-map, slice_get_past, slice_get_read}
 use Rattle.std.proofs.lemmas.List.{drop_all}
@@ -24,8 +24,8 @@ use Rattle.mir_syntax.specs.Crate.{TypedStmt, TypedOutside, TypedBlock, TypedBod
 use Rattle.mir_syntax.specs.Shapes.{Shape, ◌>>=◌}
 use Rattle.mir_num.specs.Numbers as num
 use Rattle.mir_semantics.specs.Values.{Value, number, nil}
-use Rattle.mir_semantics.specs.Memory.{Memory, value_at, write, close_frame}
-use Rattle.mir_semantics.specs.Step.{Code, Dest, Visit, Dropping, Control, Called, State, Next, on, stop, fail, returned, aborted, no_answer, Here, Reading, store, exec, read_at, read_all, read_number, local_addr, dest_of, scalar_in, scalar_ty_of, take_arm, to_block, next_stmt, go_on, calling, answered, enter, entered, ask, call, numbers_in, return_to, work_on, left_at, visits_of, destroyed_at, destroyed, integers, check, finish, perform, step}
+use Rattle.mir_semantics.specs.Memory.{Memory, close_frame}
+use Rattle.mir_semantics.specs.Step.{Code, Dest, Visit, Dropping, Control, Called, State, on, stop, fail, returned, aborted, no_answer, Here, store, exec, read_at, read_all, read_number, local_addr, dest_of, scalar_in, take_arm, to_block, next_stmt, calling, answered, enter, entered, ask, call, numbers_in, return_to, work_on, left_at, visits_of, destroyed_at, destroyed, integers, check, finish, perform, step}
 use Rattle.mir_meaning.proofs.Binds.{bind_at, bind_gone}
 use Rattle.mir_machine.specs.Ends.{returned_to, frame_ended, told, asked, outside_called}
 

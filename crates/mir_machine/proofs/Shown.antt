@@ -1,9 +1,9 @@
 -- The integers that patterns stand for.
-use Rattle.std.proofs.Common.{◌≡◌, ◌∙◌, refl, sym, ap, ℕ, ◌+◌, ◌-◌, ◌/◌, ◌<◌, ◌≤◌, true, false, arith, ℤ, pos}
+use Rattle.std.proofs.Common.{◌≡◌, ◌∙◌, sym, ap, ℕ, ◌+◌, ◌-◌, ◌/◌, ◌<◌, ◌≤◌, true, false, arith, pos}
 use Rattle.std.specs.Prelude.{neg_ℤ}
 use Rattle.std.proofs.lemmas.Int.{ints}
 use Rattle.mir_syntax.specs.declared.types.ScalarTy.{ScalarTy}
-use Rattle.mir_num.specs.Widths.{is_signed, patterns, negatives}
+use Rattle.mir_num.specs.Widths.{is_signed, patterns}
 use Rattle.mir_num.specs.Numbers.{wrap, integer_of}
 use Rattle.mir_num.proofs.Patterns.{half, wrap_below, integer_low, integer_high, integer_unsigned}
 

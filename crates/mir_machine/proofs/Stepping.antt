@@ -1,5 +1,5 @@
 -- One step after another.
-use Rattle.std.proofs.Common.{◌≡◌, ◌&&◌, nat_lt, refl, sym, ap, subst, ◌∙◌, ℕ, zero, suc, ◌+◌, ◌-◌, ◌<◌, ◌≤◌, Bool, true, false, List, [], ◌∷◌, map, Option, Some, None, arith}
+use Rattle.std.proofs.Common.{◌≡◌, ◌&&◌, nat_lt, refl, sym, ap, subst, ◌∙◌, ℕ, zero, suc, ◌+◌, ◌-◌, ◌<◌, ◌≤◌, Bool, true, false, List, Option, Some, None, arith}
 use Rattle.std.specs.Prelude.{Result, Ok, Err, IfOk, is_ok}
 use Rattle.mir_syntax.specs.declared.OutOfMemory.{OutOfMemory}
 use Rattle.mir_syntax.specs.declared.program.Program.{Program}
@@ -7,7 +7,6 @@ use Rattle.mir_semantics.specs.Step as sem
 use Rattle.mir_semantics.specs.Step.{Code, Next, on, stop, fail, step}
 use Rattle.mir_semantics.specs.Run as runs
 use Rattle.mir_semantics.specs.Run.{Seen, after, steps}
-use Rattle.mir_machine.specs.declared.machine.Called.{Called}
 use Rattle.mir_machine.specs.declared.machine.Machine.{Machine}
 use Rattle.mir_machine.specs.declared.outcome.Outcome.{Outcome}
 use Rattle.mir_machine.specs.declared.outcome.Outcome.TheVariants.{Going, Returned, Aborted, NoAnswer, Undefined}

@@ -1,5 +1,5 @@
 -- Runs, as the code has them.
-use Rattle.std.specs.Prelude.{◌≡◌, ℕ, zero, suc, List, map, Bool, true, false, Option, Some, None, option_map, Result, Ok, Err}
+use Rattle.std.specs.Prelude.{ℕ, zero, suc, List, map, Option, Some, None, Result, Ok, Err}
 use Rattle.mir_syntax.specs.declared.program.Program.{Program}
 use Rattle.mir_syntax.specs.declared.OutOfMemory.{OutOfMemory}
 use Rattle.mir_semantics.specs.Step as sem

@@ -1,4 +1,4 @@
-use Rattle.std.proofs.Common.{◌≡◌, ◌∙◌, ◌++◌, refl, sym, ap, map}
+use Rattle.std.proofs.Common.{◌∙◌, ◌++◌, refl, ap, map}
 use Rattle.mir_semantics.specs.Memory.{open_frame}
 use Rattle.mir_meaning.specs.Views.{value_of, memory_of}
 use Rattle.mir_machine.proofs.Starting.{started, framed_start}

@@ -1,4 +1,4 @@
-use Rattle.std.proofs.Common.{◌≡◌, ◌∙◌, ◌+◌, sym, ap, Some, get_or, drop, arith}
+use Rattle.std.proofs.Common.{◌∙◌, ◌+◌, sym, ap, Some, get_or, drop, arith}
 use Rattle.mir_meaning.specs.Programs.{shapes_in}
 use Rattle.mir_meaning.proofs.Values.{view_num}
 use Rattle.mir_meaning.proofs.Binds.{gives_same}

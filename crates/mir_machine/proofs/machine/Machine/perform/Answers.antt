@@ -1,4 +1,4 @@
-use Rattle.std.proofs.Common.{◌≡◌, ◌∙◌, ◌+◌, suc, sym, ap, map, slice_get, arith}
+use Rattle.std.proofs.Common.{◌≡◌, ◌+◌, suc, ap, map, slice_get, arith}
 use Rattle.mir_syntax.specs.Tree.{trees_of}
 use Rattle.mir_syntax.specs.Crate.{stmt_of}
 use Rattle.mir_meaning.specs.Views.{memory_of}
