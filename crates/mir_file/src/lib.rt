@@ -15,10 +15,12 @@
 //! those of paths, definitions, outside functions and functions together are the faults of the file (`first_noted`).
 #![tactic(auto)]
 
+mod blocks;
 mod clashes;
 mod declarations;
 mod defs;
 mod front;
+mod functions;
 mod head;
 mod heads;
 mod laws;
