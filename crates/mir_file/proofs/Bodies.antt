@@ -1,21 +1,25 @@
 -- Blocks and functions that are read one after another.
-use Rattle.std.proofs.Common.{◌≡◌, ℕ, ◌<◌, List, [], ◌∷◌, ◌++◌, map, length, Option, Some, None, refl, sym, ap, ap₂, ◌∙◌, append_assoc, arith}
+use Rattle.std.proofs.Common.{IsTrue, ◌≡◌, ℕ, ◌<◌, List, [], ◌∷◌, ◌++◌, map, length, Option, Some, None, refl, sym, ap, ap₂, subst, ◌∙◌}
 use Rattle.std.proofs.lemmas.List.{length-map}
 use Rattle.std.proofs.lemmas.Simd.{map-map}
+use Rattle.mir_syntax.specs.declared.types.TyId.{TyId}
+use Rattle.mir_syntax.specs.declared.types.Ty.{Ty}
 use Rattle.mir_syntax.specs.declared.body.Inline.{Inline}
 use Rattle.mir_syntax.specs.declared.body.Inline.TheVariants as inlining
 use Rattle.mir_syntax.specs.declared.lines.BlockLines.{BlockLines}
 use Rattle.mir_syntax.specs.declared.program.Program.{Program}
-use Rattle.mir_syntax.specs.Tree.{Tree, trees_of}
+use Rattle.mir_syntax.specs.Tree.{Tree, at_id, trees_of, Extends}
+use Rattle.mir_syntax.specs.Table.{all_below}
 use Rattle.mir_syntax.specs.Crate.{TypedBlock, TypedBody, TypedFunction, def_of, block_of, function_of}
 use Rattle.mir_syntax.specs.Ids.{def_below, block_below, function_below}
-use Rattle.mir_syntax.proofs.Growth.{map-same, block-front, block-more, function-front, function-more, IdsInTable-extends}
+use Rattle.mir_syntax.proofs.Trees.{length-trees_of}
+use Rattle.mir_syntax.proofs.Growth.{map-same, ids-front, trees_of-extends, block-front, block-more, function-front, function-more, IdsInTable-extends}
 use Rattle.mir_text.specs.GrammarItems.{ArgRule}
-use Rattle.mir_text.specs.Names.{Strings, Names, path_bytes, ty_of}
+use Rattle.mir_text.specs.Names.{Strings, Names, path_bytes}
 use Rattle.mir_text.specs.NamedBodies.{Declared, or_else, block_named}
 use Rattle.mir_text.specs.Naming.{declared, locals_from, inline_named, function_named}
-use Rattle.mir_text.specs.NameFaults.{Fault, on_line, unless, each, type_codes, none_missing, blocks_in_order, labels_of, declaration_faults, args_in_place, declared_once, result_faults, block_faults, fn_faults}
-use Rattle.mir_text.specs.PartLines.{LinedBlock, LinedFn}
+use Rattle.mir_text.specs.NameFaults.{Fault, each, labels_of, block_faults, fn_faults, first_fault}
+use Rattle.mir_text.specs.PartLines.{LinedBlock}
 use Rattle.mir_text.specs.ReadLines.{first_of, block_lines, wrong_in_block}
 use Rattle.mir_tree.specs.declared.body.BlockText.{BlockText}
 use Rattle.mir_tree.specs.declared.item.FnText.{FnText}
@@ -25,7 +29,6 @@ use Rattle.mir_tree.specs.Rules.{attr_rule, part_arg, block_rule, fn_rule, lined
 use Rattle.mir_resolve.specs.declared.draft.Draft.{Draft}
 use Rattle.mir_resolve.specs.Types.{Grown}
 use Rattle.mir_resolve.specs.Faults.{noted}
-use Rattle.mir_resolve.specs.Definitions.{before_defs}
 use Rattle.mir_resolve.proofs.Growing.{grown_same}
 use Rattle.mir_resolve.proofs.Listed.{items_listed}
 use Rattle.mir_resolve.proofs.Making.{Keeps}
@@ -62,6 +65,13 @@ knows_on strings paths old new names k g = record {
   in_table = IdsInTable-extends old new g.types g.defs g.outsides g.functions k.in_table;
 }
 
+-- ids mean the same in a larger table
+pub ids_kept : (old new : List Ty) (ids : List TyId) → Extends old new → IsTrue (all_below (length old) ids) → map (at_id (trees_of new)) ids ≡ map (at_id (trees_of old)) ids
+ids_kept old new ids e h =
+    let front = trees_of-extends old new e in
+    let P : ℕ → Type 0 = λ n. IsTrue (all_below n ids) in
+    ap (λ trees. map (at_id trees) ids) front.1 ∙ ids-front (trees_of old) front.0 ids (subst P (sym (length-trees_of old)) h)
+
 -- ---- the first line
 
 first-append : (xs ys : List ℕ) → first_of (xs ++ ys) ≡ or_else (first_of xs) (first_of ys)
@@ -97,12 +107,12 @@ inline-same inlining.Always = refl
 inline-same inlining.Never = refl
 
 -- a function, by its parts
-pub function_made : (names : Names) (x : FnText) (trees : List Tree) (path : List ℕ) (args : ℕ) (locals : List Tree) (blocks : List TypedBlock)
+pub function_made : (names : Names) (x : FnText) (path : List ℕ) (args : ℕ) (locals : List Tree) (blocks : List TypedBlock)
     → path ≡ path_bytes names.strings (path_rule x.path) → args ≡ length x.args.items
     → locals ≡ locals_from (declared names (fn_rule x)) 0 (length (declared names (fn_rule x)))
     → blocks ≡ map (text_block (sense_with names (declared names (fn_rule x)) x.blocks)) x.blocks
     → (let made : TypedFunction = record { path = path; inlining = x.inline; is_drop = x.is_drop; body = record { args = args; locals = locals; blocks = blocks } } in made) ≡ function_named names (fn_rule x)
-function_made names x trees path args locals blocks p a l b =
+function_made names x path args locals blocks p a l b =
     let ds = declared names (fn_rule x) in
     let count = a ∙ sym (ap length (items_listed (λ (r : ArgRule). r) part_arg x.args.items x.args.trailing) ∙ length-map x.args.items part_arg) in
     let parts = b ∙ sym (map-map (block_named names ds) (λ t. block_rule (lined_block t)) x.blocks) in
@@ -118,11 +128,6 @@ blocks_lined x = sym (map-map block_lines lined_block x.blocks)
 pub blocks_wrong : (names : Names) (locals : Declared) (x : FnText) → each (text_wrong (sense_with names locals x.blocks)) x.blocks ≡ each (wrong_in_block names locals) (map lined_block x.blocks)
 blocks_wrong names locals x = each_mapped (wrong_in_block names locals) lined_block x.blocks
 
-joined : (a b c d e g : List Fault) → (a ++ b ++ c ++ d ++ e) ++ g ≡ a ++ b ++ c ++ d ++ e ++ g
-joined a b c d e g =
-    append_assoc a (b ++ c ++ d ++ e) g
-    ∙ ap (λ l. a ++ l) (append_assoc b (c ++ d ++ e) g ∙ ap (λ l. b ++ l) (append_assoc c (d ++ e) g ∙ ap (λ l. c ++ l) (append_assoc d e g)))
-
 -- the faults of its head, and then those of its blocks
 pub head_and_blocks : (names : Names) (x : FnText) (line : ℕ)
     → head_faults names (lined_fn line x) ++ each (text_faults (sense_with names (declared names (fn_rule x)) x.blocks)) x.blocks ≡ fn_faults names (lined_fn line x)
@@ -133,7 +138,9 @@ head_and_blocks names x line =
     each_mapped (block_faults names ds (map label_of x.blocks)) lined_block x.blocks
     ∙ ap (λ labels. each (block_faults names ds labels) f.blocks) (sym (map-map (λ (b : LinedBlock). b.label) lined_block x.blocks)) in
     ap (λ l. head_faults names f ++ l) texts
-    ∙ joined
-    (on_line line (type_codes names (fn_rule x).result ++ unless (none_missing ds) 14 ++ unless (blocks_in_order (labels_of f)) 15))
-    (each (declaration_faults names) (f.args ++ f.lets)) (args_in_place 1 f.args) (declared_once [] (f.args ++ f.lets)) (result_faults names (ty_of names (fn_rule x).result) (f.args ++ f.lets))
-    (each (block_faults names ds (labels_of f)) f.blocks)
+
+-- ---- no fault
+
+pub none_first : (fs : List Fault) → first_fault fs ≡ None → fs ≡ []
+none_first [] h = refl
+none_first (f ∷ fs) h = absurd cc

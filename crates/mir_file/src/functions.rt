@@ -13,8 +13,8 @@ ghost use Rattle.mir_tree.specs.Rules.{fn_rule, lined_fn, lined_item, lined_item
 ghost use Rattle.mir_file.specs.Items.{rules_of, fn_faults_in, fn_text_faults, Noticed};
 ghost use Rattle.mir_file.specs.Functions.{Knows};
 
-use crate::blocks::{ReadBlocks, first_line_of, read_blocks};
-use crate::heads::{Head, read_head};
+use crate::blocks::{first_line_of, read_blocks};
+use crate::heads::read_head;
 use crate::paths::FilePaths;
 use mir_bodies::{Labels, Scope};
 use mir_names::Names;
@@ -81,7 +81,8 @@ fn read_function(
     ensures went { OnOk result (Noticed draft.old draft.new (fn_faults names (lined_fn line text.now))) }
 {
     let head = read_head(alloc, strings, &paths.defs, draft, line, text)?;
-    let labels = Labels::new(alloc, text.blocks.as_slice())?;
+    let blocks = text.blocks.as_slice();
+    let labels = Labels::new(alloc, blocks)?;
     let scope = Scope {
         strings,
         paths: &paths.defs,
@@ -90,7 +91,7 @@ fn read_function(
         locals: &head.locals,
         labels: &labels,
     };
-    let found = read_blocks(alloc, &scope, draft, text.blocks.as_slice())?;
+    let found = read_blocks(alloc, &scope, draft, blocks)?;
     let path = copy_path(alloc, &mut draft.scratch.path, strings, &text.path)?;
     let args = count_args(text.args.items.as_slice())?;
     let function = Function {

@@ -28,11 +28,14 @@ mod local_lines;
 mod local_types;
 mod outsides;
 mod paths;
+mod resolve;
 
 pub use clashes::note_clashes;
 pub use defs::{ReadDefs, read_defs};
 pub use front::{Front, read_front};
+pub use functions::{ReadFunctions, read_functions};
 pub use heads::{Head, read_head};
 pub use laws::scopes_name_nothing;
 pub use outsides::{ReadOutsides, read_outsides};
 pub use paths::{FilePaths, read_paths};
+pub use resolve::{Resolved, Unresolved, resolve_file};
