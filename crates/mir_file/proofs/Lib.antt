@@ -4,6 +4,7 @@ pub mod FirstItems
 pub mod Clashing
 pub mod Scopes
 pub mod AllFaults
+pub mod Told
 pub mod Declaring
 pub mod HeadSteps
 pub mod LineSteps

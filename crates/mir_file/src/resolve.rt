@@ -90,5 +90,6 @@ pub fn resolve_file(
         → first_fault (name_faults (names_of strings.now (file_of items)) items) ≡ Some (fault.line, fault.code) }
     ensures in_table { IfOk result (λ read. IdsInTable read.program) }
 {
-    resolve_items(alloc, strings, file.items.as_slice())
+    let read = resolve_items(alloc, strings, file.items.as_slice())?;
+    Ok(read)
 }
