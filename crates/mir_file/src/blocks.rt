@@ -70,7 +70,7 @@ pub fn read_blocks(
         wrong_field: None,
     };
     let mut left = texts;
-    'blocks: while let [text, rest @ ..] = left {
+    'parts: while let [text, rest @ ..] = left {
         let read = read_block(alloc, scope, draft, text)?;
         found.push(read)?;
         left = rest;

@@ -15,8 +15,8 @@ use Rattle.mir_file.proofs.blocks.read_blocks.Given as goal
 abbrev pub ghost-read_block : goal.ghost-read_block
 ghost-read_block g a = g.sense
 
-abbrev pub invariant-blocks : goal.invariant-blocks
-invariant-blocks g l = record {
+abbrev pub invariant-parts : goal.invariant-parts
+invariant-parts g l = record {
   told : map (block_of (trees_of l.draft.program.types)) l.found.blocks ++ map (text_block g.sense) l.left ≡ map (text_block g.sense) l.texts;
   lined : l.found.lines ++ map text_lines l.left ≡ map text_lines l.texts;
   wrong : or_else l.found.wrong_field (first_of (each (text_wrong g.sense) l.left)) ≡ first_of (each (text_wrong g.sense) l.texts);
@@ -26,5 +26,5 @@ invariant-blocks g l = record {
   tells : Tells l.scope l.draft.program g.sense;
 }
 
-abbrev pub decreases-blocks : goal.decreases-blocks
-decreases-blocks g l = length l.left
+abbrev pub decreases-parts : goal.decreases-parts
+decreases-parts g l = length l.left
