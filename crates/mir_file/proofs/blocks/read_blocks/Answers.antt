@@ -1,4 +1,4 @@
-use Rattle.std.proofs.Common.{◌≡◌, ◌∷◌, ◌++◌, ◌∙◌, map, ap, refl, sym}
+use Rattle.std.proofs.Common.{◌≡◌, [], ◌∷◌, ◌++◌, ◌∙◌, map, ap, refl, sym}
 use Rattle.mir_syntax.specs.Tree.{trees_of}
 use Rattle.mir_syntax.specs.Crate.{block_of}
 use Rattle.mir_syntax.specs.Ids.{block_below}
