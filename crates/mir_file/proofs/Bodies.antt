@@ -1,5 +1,5 @@
 -- Blocks and functions that are read one after another.
-use Rattle.std.proofs.Common.{IsTrue, ◌≡◌, ℕ, ◌<◌, List, [], ◌∷◌, ◌++◌, map, length, Option, Some, None, refl, sym, ap, ap₂, subst, ◌∙◌}
+use Rattle.std.proofs.Common.{IsTrue, ◌≡◌, ℕ, ◌<◌, List, [], ◌∷◌, ◌++◌, map, length, option_map, Option, Some, None, refl, sym, ap, ap₂, subst, ◌∙◌}
 use Rattle.std.proofs.lemmas.List.{length-map}
 use Rattle.std.proofs.lemmas.Simd.{map-map}
 use Rattle.mir_syntax.specs.declared.types.TyId.{TyId}
@@ -11,11 +11,11 @@ use Rattle.mir_syntax.specs.declared.program.Program.{Program}
 use Rattle.mir_syntax.specs.Tree.{Tree, at_id, trees_of, Extends}
 use Rattle.mir_syntax.specs.Table.{all_below}
 use Rattle.mir_syntax.specs.Crate.{TypedBlock, TypedBody, TypedFunction, def_of, block_of, function_of}
-use Rattle.mir_syntax.specs.Ids.{def_below, block_below, function_below}
+use Rattle.mir_syntax.specs.Ids.{IdsInTable, def_below, block_below, function_below}
 use Rattle.mir_syntax.proofs.Trees.{length-trees_of}
 use Rattle.mir_syntax.proofs.Growth.{map-same, ids-front, trees_of-extends, block-front, block-more, function-front, function-more, IdsInTable-extends}
-use Rattle.mir_text.specs.GrammarItems.{ArgRule}
-use Rattle.mir_text.specs.Names.{Strings, Names, path_bytes}
+use Rattle.mir_text.specs.GrammarItems.{ArgRule, FileRule}
+use Rattle.mir_text.specs.Names.{Strings, Names, names_of, def_paths, function_paths_in, outside_paths_in, path_bytes}
 use Rattle.mir_text.specs.NamedBodies.{Declared, or_else, block_named}
 use Rattle.mir_text.specs.Naming.{declared, locals_from, inline_named, function_named}
 use Rattle.mir_text.specs.NameFaults.{Fault, each, labels_of, block_faults, fn_faults, first_fault}
@@ -27,6 +27,7 @@ use Rattle.mir_tree.specs.Bodies.{lined_block}
 use Rattle.mir_tree.specs.Types.{path_rule}
 use Rattle.mir_tree.specs.Rules.{attr_rule, part_arg, block_rule, fn_rule, lined_fn}
 use Rattle.mir_resolve.specs.declared.draft.Draft.{Draft}
+use Rattle.mir_resolve.specs.declared.faults.NameFault.{NameFault}
 use Rattle.mir_resolve.specs.Types.{Grown}
 use Rattle.mir_resolve.specs.Faults.{noted}
 use Rattle.mir_resolve.proofs.Growing.{grown_same}
@@ -63,6 +64,20 @@ knows_on strings paths old new names k g = record {
       ∙ map-same (def_below (length old.types)) (def_of (trees_of new.types)) (def_of (trees_of old.types)) (defs_keep.same old.types new.types g.types) old.defs k.in_table.defs);
   shapes = k.shapes;
   in_table = IdsInTable-extends old new g.types g.defs g.outsides g.functions k.in_table;
+}
+
+-- what stands before the functions of a file has its names
+pub knows_front : (strings : Strings) (paths : FilePaths) (program : Program) (rules : FileRule)
+    → paths.defs ≡ def_paths strings rules → paths.functions ≡ function_paths_in strings rules → paths.outsides ≡ outside_paths_in strings rules
+    → map (def_of (trees_of program.types)) program.defs ≡ (names_of strings rules).defs → IdsInTable program → Knows strings paths program (names_of strings rules)
+knows_front strings paths program rules d f o is inside = record {
+  strings = refl;
+  paths = sym d;
+  functions = sym f;
+  outsides = sym o;
+  defs = sym is;
+  shapes = refl;
+  in_table = inside;
 }
 
 -- ids mean the same in a larger table
@@ -144,3 +159,6 @@ head_and_blocks names x line =
 pub none_first : (fs : List Fault) → first_fault fs ≡ None → fs ≡ []
 none_first [] h = refl
 none_first (f ∷ fs) h = absurd cc
+
+pub some_first : (o : Option NameFault) (f : NameFault) (kept : Option Fault) → option_map (λ x. (x.line, x.code)) o ≡ kept → o ≡ Some f → kept ≡ Some (f.line, f.code)
+some_first o f kept is h = sym is ∙ ap (λ p. option_map (λ x. (x.line, x.code)) p) h

@@ -90,6 +90,8 @@ pub fn resolve_file(
         → first_fault (name_faults (names_of strings.now (file_of items)) items) ≡ Some (fault.line, fault.code) }
     ensures in_table { IfOk result (λ read. IdsInTable read.program) }
 {
-    let read = resolve_items(alloc, strings, file.items.as_slice())?;
-    Ok(read)
+    match resolve_items(alloc, strings, file.items.as_slice()) {
+        Ok(read) => Ok(read),
+        Err(refused) => Err(refused),
+    }
 }

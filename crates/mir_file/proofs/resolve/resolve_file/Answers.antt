@@ -9,18 +9,25 @@ use Rattle.mir_file.proofs.Scopes.{lines_plain, faults_plain}
 use Rattle.mir_file.proofs.Told.{crate_told, parts_told}
 use Rattle.mir_file.proofs.resolve.resolve_file.Goals as goal
 
-pub returns-clause-named : goal.returns-clause-named
-returns-clause-named c = λ items is.
-    c.in_ok-read.ensures.named ∙ ap (λ l. crate_named c.args.strings.now (rules_of l)) c.as_slice.ensures ∙ crate_told c.args.strings.now c.args.file.now.items items is
+pub returns-in-Ok-clause-named : goal.returns-in-Ok-clause-named
+returns-in-Ok-clause-named c = λ items is.
+    c.in-Ok.ensures.named ∙ ap (λ l. crate_named c.args.strings.now (rules_of l)) c.as_slice.ensures ∙ crate_told c.args.strings.now c.args.file.now.items items is
 
-pub returns-clause-lined : goal.returns-clause-lined
-returns-clause-lined c = λ items is.
-    c.in_ok-read.ensures.lined
+pub returns-in-Ok-clause-lined : goal.returns-in-Ok-clause-lined
+returns-in-Ok-clause-lined c = λ items is.
+    c.in-Ok.ensures.lined
     ∙ ap (λ l. lines_named (names_of c.args.strings.now (rules_of l)) (map lined_item l)) c.as_slice.ensures
     ∙ parts_told lines_named lines_plain c.args.strings.now c.args.file.now.items items is
 
-pub returns-clause-faultless : goal.returns-clause-faultless
-returns-clause-faultless c = λ items is.
+pub returns-in-Ok-clause-faultless : goal.returns-in-Ok-clause-faultless
+returns-in-Ok-clause-faultless c = λ items is.
     let texts = c.args.file.now.items in
     sym (ap (λ l. name_faults (names_of c.args.strings.now (rules_of l)) (map lined_item l)) c.as_slice.ensures ∙ parts_told name_faults faults_plain c.args.strings.now texts items is)
-    ∙ c.in_ok-read.ensures.faultless
+    ∙ c.in-Ok.ensures.faultless
+
+pub returns-in-Err-clause-refused : goal.returns-in-Err-clause-refused
+returns-in-Err-clause-refused c = λ fault h items is.
+    let texts = c.args.file.now.items in
+    sym (ap (λ l. first_fault (name_faults (names_of c.args.strings.now (rules_of l)) (map lined_item l))) c.as_slice.ensures
+    ∙ ap first_fault (parts_told name_faults faults_plain c.args.strings.now texts items is))
+    ∙ c.in-Err.ensures.refused fault h

@@ -15,7 +15,7 @@ use Rattle.mir_resolve.specs.Faults.{noted}
 use Rattle.mir_file.specs.Items.{rules_of, fn_text_faults}
 use Rattle.mir_file.proofs.Steps.{outsides_keep}
 use Rattle.mir_file.proofs.AllFaults.{first_noted}
-use Rattle.mir_file.proofs.Bodies.{knows_on, none_first}
+use Rattle.mir_file.proofs.Bodies.{knows_front, knows_on, none_first, some_first}
 use Rattle.mir_file.proofs.resolve.resolve_items.Goals as goal
 
 pub read_functions-requires : goal.read_functions-requires
@@ -41,7 +41,7 @@ returns-clause-named c =
     let found = c.in_ok-found.ensures in
     let grown = found.went.grown in
     let is = c.in_ok-front.ensures in
-    let k = knows_on strings c.in_ok-front.front.paths front made names (read_functions-requires c) grown in
+    let k = knows_on strings c.in_ok-front.front.paths front made names (knows_front strings c.in_ok-front.front.paths front rules is.def_paths is.function_paths is.outside_paths is.defs is.in_table) grown in
     let outsides : map (outside_of (trees_of made.types)) made.outsides ≡ outsides_in names rules =
     ap (map (outside_of (trees_of made.types))) grown.outsides
     ∙ map-same (outside_below (length front.types)) (outside_of (trees_of made.types)) (outside_of (trees_of front.types)) (outsides_keep.same front.types made.types grown.types) front.outsides is.in_table.outsides
@@ -60,6 +60,20 @@ returns-clause-lined c =
 
 pub returns-clause-in_table : goal.returns-clause-in_table
 returns-clause-in_table c =
-    let k = knows_on c.args.strings.now c.in_ok-front.front.paths c.in_ok-front.front.draft.program c.read_functions.new.draft.program (names_of c.args.strings.now (rules_of c.args.items.now))
-        (read_functions-requires c) c.in_ok-found.ensures.went.grown in
+    let rules = rules_of c.args.items.now in
+    let is = c.in_ok-front.ensures in
+    let front = knows_front c.args.strings.now c.in_ok-front.front.paths c.in_ok-front.front.draft.program rules is.def_paths is.function_paths is.outside_paths is.defs is.in_table in
+    let k = knows_on c.args.strings.now c.in_ok-front.front.paths c.in_ok-front.front.draft.program c.read_functions.new.draft.program (names_of c.args.strings.now rules)
+        front c.in_ok-found.ensures.went.grown in
     record { defs = k.in_table.defs; outsides = k.in_table.outsides; functions = c.in_ok-found.ensures.inside }
+
+pub returns-clause-faultless : goal.returns-clause-faultless
+returns-clause-faultless c = ?
+
+pub returns-in-Some-clause-refused : goal.returns-in-Some-clause-refused
+returns-in-Some-clause-refused c = λ fault h.
+    let items = c.args.items.now in
+    let names = names_of c.args.strings.now (rules_of items) in
+    let total = c.in_ok-found.ensures.went.notes ∙ ap (λ k. noted k (each (fn_text_faults names) items)) c.in_ok-front.ensures.notes ∙ first_noted names items in
+    let same : c.in-Some.fault ≡ fault = cc in
+    sym total ∙ sym c.in-Some.ensures ∙ ap (λ f. Some (f.line, f.code)) same
