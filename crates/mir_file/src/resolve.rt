@@ -78,11 +78,7 @@ fn resolve_items(
 
 /// What the tree of a file names: the program and the lines of its parts, or the first fault of its names. Each derivation that the tree is one
 /// of names the same.
-pub fn resolve_file(
-    alloc: Global,
-    strings: &Names,
-    file: &FileText,
-) -> Result<Resolved, Unresolved>
+pub fn resolve_file(alloc: Global, strings: &Names, file: &FileText) -> Result<Resolved, Unresolved>
     ensures named { IfOk result (λ read. (items : List LinedItem) → IsTreeOf file.now items → crate_of read.program ≡ crate_named strings.now (file_of items)) }
     ensures lined { IfOk result (λ read. (items : List LinedItem) → IsTreeOf file.now items → read.lines ≡ lines_named (names_of strings.now (file_of items)) items) }
     ensures faultless { IfOk result (λ read. (items : List LinedItem) → IsTreeOf file.now items → name_faults (names_of strings.now (file_of items)) items ≡ []) }

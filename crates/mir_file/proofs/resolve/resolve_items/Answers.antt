@@ -1,4 +1,4 @@
-use Rattle.std.proofs.Common.{◌≡◌, ℕ, List, ◌∙◌, map, length, Option, None, Some, ap, ap₂, refl, sym}
+use Rattle.std.proofs.Common.{◌≡◌, ℕ, List, ◌∙◌, map, length, option_map, Option, None, Some, ap, ap₂, refl, sym}
 use Rattle.std.specs.List.{list_all}
 use Rattle.mir_syntax.specs.declared.lines.FnLines.{FnLines}
 use Rattle.mir_syntax.specs.declared.lines.Lines.{Lines}
@@ -11,6 +11,7 @@ use Rattle.mir_text.specs.Naming.{outsides_in}
 use Rattle.mir_text.specs.NameFaults.{Fault, each, name_faults, first_fault}
 use Rattle.mir_text.specs.ReadLines.{def_line_in, outside_line_in}
 use Rattle.mir_tree.specs.Rules.{lined_item}
+use Rattle.mir_resolve.specs.declared.faults.NameFault.{NameFault}
 use Rattle.mir_resolve.specs.Faults.{noted}
 use Rattle.mir_file.specs.Items.{rules_of, fn_text_faults}
 use Rattle.mir_file.proofs.Steps.{outsides_keep}
@@ -64,11 +65,19 @@ returns-clause-in_table c =
     let is = c.in_ok-front.ensures in
     let front = knows_front c.args.strings.now c.in_ok-front.front.paths c.in_ok-front.front.draft.program rules is.def_paths is.function_paths is.outside_paths is.defs is.in_table in
     let k = knows_on c.args.strings.now c.in_ok-front.front.paths c.in_ok-front.front.draft.program c.read_functions.new.draft.program (names_of c.args.strings.now rules)
-        front c.in_ok-found.ensures.went.grown in
+    front c.in_ok-found.ensures.went.grown in
     record { defs = k.in_table.defs; outsides = k.in_table.outsides; functions = c.in_ok-found.ensures.inside }
 
+none-kept : (o : Option NameFault) (kept : Option Fault) → option_map (λ x. (x.line, x.code)) o ≡ kept → ((f : NameFault) → o ≡ Some f → ⊥) → kept ≡ None
+none-kept None kept is none = sym is
+none-kept (Some f) kept is none = absurd (none f refl)
+
 pub returns-clause-faultless : goal.returns-clause-faultless
-returns-clause-faultless c = ?
+returns-clause-faultless c =
+    let items = c.args.items.now in
+    let names = names_of c.args.strings.now (rules_of items) in
+    let total = c.in_ok-found.ensures.went.notes ∙ ap (λ k. noted k (each (fn_text_faults names) items)) c.in_ok-front.ensures.notes ∙ first_noted names items in
+    none_first (name_faults names (map lined_item items)) (sym total ∙ none-kept c.first.result _ c.first.ensures c.in_default.not-Some)
 
 pub returns-in-Some-clause-refused : goal.returns-in-Some-clause-refused
 returns-in-Some-clause-refused c = λ fault h.
