@@ -55,6 +55,9 @@ abbrev pub fn_faults_in : Names → LinedItem → List Fault
 fn_faults_in names (other line item) = []
 fn_faults_in names (function f) = fn_faults names f
 
+abbrev pub fn_text_faults : Names → Lined ItemText → List Fault
+fn_text_faults names x = fn_faults_in names (lined_item x)
+
 -- the faults of paths, definitions and outside functions
 abbrev pub noted_before_functions : Names → List (Lined ItemText) → Option Fault
 noted_before_functions names items =
