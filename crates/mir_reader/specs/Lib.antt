@@ -1,11 +1,1 @@
-pub mod Parser
-pub mod Reading
-pub mod Tokens
-pub mod Locals
-pub mod Checks
-pub mod FirstRead
-pub mod First
-pub mod FirstText
-pub mod FirstPieces
-pub mod FirstForm
-pub mod Form
+pub mod Refusals

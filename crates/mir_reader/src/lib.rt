@@ -1,27 +1,14 @@
-//! Reads the text of a crate.
+//! Reads the text of a crate: its bytes, its symbols and its names, on top of `mir_symbols`, `mir_items` and `mir_file`.
 //!
-//! So far the first form alone is read: one function whose statements assign an operand to a local, and whose terminators are `goto`,
-//! `return` and `unreachable`. `read_first` answers the program of such a text, and refuses exactly the others (`FirstForm`,
-//! `specs/Form.antt`): the text has no comment and names a valid crate (`Reads` of `mir_text`, `Valid` of `mir_rules`) by a derivation of
-//! that form (`specs/First.antt`), with at most 10,000 locals and blocks. `ReadsFirst` (`specs/FirstForm.antt`) says the same by the one
-//! function that is derived (`specs/FirstText.antt`) and the tests of its locals, blocks and types (`specs/Checks.antt`).
+//! `read_program` answers the program that a text names, with the lines of its parts (`ReadsWith` of `mir_text`), and refuses a text only
+//! where it names no crate (`Reads`). `IsRefusedWith` (`specs/Refusals.antt`) says with which code and line: by the first fault of its bytes
+//! and symbols (S01 to S09), or else by that of its names (S10 to S15). `parse` is the half that speaks of symbols.
 #![tactic(auto)]
 
-mod block;
-mod build;
-mod check;
-mod first;
-mod function;
-mod locals;
-mod number;
-mod operand;
+mod program;
 mod refused;
-mod sign;
-#[cfg(test)]
-mod tests;
-mod text;
-mod tokens;
+mod syntax;
 
-pub use first::read_first;
-pub use refused::FirstRefused;
-use text::{Declared, FunctionText, SmallTy};
+pub use program::{Read, read_program};
+pub use refused::ReadRefused;
+pub use syntax::parse;

@@ -1,36 +1,50 @@
 -- What is told, from what was read and written.
-use Rattle.std.proofs.Common.{◌≡◌, ℕ, List, [], ◌++◌, Option, Some, None, inl, inr, refl, sym, subst, ◌∙◌}
+use Rattle.std.proofs.Common.{◌≡◌, ℕ, List, [], Option, Some, None, Result, Ok, Err, inl, inr, refl, sym, subst}
 use Rattle.std.proofs.lemmas.List.{append-nil}
-use Rattle.std.specs.Io.KnownBytes.{Consumes, Appends, IsAtEnd}
+use Rattle.std.specs.Prelude.{IfErr}
+use Rattle.std.specs.Io.KnownBytes.{Appends}
+use Rattle.mir_syntax.specs.declared.lines.Lines.{Lines}
 use Rattle.mir_syntax.specs.Crate.{Crate}
 use Rattle.mir_text.specs.Text.{text}
-use Rattle.mir_reader.specs.Form.{FirstForm}
-use Rattle.pipe_io.specs.Causes.{AppendsFront}
-use Rattle.mirpipe_cli.specs.Answer.{cleaned, IsRead, printed, not_first, word_fault, misfit, OfWords, Answers}
+use Rattle.mirpipe_cli.specs.declared.words.Command.{Command}
+use Rattle.mirpipe_cli.specs.declared.words.Command.TheVariants.{Seq}
+use Rattle.mirpipe_cli.specs.declared.fault.InputFault.{InputFault}
+use Rattle.mirpipe_cli.specs.declared.fault.Refusal.{Refusal}
+use Rattle.mirpipe_cli.specs.declared.fault.Refusal.TheVariants.{ReadFault, OutOfMemory, Input}
+use Rattle.mirpipe_cli.specs.Words.{asked}
+use Rattle.mirpipe_cli.specs.Passed.{IsPassed}
+use Rattle.mirpipe_cli.specs.Refused.{IsAccepted, IsFaulty, OfInput}
+use Rattle.mirpipe_cli.specs.Answer.{done, refused, word_fault, Refuses, Writes, OfWords, Answers, IsOptimised}
+use Rattle.mirpipe_cli.proofs.Refined.{passed_refines}
 
 pub appends_none : (known : Option (List ℕ)) → Appends known known []
 appends_none None = tt
 appends_none (Some xs) = sym (append-nil xs)
 
--- bytes that were read to the end are the input
-pub whole_input : (old new : Option (List ℕ)) (input bytes : List ℕ) → old ≡ Some input → Consumes old new bytes → IsAtEnd new → input ≡ bytes
-whole_input None new input bytes told taken end = absurd cc
-whole_input (Some xs) None input bytes told taken end = absurd taken
-whole_input (Some xs) (Some ys) input bytes told taken end =
-    let e : xs ≡ input = cc in
-    sym e ∙ taken ∙ (rw end (append-nil bytes))
+pub answers_word : (words : List (List ℕ)) (input : List ℕ) (k : ℕ) → asked words ≡ Err k → Answers words input (word_fault k)
+answers_word words input k e = subst (λ r. OfWords r input (word_fault k)) (sym e) refl
 
--- an input that was read to its end and is not of the first form names no program
-pub names_none : (old new : Option (List ℕ)) (input bytes : List ℕ) → old ≡ Some input → Consumes old new bytes → IsAtEnd new → ((C : Crate) → FirstForm bytes C → ⊥) → (C : Crate) → IsRead input C → ⊥
-names_none old new input bytes told taken end none C read =
-    let same : input ≡ bytes = whole_input old new input bytes told taken end in
-    none C (subst (λ (bs : List ℕ). FirstForm bs C) same read.first)
+pub answers_done : (words : List (List ℕ)) (input bytes : List ℕ) (command : Command) → asked words ≡ Ok command → Writes command input bytes → Answers words input (done bytes)
+answers_done words input bytes command e writes = subst (λ r. OfWords r input (done bytes)) (sym e) (inl (bytes, writes, refl))
 
-pub answers_word : (words : List (List ℕ)) (input : List ℕ) (k : ℕ) → misfit words ≡ Some k → Answers words input (word_fault k)
-answers_word words input k e = subst (λ m. OfWords m input (word_fault k)) (sym e) refl
+pub answers_refused : (words : List (List ℕ)) (input : List ℕ) (command : Command) (fault : InputFault) → asked words ≡ Ok command → Refuses command fault → IsFaulty input fault → Answers words input (refused fault)
+answers_refused words input command fault e refuses faulty = subst (λ r. OfWords r input (refused fault)) (sym e) (inr (fault, refuses, faulty, refl))
 
-pub answers_printed : (words : List (List ℕ)) (input : List ℕ) (C : Crate) → misfit words ≡ None → IsRead input C → Answers words input (printed C)
-answers_printed words input C e read = subst (λ m. OfWords m input (printed C)) (sym e) (inl (C, read, refl))
+-- what the passes make of an accepted crate refines it
+pub optimised : (input : List ℕ) (C D : Crate) (lines : Lines) → IsAccepted input C lines → IsPassed C D → IsOptimised input (text D)
+optimised input C D lines accepted passed =
+    record {
+      C = C;
+      D = D;
+      accepted = accepted.accepted;
+      passed = passed;
+      written = refl;
+      refines = passed_refines C D accepted.accepted.valid accepted.accepted.within passed;
+    }
 
-pub answers_not_first : (words : List (List ℕ)) (input : List ℕ) → misfit words ≡ None → ((C : Crate) → IsRead input C → ⊥) → Answers words input not_first
-answers_not_first words input e none = subst (λ m. OfWords m input not_first) (sym e) (inr (none, refl))
+-- each fault is one for which `seq` refuses
+pub refused_seq : {A : Type 0} (r : Result A Refusal) (input : List ℕ) (command : Command) → command ≡ Seq → IfErr r (OfInput (IsFaulty input)) → IfErr r (OfInput (λ fault. Refuses command fault × IsFaulty input fault))
+refused_seq (Ok a) input command e h = h
+refused_seq (Err ReadFault) input command e h = h
+refused_seq (Err OutOfMemory) input command e h = h
+refused_seq (Err (Input fault)) input command e h = (subst (λ k. Refuses k fault) (sym e) tt, h)

@@ -1,4 +1,6 @@
+pub mod Bodies
 pub mod Cleaning
-pub mod FirstForms
-pub mod Answering
 pub mod Refined
+pub mod Dropping
+pub mod Judging
+pub mod Answering

@@ -1,15 +1,14 @@
 -- A crate with all its bodies cleaned refines the crate: one body is cleaned after another.
-use Rattle.std.proofs.Common.{◌≡◌, refl, sym, ap, ◌∙◌, subst, ℕ, zero, suc, List, [], ◌∷◌, ◌++◌, length, map, set, Some, slice_get, append_assoc, append-nil}
+use Rattle.std.proofs.Common.{◌≡◌, refl, sym, ap, ◌∙◌, subst, ℕ, suc, List, [], ◌∷◌, ◌++◌, length, map, set, Some, slice_get, append_assoc}
 use Rattle.mir_syntax.specs.Crate.{TypedFunction, Crate}
-use Rattle.mir_text.specs.Grammar.{AllOf}
-use Rattle.mir_rules.specs.Valid.{Valid, at_function, with_body, ValidAt}
+use Rattle.mir_rules.specs.Valid.{Valid, Within, at_function, ValidAt}
 use Rattle.mir_semantics.specs.Refines.{Refines}
 use Rattle.mir_relate.proofs.Refine.{refines_refl, refines_trans}
 use Rattle.cfg_simplify.specs.Simple.{simple}
 use Rattle.simple_refines.proofs.Refined.{simple_refines}
 use Rattle.simple_refines.proofs.Valid.{simple_stays_valid}
-use Rattle.mir_reader.specs.Form.{HasFewBlocks, HasFewLocals, FirstForm}
-use Rattle.mirpipe_cli.specs.Answer.{cleaned_function, cleaned, IsRead}
+use Rattle.mirpipe_cli.specs.Passed.{cleaned_function, cleaned, IsPassed}
+use Rattle.mirpipe_cli.proofs.Bodies.{IsFew, few}
 
 behind : (before : List TypedFunction) (f : TypedFunction) (after : List TypedFunction) → slice_get (before ++ f ∷ after) (length before) ≡ Some f
 behind [] f after = refl
@@ -19,8 +18,7 @@ set_behind : (before : List TypedFunction) (f g : TypedFunction) (after : List T
 set_behind [] f g after = refl
 set_behind (x ∷ before) f g after = ap (λ fs. x ∷ fs) (set_behind before f g after)
 
-module _ (C : Crate) (before : List TypedFunction) (f : TypedFunction) (after : List TypedFunction) (is : C.functions ≡ before ++ f ∷ after) (valid : Valid C)
-    (blocks : HasFewBlocks f) (locals : HasFewLocals f) where
+module _ (C : Crate) (before : List TypedFunction) (f : TypedFunction) (after : List TypedFunction) (is : C.functions ≡ before ++ f ∷ after) (valid : Valid C) (small : IsFew f) where
   there : slice_get C.functions (length before) ≡ Some f
   there = rw is (behind before f after)
 
@@ -33,8 +31,8 @@ module _ (C : Crate) (before : List TypedFunction) (f : TypedFunction) (after : 
     function = f;
     is = there;
     valid = subst (λ fs. Valid (record C { functions = fs })) (is ∙ sym (others f)) valid;
-    blocks = blocks;
-    locals = locals;
+    blocks = small.blocks;
+    locals = small.locals;
   }
 
   pub next : Crate
@@ -55,17 +53,18 @@ module _ (C : Crate) (before : List TypedFunction) (f : TypedFunction) (after : 
   unfolding next
   next_refines = subst (λ fs. Refines (record C { functions = fs }) C) (others (cleaned_function f)) (simple_refines C valid (length before) f there)
 
-all_refine : (C : Crate) (before after : List TypedFunction) → C.functions ≡ before ++ after → Valid C → AllOf HasFewBlocks after → AllOf HasFewLocals after
+all_refine : (C : Crate) (before after : List TypedFunction) → C.functions ≡ before ++ after → Valid C → ((k : ℕ) (g : TypedFunction) → slice_get after k ≡ Some g → IsFew g)
     → Refines (record C { functions = before ++ map cleaned_function after }) C
 unfolding next
-all_refine C before [] is valid blocks locals = subst (λ fs. Refines (record C { functions = fs }) C) is (refines_refl C)
-all_refine C before (f ∷ after) is valid blocks locals =
-    let C1 = next C before f after is valid blocks.0 locals.0 in
+all_refine C before [] is valid small = subst (λ fs. Refines (record C { functions = fs }) C) is (refines_refl C)
+all_refine C before (f ∷ after) is valid small =
+    let few_f = small 0 f refl in
+    let C1 = next C before f after is valid few_f in
     let front = before ++ cleaned_function f ∷ [] in
-    let rest = all_refine C1 front after (sym (append_assoc before (cleaned_function f ∷ []) after)) (next_valid C before f after is valid blocks.0 locals.0) blocks.1 locals.1 in
+    let rest = all_refine C1 front after (sym (append_assoc before (cleaned_function f ∷ []) after)) (next_valid C before f after is valid few_f) (λ k g e. small (suc k) g e) in
     let whole : Refines (record C { functions = before ++ cleaned_function f ∷ map cleaned_function after }) C1 =
     subst (λ fs. Refines (record C { functions = fs }) C1) (append_assoc before (cleaned_function f ∷ []) (map cleaned_function after)) rest in
-    refines_trans (record C { functions = before ++ cleaned_function f ∷ map cleaned_function after }) C1 C whole (next_refines C before f after is valid blocks.0 locals.0)
+    refines_trans (record C { functions = before ++ cleaned_function f ∷ map cleaned_function after }) C1 C whole (next_refines C before f after is valid few_f)
 
-pub cleaned_refines : (input : List ℕ) (C : Crate) → IsRead input C → Refines (cleaned C) C
-cleaned_refines input C read = all_refine C [] C.functions refl read.first.valid read.first.blocks read.first.locals
+pub passed_refines : (C D : Crate) → Valid C → Within C → IsPassed C D → Refines D C
+passed_refines C D valid within passed = subst (λ E. Refines E C) (sym passed) (all_refine C [] C.functions refl valid (few C within))

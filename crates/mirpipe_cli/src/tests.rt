@@ -6,20 +6,17 @@ use std::test::Fail;
 const RETURNS: &[u8] =
     b"fn f() -> () {\n    let mut _0: ();\n\n    bb0: {\n        return;\n    }\n}\n";
 
-const LOOPS: &[u8] =
-    b"fn l() -> () {\n    let mut _0: ();\n\n    bb0: {\n        goto -> bb1;\n    }\n\n    bb1: {\n        goto -> bb1;\n    }\n}\n";
-
 const SKIPS: &[u8] =
     b"fn g() -> i32 { let mut _0: i32; bb0: { goto -> bb2; } bb1: { unreachable; } bb2: { _0 = const 4_i32; return; } }";
 
 const SKIPPED: &[u8] =
     b"fn g() -> i32 {\n    let mut _0: i32;\n\n    bb0: {\n        _0 = const 4_i32;\n        return;\n    }\n}\n";
 
-fn words(rt: &HostRuntime, word: &str) -> Result<Vec<String>, Fail> {
-    let mut words = Vec::new(rt.alloc());
-    words.push(format!(in rt.alloc(); "{word}")?)?;
-    Ok(words)
-}
+const BACK_TO_START: &[u8] =
+    b"fn l() -> () {\n    let mut _0: ();\n\n    bb0: {\n        goto -> bb1;\n    }\n\n    bb1: {\n        goto -> bb0;\n    }\n}\n";
+
+const DROPS: &[u8] =
+    b"struct G(u32);\nextern fn note(u32) -> ();\n\ndrop fn drop_g(_1: &mut G) -> () {\n    let mut _0: ();\n\n    bb0: {\n        _0 = note(copy ((*_1).0: u32)) -> [return: bb1, unwind unreachable];\n    }\n\n    bb1: {\n        return;\n    }\n}\n\n#[inline(never)]\nfn eat(_1: G) -> () {\n    let mut _0: ();\n\n    bb0: {\n        drop(_1) -> [return: bb1, unwind unreachable];\n    }\n\n    bb1: {\n        return;\n    }\n}\n";
 
 fn list(rt: &HostRuntime, bytes: &[u8]) -> Result<List<u8>, Fail> {
     let mut list = List::new(rt.alloc());
@@ -27,18 +24,55 @@ fn list(rt: &HostRuntime, bytes: &[u8]) -> Result<List<u8>, Fail> {
     Ok(list)
 }
 
+// The words that aren't empty.
+fn words(rt: &HostRuntime, first: &str, second: &str) -> Result<Vec<String>, Fail> {
+    let mut words = Vec::new(rt.alloc());
+    for word in [first, second] {
+        if !word.is_empty() {
+            words.push(format!(in rt.alloc(); "{word}")?)?;
+        }
+    }
+    Ok(words)
+}
+
 #[test]
 fn answers_by_words_and_input(rt: HostRuntime) -> Result<(), Fail> {
-    let refused = b"fn f() -> () {".as_slice();
     let none = b"".as_slice();
-    for (word, input, status, out, line) in [
-        ("seq", RETURNS, 0, RETURNS, none),
-        ("seq", LOOPS, 0, LOOPS, none),
-        ("seq", SKIPS, 0, SKIPPED, none),
-        ("seq", refused, 1, none, b"S16\n".as_slice()),
-        ("sq", RETURNS, 2, none, b"word 1\n".as_slice()),
+    for (first, second, input, status, out, line) in [
+        ("check", "", none, 0, b"ok 0\n".as_slice(), none),
+        ("seq", "", none, 0, none, none),
+        ("check", "", DROPS, 0, b"ok 2\n".as_slice(), none),
+        ("seq", "", RETURNS, 0, RETURNS, none),
+        ("seq", "", SKIPS, 0, SKIPPED, none),
+        ("", "", RETURNS, 2, none, b"word 1\n".as_slice()),
+        ("seq", "x", RETURNS, 2, none, b"word 2\n".as_slice()),
+        (
+            "check",
+            "",
+            b"fn f() -> () {".as_slice(),
+            1,
+            none,
+            b"S05 line 1\n".as_slice(),
+        ),
+        (
+            "check",
+            "",
+            b"struct S { a: S }".as_slice(),
+            1,
+            none,
+            b"V01 line 1\n".as_slice(),
+        ),
+        (
+            "seq",
+            "",
+            BACK_TO_START,
+            1,
+            none,
+            b"V05 line 9\n".as_slice(),
+        ),
+        ("seq", "", DROPS, 1, none, b"S16 line 21\n".as_slice()),
     ] {
-        let words = words(&rt, word)?;
+        let words = words(&rt, first, second)?;
         let mut source = PlainSource::new(list(&rt, input)?);
         let mut sink = PlainSink::new(rt.alloc());
         let mut notes = PlainSink::new(rt.alloc());
@@ -58,7 +92,7 @@ fn answers_by_words_and_input(rt: HostRuntime) -> Result<(), Fail> {
 
 #[test]
 fn tells_faults(rt: HostRuntime) -> Result<(), Fail> {
-    let words = words(&rt, "seq")?;
+    let words = words(&rt, "seq", "")?;
     let mut fails = List::new(rt.alloc());
     fails.push(2)?;
     let mut source = PlainSource::new(list(&rt, RETURNS)?);
