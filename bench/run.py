@@ -1,9 +1,10 @@
 #!/usr/bin/env python3
-"""Times `mirpipe seq` on one function of many blocks. Run by hand: bench/run.py [PROGRAM].
+"""Times `mirpipe check` and `mirpipe seq` on texts of many sizes. Run by hand: bench/run.py [PROGRAM [MEGABYTES]].
 
-The inputs are made here: blocks that are all empty gotos (each skipped), and blocks that are all joined to one. It prints a line for each:
-the input's name and number of blocks, its bytes, the seconds of the run, bytes per second, and the greatest memory in kilobytes (never
-less than what this script itself had when it began the run).
+The inputs are made here: one function whose blocks are all empty gotos (each skipped), or are all joined to one; many small functions; and
+functions of one long block. The last two are made as long as so many megabytes (60 where none is said), and a tenth of it. It prints a line for
+each run: the command, the input's name and its bytes, the seconds, bytes per second, and the greatest memory in kilobytes (never less than
+what this script itself had when it began the run).
 """
 import os
 import subprocess
@@ -13,50 +14,63 @@ import time
 
 ROOT = os.path.dirname(os.path.dirname(os.path.abspath(__file__)))
 PROGRAM = os.path.join(ROOT, "crates", "mirpipe", "out", "mirpipe")
-SIZES = [1_000, 10_000]
+MEGABYTE = 1_000_000
 
 
-def function(blocks):
+def function(name, blocks):
     """The text of a function whose blocks have these lines."""
-    text = ["fn f(_1: u64) -> u64 {", "    let mut _0: u64;"]
+    text = [f"fn {name}(_1: u64) -> u64 {{", "    let mut _0: u64;", "    let mut _2: u64;"]
     for number, lines in enumerate(blocks):
         text += ["", f"    bb{number}: {{"] + [f"        {line};" for line in lines] + ["    }"]
-    return "\n".join(text + ["}", ""]).encode()
+    return "\n".join(text + ["}", ""])
 
 
 def chain(count, lines):
     """Blocks that each go to the next one, the last of which returns."""
     blocks = [lines + [f"goto -> bb{number + 1}"] for number in range(count - 1)]
-    return function(blocks + [["_0 = copy _1", "return"]])
+    return function("f", blocks + [["_0 = copy _1", "return"]])
 
 
-INPUTS = {
-    "empty": lambda count: chain(count, []),
-    "joined": lambda count: chain(count, ["_0 = copy _1"]),
-}
+def many(size, lines):
+    """As many functions of one block, which has so many lines more, as the size takes; at most 10,000."""
+    sums = ["_2 = Add(copy _1, const 7_u64)", "_0 = BitXor(copy _0, copy _2)"]
+    block = ["_0 = const 1_u64"] + sums * (lines // 2) + ["return"]
+    text = function("f0", [block])
+    count = min(10_000, max(1, size // len(text)))
+    return "\n".join(function(f"f{number}", [block]) for number in range(count))
 
 
-def run(program, text):
+def inputs(size):
+    """The inputs by their names."""
+    for count in (1_000, 10_000):
+        yield f"empty {count}", chain(count, [])
+        yield f"joined {count}", chain(count, ["_0 = copy _1"])
+    for part in (size // 10, size):
+        yield "functions", many(part, 2)
+        yield "straight", many(part, 400)
+
+
+def run(program, command, text):
     """The seconds and the greatest memory of a run on a text."""
     with tempfile.TemporaryFile() as stdin:
-        stdin.write(text)
+        stdin.write(text.encode())
         stdin.seek(0)
         start = time.perf_counter()
-        child = subprocess.Popen([program, "seq"], stdin=stdin, stdout=subprocess.DEVNULL)
+        child = subprocess.Popen([program, command], stdin=stdin, stdout=subprocess.DEVNULL)
         _, status, usage = os.wait4(child.pid, 0)
         seconds = time.perf_counter() - start
     if status != 0:
-        sys.exit(f"{program}: wait status {status}")
+        sys.exit(f"{program} {command}: wait status {status}")
     return seconds, usage.ru_maxrss
 
 
 def main():
     program = sys.argv[1] if len(sys.argv) > 1 else PROGRAM
-    for name, make in INPUTS.items():
-        for count in SIZES:
-            text = make(count)
-            seconds, memory = run(program, text)
-            print(f"{name} {count}: {len(text)} bytes, {seconds:.3f} s, {len(text) / seconds:.0f} bytes/s, {memory} KB")
+    size = (int(sys.argv[2]) if len(sys.argv) > 2 else 60) * MEGABYTE
+    for name, text in inputs(size):
+        for command in ("check", "seq"):
+            seconds, memory = run(program, command, text)
+            print(f"{command} {name}: {len(text)} bytes, {seconds:.3f} s, {len(text) / seconds:.0f} bytes/s, {memory} KB")
 
 
 if __name__ == "__main__":
