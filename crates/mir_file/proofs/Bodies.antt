@@ -6,7 +6,6 @@ use Rattle.mir_syntax.specs.declared.types.TyId.{TyId}
 use Rattle.mir_syntax.specs.declared.types.Ty.{Ty}
 use Rattle.mir_syntax.specs.declared.body.Inline.{Inline}
 use Rattle.mir_syntax.specs.declared.body.Inline.TheVariants as inlining
-use Rattle.mir_syntax.specs.declared.lines.BlockLines.{BlockLines}
 use Rattle.mir_syntax.specs.declared.program.Program.{Program}
 use Rattle.mir_syntax.specs.Tree.{Tree, at_id, trees_of, Extends}
 use Rattle.mir_syntax.specs.Table.{all_below}

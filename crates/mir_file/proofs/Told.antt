@@ -1,6 +1,5 @@
 -- What is said of the items of a tree is said of each derivation that it is one of.
 use Rattle.std.proofs.Common.{◌≡◌, List, map, sym, ap, ◌∙◌}
-use Rattle.mir_syntax.specs.Crate.{Crate}
 use Rattle.mir_text.specs.Names.{Strings, Names, names_of}
 use Rattle.mir_text.specs.Naming.{crate_named}
 use Rattle.mir_text.specs.PartLines.{LinedItem}

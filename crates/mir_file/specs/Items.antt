@@ -1,8 +1,8 @@
 -- The items of a file's tree by their kinds, and what is wrong with those of one kind.
-use Rattle.std.specs.Prelude.{◌≡◌, ℕ, List, [], ◌∷◌, map, Option, None}
+use Rattle.std.specs.Prelude.{◌≡◌, ℕ, List, [], map, Option, None}
 use Rattle.mir_text.specs.GrammarItems as m
 use Rattle.mir_text.specs.GrammarItems.{ItemRule, FileRule}
-use Rattle.mir_text.specs.Names.{Names, Strings, path_bytes, DefRule, def_path, def_in}
+use Rattle.mir_text.specs.Names.{Names, Strings, path_bytes, def_path, def_in}
 use Rattle.mir_text.specs.PartLines.{LinedItem, other, function}
 use Rattle.mir_text.specs.NameFaults.{Fault, on_line, other_codes, fn_faults, each, path_faults}
 use Rattle.mir_tree.specs.declared.Lined.{Lined}

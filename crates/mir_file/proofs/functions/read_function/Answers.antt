@@ -1,18 +1,12 @@
-use Rattle.std.proofs.Common.{IsTrue, ◌≡◌, ℕ, List, ◌∷◌, ◌∙◌, ◌++◌, map, length, ap, ap₂, refl, sym, rules}
-use Rattle.std.specs.List.{list_all}
+use Rattle.std.proofs.Common.{◌≡◌, ℕ, List, ◌∙◌, map, length, ap, ap₂, refl, sym, rules}
 use Rattle.mir_syntax.specs.declared.lines.BlockLines.{BlockLines}
 use Rattle.mir_syntax.specs.declared.lines.FnLines.{FnLines}
-use Rattle.mir_syntax.specs.Table.{all_below}
-use Rattle.mir_syntax.specs.Tree.{at_id, trees_of}
-use Rattle.mir_syntax.specs.Crate.{block_of}
-use Rattle.mir_syntax.specs.Ids.{block_below}
+use Rattle.mir_syntax.specs.Tree.{trees_of}
 use Rattle.mir_syntax.proofs.Growth.{all_below-more, length-extends}
-use Rattle.mir_text.specs.Names.{path_bytes, Names}
+use Rattle.mir_text.specs.Names.{path_bytes}
 use Rattle.mir_text.specs.Naming.{declared, locals_from}
-use Rattle.mir_text.specs.NamedBodies.{Declared}
 use Rattle.mir_text.specs.NameFaults.{each}
-use Rattle.mir_text.specs.ReadLines.{first_of, fn_lines}
-use Rattle.mir_tree.specs.declared.body.BlockText.{BlockText}
+use Rattle.mir_text.specs.ReadLines.{first_of}
 use Rattle.mir_tree.specs.Rules.{fn_rule, lined_fn}
 use Rattle.mir_tree.specs.Types.{path_rule}
 use Rattle.mir_resolve.specs.Faults.{noted}
@@ -20,7 +14,6 @@ use Rattle.mir_resolve.specs.Definitions.{before_defs}
 use Rattle.mir_resolve.proofs.Growing.{grown_then}
 use Rattle.mir_resolve.proofs.Noting.{noted-append}
 use Rattle.mir_bodies.specs.Locals.{declared_in}
-use Rattle.mir_bodies.specs.Scope.{Sense}
 use Rattle.mir_file.specs.Declarations.{head_faults}
 use Rattle.mir_file.specs.Functions.{text_block, text_lines, text_wrong, text_faults}
 use Rattle.mir_file.proofs.Bodies.{knows_on, sense_with, ids_kept, function_made, blocks_lined, blocks_wrong, head_and_blocks}

@@ -1,5 +1,4 @@
 use Rattle.std.proofs.Common.{◌≡◌, ℕ, List, ◌∙◌, map, length, option_map, Option, None, Some, ap, ap₂, refl, sym}
-use Rattle.std.specs.List.{list_all}
 use Rattle.mir_syntax.specs.declared.lines.FnLines.{FnLines}
 use Rattle.mir_syntax.specs.declared.lines.Lines.{Lines}
 use Rattle.mir_syntax.specs.Tree.{trees_of}
@@ -8,7 +7,7 @@ use Rattle.mir_syntax.specs.Ids.{outside_below}
 use Rattle.mir_syntax.proofs.Growth.{map-same}
 use Rattle.mir_text.specs.Names.{names_of}
 use Rattle.mir_text.specs.Naming.{outsides_in}
-use Rattle.mir_text.specs.NameFaults.{Fault, each, name_faults, first_fault}
+use Rattle.mir_text.specs.NameFaults.{Fault, each, name_faults}
 use Rattle.mir_text.specs.ReadLines.{def_line_in, outside_line_in}
 use Rattle.mir_tree.specs.Rules.{lined_item}
 use Rattle.mir_resolve.specs.declared.faults.NameFault.{NameFault}
@@ -16,7 +15,7 @@ use Rattle.mir_resolve.specs.Faults.{noted}
 use Rattle.mir_file.specs.Items.{rules_of, fn_text_faults}
 use Rattle.mir_file.proofs.Steps.{outsides_keep}
 use Rattle.mir_file.proofs.AllFaults.{first_noted}
-use Rattle.mir_file.proofs.Bodies.{knows_front, knows_on, none_first, some_first}
+use Rattle.mir_file.proofs.Bodies.{knows_front, knows_on, none_first}
 use Rattle.mir_file.proofs.resolve.resolve_items.Goals as goal
 
 pub read_functions-requires : goal.read_functions-requires
