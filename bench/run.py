@@ -35,9 +35,9 @@ def many(size, lines):
     """As many functions of one block, which has so many lines more, as the size takes; at most 10,000."""
     sums = ["_2 = Add(copy _1, const 7_u64)", "_0 = BitXor(copy _0, copy _2)"]
     block = ["_0 = const 1_u64"] + sums * (lines // 2) + ["return"]
-    text = function("f0", [block])
+    text = function("sum0", [block])
     count = min(10_000, max(1, size // len(text)))
-    return "\n".join(function(f"f{number}", [block]) for number in range(count))
+    return "\n".join(function(f"sum{number}", [block]) for number in range(count))
 
 
 def inputs(size):
