@@ -48,6 +48,11 @@ impl Case {
     }
 }
 
+/// The bytes as text; what the program writes is text.
+fn text_of(bytes: &[u8]) -> &str {
+    str::from_utf8(bytes).unwrap_or("?\n")
+}
+
 /// Runs a case, and writes what it answers.
 fn answer(rt: &HostRuntime, case: Case) -> io::Result<()> {
     let alloc = rt.alloc();
@@ -56,10 +61,9 @@ fn answer(rt: &HostRuntime, case: Case) -> io::Result<()> {
     let mut out = PlainSink::new(alloc);
     let mut notes = PlainSink::new(alloc);
     let status = run_quiet(alloc, words.as_slice(), &mut source, &mut out, &mut notes);
-    let noted = str::from_utf8(notes.bytes()).unwrap_or("?\n");
-    let written = str::from_utf8(out.bytes()).unwrap_or("?\n");
-    println!(rt; "== {} -> {status} {}", case.title, noted.trim_end())?;
-    print!(rt; "{written}")
+    print!(rt; "== {} -> {status} ", case.title)?;
+    println!(rt; "{}", text_of(notes.bytes()).trim_end())?;
+    print!(rt; "{}", text_of(out.bytes()))
 }
 
 fn main(rt: HostRuntime) -> io::Result<()> {
