@@ -105,7 +105,7 @@ impl Machine {
     /// The visit of a place that isn't a hole: its destructor is called with `&mut` of it, else its fields come next.
     fn visit(&mut self, alloc: Global, program: &Program, dropping: Dropping, visit: Visit, active: Option<u32>) -> Result<(), Stop>
         requires knows { KnowsDrops program.now }
-        requires room { self.old.next < 2 ^ 64 - 1 }
+        requires room { self.old.last < 2 ^ 64 - 1 }
         ensures goes { (v : Value) → variant_in v ≡ active → Gives result
             (sem.visit (code_in program.now) (state_in program.now self.old) (dropping_in program.now dropping) (visit_in program.now visit) (items_in program.now dropping.items) v (destructor_of (shapes_in program.now) (type_in program.now visit.ty)))
             (λ _. on (state_in program.now self.new)) }
@@ -127,7 +127,7 @@ impl Machine {
     /// One item: a type that needs no drop isn't looked at, and a hole has nothing to drop.
     fn work_off(&mut self, alloc: Global, program: &Program, dropping: Dropping) -> Result<(), Stop>
         requires knows { KnowsDrops program.now }
-        requires room { self.old.next < 2 ^ 64 - 1 }
+        requires room { self.old.last < 2 ^ 64 - 1 }
         ensures goes { Gives result
             (sem.work_off (code_in program.now) (state_in program.now self.old) (dropping_in program.now dropping) (items_in program.now dropping.items))
             (λ _. on (state_in program.now self.new)) }
@@ -154,7 +154,7 @@ impl Machine {
     pub fn drop_step(&mut self, alloc: Global, here: Here<'_>, place: &Place, target: u32) -> Result<(), Stop>
         requires formed { IsTrue (path_formed place.now.proj) }
         requires knows { KnowsDrops here.program.now }
-        requires room { self.old.next < 2 ^ 64 - 1 }
+        requires room { self.old.last < 2 ^ 64 - 1 }
         ensures goes { Gives result
             (dropped (code_in here.entry.program.now) (here_of here.entry) (state_in here.entry.program.now self.old) place.now target)
             (λ _. on (state_in here.entry.program.now self.new)) }

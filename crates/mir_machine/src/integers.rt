@@ -1,0 +1,53 @@
+ghost use Rattle.std.specs.Prelude.{◌≡◌, map, IsTrue};
+ghost use Rattle.std.specs.List.{list_all};
+ghost use Rattle.mir_syntax.specs.Drops.{KnowsDrops};
+ghost use Rattle.mir_num.specs.Numbers.{integer_of};
+ghost use Rattle.mir_semantics.specs.Step as sem;
+ghost use Rattle.mir_meaning.specs.Views.{memory_of};
+ghost use Rattle.mir_meaning.specs.Sight.{here_of, operand_whole};
+ghost use Rattle.mir_meaning.specs.Gives.{Gives};
+ghost use Rattle.mir_machine.specs.Ends.{integer_in};
+
+use mir_meaning::here::Here;
+use mir_meaning::memory::Memory;
+use mir_meaning::operand::{read_number, scalar_ty};
+use mir_meaning::stop::Stop;
+use mir_num::{signed, width, wrap};
+use mir_syntax::{List, Number, Operand, ScalarTy};
+use std::alloc::Global;
+
+/// The integer that a pattern of a type stands for.
+pub fn integer(ty: ScalarTy, bits: u128) -> Number
+    ensures { integer_in result ≡ integer_of ty bits }
+{
+    let low = wrap(ty, bits);
+    let greatest = u128::MAX >> (128 - width(ty));
+    if signed(ty) && greatest >> 1 < low {
+        Number {
+            negative: true,
+            size: greatest - low + 1,
+        }
+    } else {
+        Number {
+            negative: false,
+            size: low,
+        }
+    }
+}
+
+/// The integers of a message's operands.
+pub fn integers(alloc: Global, here: Here<'_>, memory: &mut Memory, operands: &[Operand]) -> Result<List<Number>, Stop>
+    requires formed { IsTrue (list_all operand_whole operands.now) }
+    requires knows { KnowsDrops here.program.now }
+    ensures { Gives result (sem.integers (here_of here.entry) (memory_of memory.old) operands.now) (λ numbers. (map integer_in numbers, memory_of memory.new)) }
+{
+    let mut numbers = List::with_capacity(alloc, operands.len())?;
+    for operand in operands {
+        let Some(ty) = scalar_ty(here, operand) else {
+            return Err(Stop::Undefined);
+        };
+        let bits = read_number(alloc, here, memory, operand)?;
+        numbers.push(integer(ty, bits))?;
+    }
+    Ok(numbers)
+}
