@@ -22,16 +22,15 @@ pub fn integer(ty: ScalarTy, bits: u128) -> Number
 {
     let low = wrap(ty, bits);
     let greatest = u128::MAX >> (128 - width(ty));
-    if signed(ty) && greatest >> 1 < low {
-        Number {
-            negative: true,
-            size: greatest - low + 1,
-        }
-    } else {
-        Number {
+    if !signed(ty) || low <= greatest >> 1 {
+        return Number {
             negative: false,
             size: low,
-        }
+        };
+    }
+    Number {
+        negative: true,
+        size: greatest - low + 1,
     }
 }
 

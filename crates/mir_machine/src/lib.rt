@@ -9,15 +9,15 @@ mod integers;
 mod machine;
 mod numbers;
 mod outcome;
-mod run;
+mod runs;
 mod slots;
 mod state;
+mod steps;
 mod terms;
 mod visits;
-#[cfg(test)]
-mod tests;
 
 pub use machine::Called;
 pub use outcome::Outcome;
-pub use run::{RunResult, run};
-pub use state::{EntryCall, State, Stepped, step};
+pub use runs::{RunResult, run};
+pub use state::{EntryCall, State, Stepped};
+pub use steps::step;
