@@ -1,13 +1,12 @@
-//! Entries: functions that may be called from outside, with arguments given as integers, and values shown as integers.
+//! Entries: functions that may be called from outside, and the flat form of values.
 //!
-//! The definitions are those of `mir_semantics` (`specs/Entry.antt`: `IsEntry`, `AreFlat`, `flat`). The main contracts are `entry` (the call of
-//! a function with the values of which the integers are the flat form, or the argument that doesn't fit) and `flat` (the flat form of a value).
+//! The definitions are those of `mir_semantics` (`specs/Entry.antt`). The main contracts are `flat` (the flat form of a value) and
+//! `holds_reference` (whether a reference stands in a type), with which an entry's signature is judged.
 #![tactic(auto)]
 
-mod entries;
 mod flats;
 mod refers;
-mod taken;
+mod splits;
 
-pub use entries::{EntryFault, entry, function_at};
 pub use flats::flat;
+pub use refers::holds_reference;

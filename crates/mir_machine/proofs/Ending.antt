@@ -1,5 +1,15 @@
 -- What terminators do.
-use Rattle.std.proofs.Common.{◌≡◌, refl, sym, ap, subst, ◌∙◌, ℕ, suc, nat_eq, Bool, true, false, List, [], ◌∷◌, ◌++◌, map, Option, Some, None, slice_get, arith, ℤ}
+use Rattle.std.proofs.Common.{◌≡◌, refl, sym, ap, subst, ◌∙◌, ℕ, suc, nat_eq, ◌+◌, ◌<◌, ◌≤◌, Bool, true, false, IsTrue, List, [], ◌∷◌, ◌++◌, map, length, drop, get_or, Option, Some, None, slice_get, arith, add-one, drop-cons, ℤ}
+use Rattle.std.specs.List.{list_all}
+use Rattle.std.specs.Option.{option_map}
+use Rattle.std.proofs.lemmas.Option.{slice_get-map, slice_get_past, slice_get_read}
+use Rattle.std.proofs.lemmas.List.{drop_all}
+use Rattle.mir_syntax.proofs.InTable.{all-at}
+use Rattle.mir_syntax.specs.declared.types.Outside.{Outside}
+use Rattle.mir_syntax.specs.declared.body.Stmt.{Stmt}
+use Rattle.mir_syntax.specs.declared.body.Block.{Block}
+use Rattle.mir_syntax.specs.declared.body.Body.{Body}
+use Rattle.mir_syntax.specs.declared.program.Program.{Program}
 use Rattle.mir_syntax.specs.declared.types.FnId.{FnId}
 use Rattle.mir_syntax.specs.declared.types.OutId.{OutId}
 use Rattle.mir_syntax.specs.declared.types.ScalarTy.{ScalarTy}
@@ -10,8 +20,10 @@ use Rattle.mir_syntax.specs.declared.body.Callee.{Callee}
 use Rattle.mir_syntax.specs.declared.body.Callee.TheVariants as callee
 use Rattle.mir_syntax.specs.declared.body.Term.{Term}
 use Rattle.mir_syntax.specs.declared.body.Term.TheVariants.{Goto, Switch, Return, Unreachable, Drop, Call, Assert}
-use Rattle.mir_syntax.specs.Tree.{Tree, scalar, empty, more, ref, ref_mut, named}
-use Rattle.mir_syntax.specs.Crate.{TypedStmt, TypedOutside, TypedBlock, TypedBody}
+use Rattle.mir_meaning.specs.Sight.{stmt_whole}
+use Rattle.mir_machine.specs.Seen.{code_in, dropped}
+use Rattle.mir_syntax.specs.Tree.{trees_of, Tree, scalar, empty, more, ref, ref_mut, named}
+use Rattle.mir_syntax.specs.Crate.{TypedStmt, TypedOutside, TypedBlock, TypedBody, outside_of, body_of, block_of, stmt_of}
 use Rattle.mir_syntax.specs.Shapes.{Shape, ◌>>=◌}
 use Rattle.mir_num.specs.Numbers as num
 use Rattle.mir_semantics.specs.Values.{Value, number, nil}
@@ -240,3 +252,43 @@ pub step_performs : (C : Code) (s : State) (b : TypedBody) (k : TypedBlock) → 
     → step C s ≡ perform C (record { shapes = C.shapes; locals = b.locals; frame = s.top.frame }) s k.term (slice_get k.stmts s.top.at)
 unfolding step
 step_performs C s b k e f = bind_at _ b _ e ∙ bind_at _ k _ f
+
+-- ---- other forms
+
+pub drop_is : (C : Code) (h : Here) (s : State) (p : Place) (b : ℕ) → finish C h s (Drop p b) ≡ dropped C h s p b
+unfolding finish
+drop_is C h s p b = refl
+
+pub unreachable_is : (C : Code) (h : Here) (s : State) → finish C h s Unreachable ≡ None
+unfolding finish
+unreachable_is C h s = refl
+
+pub flagged : (n k : ℕ) (b is : Bool) → k ≡ num.flag b → nat_eq n k ≡ is → nat_eq n (num.flag b) ≡ is
+flagged n k b is e f = ap (nat_eq n) (sym e) ∙ f
+
+pub outside_nowhere : (p : Program) (o : ℕ) → slice_get p.outsides o ≡ None → slice_get (code_in p).outsides o ≡ None
+outside_nowhere p o e = slice_get-map (outside_of (trees_of p.types)) p.outsides o ∙ ap (option_map (outside_of (trees_of p.types))) e
+
+pub outside_there : (p : Program) (o : ℕ) (out : Outside) → slice_get p.outsides o ≡ Some out → slice_get (code_in p).outsides o ≡ Some (outside_of (trees_of p.types) out)
+outside_there p o out e = slice_get-map (outside_of (trees_of p.types)) p.outsides o ∙ ap (option_map (outside_of (trees_of p.types))) e
+
+pub block_nowhere : (trees : List Tree) (b : Body) (k : ℕ) → slice_get b.blocks k ≡ None → slice_get (body_of trees b).blocks k ≡ None
+block_nowhere trees b k e = slice_get-map (block_of trees) b.blocks k ∙ ap (option_map (block_of trees)) e
+
+pub block_at : (trees : List Tree) (b : Body) (k : ℕ) (block : Block) → slice_get b.blocks k ≡ Some block → slice_get (body_of trees b).blocks k ≡ Some (block_of trees block)
+block_at trees b k block e = slice_get-map (block_of trees) b.blocks k ∙ ap (option_map (block_of trees)) e
+
+pub no_stmt : (trees : List Tree) (stmts : List Stmt) (i : ℕ) → length stmts ≤ i → slice_get (map (stmt_of trees) stmts) i ≡ None
+no_stmt trees stmts i h = slice_get-map (stmt_of trees) stmts i ∙ ap (option_map (stmt_of trees)) (slice_get_past stmts i h)
+
+pub stmt_at : (trees : List Tree) (stmts : List Stmt) (i : ℕ) (x : Stmt) → i < length stmts → x ≡ get_or stmts i x → slice_get (map (stmt_of trees) stmts) i ≡ Some (stmt_of trees x)
+stmt_at trees stmts i x h e = slice_get-map (stmt_of trees) stmts i ∙ ap (option_map (stmt_of trees)) (slice_get_read stmts (length stmts) i x refl h e)
+
+pub stmt_is_whole : (stmts : List Stmt) (i : ℕ) (x : Stmt) → IsTrue (list_all stmt_whole stmts) → i < length stmts → x ≡ get_or stmts i x → IsTrue (stmt_whole x)
+stmt_is_whole stmts i x h l e = all-at stmt_whole stmts i x h (slice_get_read stmts (length stmts) i x refl l e)
+
+pub none_to_ask : (answers : List ℕ) (i : ℕ) → length answers ≤ i → drop i answers ≡ []
+none_to_ask answers i h = drop_all i answers h
+
+pub next_to_ask : (answers : List ℕ) (i a : ℕ) → i < length answers → a ≡ get_or answers i a → drop i answers ≡ a ∷ drop (i + 1) answers
+next_to_ask answers i a h e = rw (add-one, drop-cons answers i a h) (ap (λ x. x ∷ drop (suc i) answers) (sym e))

@@ -48,23 +48,19 @@ pub enter_nowhere : (C : Code) (s : State) (m : Memory) (c : Control) (g : ℕ) 
 unfolding enter
 enter_nowhere C s m c g args d e = bind_gone _ _ e
 
-state_same : (m m' : Memory) (t : Control) (cs cs' : List Control) (n n' : ℕ) (ans : List ℕ) (r : List Called) → m ≡ m' → cs ≡ cs' → n ≡ n'
-    → ◌≡◌ {A = Option Next} (Some (on (record { memory = m; top = t; callers = cs; next = n; answers = ans; trace = r }))) (Some (on (record { memory = m'; top = t; callers = cs'; next = n'; answers = ans; trace = r })))
-state_same m m' t cs cs' n n' ans r e f g =
-    ap (λ x. Some (on (record { memory = x; top = t; callers = cs; next = n; answers = ans; trace = r }))) e
-    ∙ (ap (λ x. Some (on (record { memory = m'; top = t; callers = x; next = n; answers = ans; trace = r }))) f
-    ∙ ap (λ x. Some (on (record { memory = m'; top = t; callers = cs'; next = x; answers = ans; trace = r }))) g)
-
 abbrev pub first_control : ℕ → ℕ → Option Dest → Control
 first_control g f d = record { function = g; frame = f; block = 0; at = 0; dropping = None; dest = d }
 
-pub enter_there : (C : Code) (s : State) (m m' : Memory) (c t : Control) (g : ℕ) (args slots : List Value) (d : Option Dest) (b : TypedBody) (cs : List Control) → slice_get C.bodies g ≡ Some b → slots ≡ new_slots C.shapes b.locals args
-    → m' ≡ open_frame m s.next slots → cs ≡ c ∷ s.callers → t ≡ first_control g s.next d
-    → enter C s m c g args d ≡ Some (on (record { memory = m'; top = t; callers = cs; next = s.next + 1; answers = s.answers; trace = s.trace }))
+pub enter_there : (C : Code) (s : State) (m m' : Memory) (c t : Control) (g : ℕ) (args slots : List Value) (d : Option Dest) (b : TypedBody) (cs : List Control) (f : ℕ) → slice_get C.bodies g ≡ Some b → slots ≡ new_slots C.shapes b.locals args
+    → f ≡ s.next → m' ≡ open_frame m f slots → cs ≡ c ∷ s.callers → t ≡ first_control g f d
+    → enter C s m c g args d ≡ Some (on (record { memory = m'; top = t; callers = cs; next = suc f; answers = s.answers; trace = s.trace }))
 unfolding enter entered
-enter_there C s m m' c t g args slots d b cs e f h k w =
-    bind_at _ b _ e ∙ (state_same _ _ _ _ _ _ _ _ _ (sym (h ∙ ap (open_frame m s.next) f)) (sym k) (let one : suc s.next ≡ s.next + 1 = omega arith in one)
-    ∙ ap (λ x. Some (on (record { memory = m'; top = x; callers = cs; next = s.next + 1; answers = s.answers; trace = s.trace }))) (sym w))
+enter_there C s m m' c t g args slots d b cs f e h q k w z =
+    bind_at _ b _ e
+    ∙ (ap (λ x. Some (on (record { memory = open_frame m x (new_slots C.shapes b.locals args); top = first_control g x d; callers = c ∷ s.callers; next = suc x; answers = s.answers; trace = s.trace }))) (sym q)
+    ∙ (ap (λ x. Some (on (record { memory = x; top = first_control g f d; callers = c ∷ s.callers; next = suc f; answers = s.answers; trace = s.trace }))) (sym (k ∙ ap (open_frame m f) h))
+    ∙ (ap (λ x. Some (on (record { memory = m'; top = first_control g f d; callers = x; next = suc f; answers = s.answers; trace = s.trace }))) (sym w)
+    ∙ ap (λ x. Some (on (record { memory = m'; top = x; callers = cs; next = suc f; answers = s.answers; trace = s.trace }))) (sym z))))
 
 pub newest_first : {X Y : Type 0} (f : X → Y) (xs : List X) (x : X) → map f (reverse (xs ++ x ∷ [])) ≡ f x ∷ map f (reverse xs)
 newest_first f xs x = ap (map f) (reverse-append xs (x ∷ []))

@@ -9,3 +9,4 @@ pub mod Frames
 pub mod Messages
 pub mod Starting
 pub mod Stepping
+pub mod Shown

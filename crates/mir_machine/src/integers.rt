@@ -1,6 +1,8 @@
-ghost use Rattle.std.specs.Prelude.{◌≡◌, map, IsTrue};
+ghost use Rattle.std.specs.Prelude.{◌≡◌, ◌+◌, map, IsTrue};
 ghost use Rattle.std.specs.List.{list_all};
 ghost use Rattle.mir_syntax.specs.Drops.{KnowsDrops};
+ghost use Rattle.mir_num.specs.Widths.{patterns};
+ghost use Rattle.mir_num.specs.Numbers as num;
 ghost use Rattle.mir_num.specs.Numbers.{integer_of};
 ghost use Rattle.mir_semantics.specs.Step as sem;
 ghost use Rattle.mir_meaning.specs.Views.{memory_of};
@@ -16,13 +18,26 @@ use mir_num::{signed, width, wrap};
 use mir_syntax::{List, Number, Operand, ScalarTy};
 use std::alloc::Global;
 
+/// The greatest pattern of a type: ones at all its bits.
+fn greatest(ty: ScalarTy) -> u128
+    ensures { result + 1 ≡ patterns ty }
+{
+    u128::MAX >> (128 - width(ty))
+}
+
 /// The integer that a pattern of a type stands for.
 pub fn integer(ty: ScalarTy, bits: u128) -> Number
     ensures { integer_in result ≡ integer_of ty bits }
 {
     let low = wrap(ty, bits);
-    let greatest = u128::MAX >> (128 - width(ty));
-    if !signed(ty) || low <= greatest >> 1 {
+    if !signed(ty) {
+        return Number {
+            negative: false,
+            size: low,
+        };
+    }
+    let greatest = greatest(ty);
+    if low <= greatest >> 1 {
         return Number {
             negative: false,
             size: low,
@@ -31,6 +46,17 @@ pub fn integer(ty: ScalarTy, bits: u128) -> Number
     Number {
         negative: true,
         size: greatest - low + 1,
+    }
+}
+
+/// The bits of a `bool`.
+#[tactic(auto, unfolding(mir_num::specs::Numbers::flag))]
+pub fn flag(holds: bool) -> u128
+    ensures { result ≡ num.flag holds }
+{
+    match holds {
+        true => 1,
+        false => 0,
     }
 }
 

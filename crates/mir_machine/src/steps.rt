@@ -1,6 +1,7 @@
 ghost use Rattle.std.specs.Prelude.{◌≡◌, ◌+◌, ◌-◌, ◌<◌, ◌^◌, ◌≤◌, map, slice_get, IsTrue, IfOk, OnOk, Ok, true, false};
 ghost use Rattle.mir_syntax.specs.Drops.{KnowsDrops};
 ghost use Rattle.mir_syntax.specs.declared.program.Program.{Program};
+ghost use Rattle.mir_machine.specs.declared.machine.Machine.{Machine};
 ghost use Rattle.mir_syntax.specs.Crate.{crate_of};
 ghost use Rattle.mir_rules.specs.Formed.{is_formed};
 ghost use Rattle.mir_semantics.specs.Run as runs;
@@ -8,7 +9,7 @@ ghost use Rattle.mir_meaning.specs.Views.{value_of};
 ghost use Rattle.mir_machine.specs.Seen.{code_in, state_in};
 ghost use Rattle.mir_machine.specs.Ordered.{Framed};
 ghost use Rattle.mir_machine.specs.Sound.{goes};
-ghost use Rattle.mir_machine.specs.Runs.{Progress, going, entry_in, onward, standing_in, answer_of};
+ghost use Rattle.mir_machine.specs.Runs.{Progress, going, entry_in, onward, standing, standing_in, answer_of};
 
 use crate::control::Control;
 use crate::machine::Machine;
@@ -61,6 +62,30 @@ fn start(alloc: Global, program: &Program, entry: &EntryCall, answers: &[u128]) 
     })
 }
 
+fn goes_on(outcome: &Outcome) -> bool
+    ensures { result ≡ goes (Ok outcome.now) }
+{
+    match outcome {
+        Outcome::Going => true,
+        Outcome::Returned(_) => false,
+        Outcome::Aborted(_, _) => false,
+        Outcome::NoAnswer => false,
+        Outcome::Undefined => false,
+    }
+}
+
+fn stepped_as(outcome: &Outcome) -> Stepped
+    ensures { (program : Program) (machine : Machine) → Ok result ≡ answer_of (standing program machine (Ok outcome.now)) }
+{
+    match outcome {
+        Outcome::Going => Stepped::On,
+        Outcome::Returned(_) => Stepped::Ended,
+        Outcome::Aborted(_, _) => Stepped::Ended,
+        Outcome::NoAnswer => Stepped::Ended,
+        Outcome::Undefined => Stepped::Undefined,
+    }
+}
+
 impl State {
     /// The start of a run.
     pub fn new(alloc: Global, program: &Program, entry: &EntryCall, answers: &[u128]) -> Result<State, OutOfMemory>
@@ -87,8 +112,8 @@ impl State {
         ensures { result ≡ goes self.now.outcome }
     {
         match &self.outcome {
-            Ok(Outcome::Going) => true,
-            _ => false,
+            Ok(outcome) => goes_on(outcome),
+            Err(_) => false,
         }
     }
 
@@ -96,9 +121,7 @@ impl State {
         ensures { (program : Program) → result ≡ answer_of (standing_in program self.now) }
     {
         match &self.outcome {
-            Ok(Outcome::Going) => Ok(Stepped::On),
-            Ok(Outcome::Undefined) => Ok(Stepped::Undefined),
-            Ok(_) => Ok(Stepped::Ended),
+            Ok(outcome) => Ok(stepped_as(outcome)),
             Err(_) => Err(OutOfMemory),
         }
     }
@@ -115,11 +138,14 @@ pub fn step(alloc: Global, program: &Program, state: &mut State) -> Result<Stepp
     ensures rests { goes state.old.outcome ≡ false → state.new ≡ state.old }
     ensures counts { goes state.old.outcome ≡ true → OnOk result (state.new.taken ≡ state.old.taken + 1) }
 {
-    if state.is_going() {
-        state.outcome = state.machine.advance(alloc, program);
-        if state.outcome.is_ok() {
-            state.taken += 1;
-        }
+    if !state.is_going() {
+        return state.stepped();
     }
+    let Ok(outcome) = state.machine.advance(alloc, program) else {
+        state.outcome = Err(OutOfMemory);
+        return state.stepped();
+    };
+    state.outcome = Ok(outcome);
+    state.taken += 1;
     state.stepped()
 }

@@ -21,7 +21,7 @@ ghost use Rattle.mir_machine.specs.Runs.{progress_in, come_to};
 use crate::arms::take_arm;
 use crate::control::Dest;
 use crate::dest::{dest_of, store};
-use crate::integers::integers;
+use crate::integers::{flag, integers};
 use crate::machine::{Called, Machine};
 use crate::numbers::numbers_in;
 use crate::outcome::Outcome;
@@ -114,7 +114,8 @@ impl Machine {
         ensures trace { Stays result (self.new.trace ≡ self.old.trace) }
     {
         let bits = read_number(alloc, here, &mut self.memory, operand)?;
-        if bits == expected as u128 {
+        let wanted = flag(expected);
+        if bits == wanted {
             self.go_to(block);
             return Ok(Outcome::Going);
         }
@@ -144,10 +145,12 @@ impl Machine {
             (λ outcome. next_in program.now self.new outcome) }
         ensures trace { Stays result (self.new.trace ≡ self.old.trace) }
     {
-        let Some(answer) = self.answers.get(self.asked) else {
+        let answers = self.answers.as_slice();
+        if answers.len() <= self.asked {
             return Ok(Outcome::NoAnswer);
-        };
-        let bits = wrap(ty, *answer);
+        }
+        let answer = answers[self.asked];
+        let bits = wrap(ty, answer);
         self.asked += 1;
         let called = Called { out, args, answer: Some(bits) };
         self.told(program, called, dest, Datum::Num(bits))
@@ -241,9 +244,11 @@ impl Machine {
             (λ outcome. next_in here.entry.program.now self.new outcome) }
         ensures trace { Stays result (self.new.trace ≡ self.old.trace) }
     {
-        let Some(stmt) = block.stmts.get(self.top.at) else {
+        let stmts = block.stmts.as_slice();
+        if stmts.len() <= self.top.at {
             return self.terminate(alloc, here, &block.term);
-        };
+        }
+        let stmt = &stmts[self.top.at];
         exec(alloc, here, &mut self.memory, stmt)?;
         self.top.at += 1;
         Ok(Outcome::Going)
