@@ -1,1 +1,3 @@
-pub mod Flats
+pub mod Exact
+pub mod FlatParts
+pub mod Referring

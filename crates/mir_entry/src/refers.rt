@@ -1,9 +1,10 @@
-ghost use Rattle.std.specs.Prelude.{◌≡◌, map, IsTrue, slice_get};
+ghost use Rattle.std.specs.Prelude.{◌≡◌, map, IsTrue};
 ghost use Rattle.mir_syntax.specs.Tree.{at_ids, trees_of};
 ghost use Rattle.mir_syntax.specs.Table.{all_below};
-ghost use Rattle.mir_syntax.specs.Shapes.{fields_tree};
+ghost use Rattle.mir_syntax.specs.Shapes.{fields_tree, fields_tuple};
+ghost use Rattle.mir_syntax.specs.Crate.{variant_of};
 ghost use Rattle.mir_semantics.specs.Entry as sem;
-ghost use Rattle.mir_semantics.specs.Entry.{refers_by, refers_def};
+ghost use Rattle.mir_semantics.specs.Entry.{refers_by, refers_def, any_refers};
 ghost use Rattle.mir_meaning.specs.Programs.{shapes_in, type_in};
 
 use mir_meaning::types::ty;
@@ -47,11 +48,18 @@ fn def_refers(program: &Program, depth: usize, def: u32) -> bool
     if depth == 0 {
         return false;
     }
-    let Some(def) = program.defs.get(def as usize) else {
-        return false;
-    };
-    for variant in def.variants.as_slice() {
-        if fields_refer(program, depth - 1, variant.fields.as_slice()) {
+    match program.defs.get(def as usize) {
+        Some(def) => variants_refer(program, depth - 1, def.variants.as_slice()),
+        None => false,
+    }
+}
+
+#[cycle(refers)]
+fn variants_refer(program: &Program, depth: usize, variants: &[Variant]) -> bool
+    ensures { result ≡ any_refers (refers_def (shapes_in program.now) depth) (map fields_tuple (map (variant_of (trees_of program.now.types)) variants.now)) }
+{
+    for variant in variants {
+        if fields_refer(program, depth, variant.fields.as_slice()) {
             return true;
         }
     }
@@ -75,4 +83,16 @@ pub fn holds_reference(program: &Program, id: TyId) -> bool
     ensures { result ≡ sem.holds_reference (shapes_in program.now) (type_in program.now id) }
 {
     refers_within(program, program.defs.len(), id)
+}
+
+/// Whether a reference stands in one of the types, or in a type that it holds.
+pub fn types_refer_any(program: &Program, types: &[TyId]) -> bool
+    ensures { result ≡ sem.holds_reference (shapes_in program.now) (at_ids (trees_of program.now.types) types.now) }
+{
+    for ty in types {
+        if holds_reference(program, *ty) {
+            return true;
+        }
+    }
+    false
 }

@@ -1,7 +1,7 @@
 ghost use Rattle.std.specs.Prelude.{◌≡◌, [], ◌∷◌, MatchOption};
 
 use mir_meaning::datum::Datum;
-use mir_syntax::{Field, TyId};
+use mir_syntax::{Field, Number, TyId};
 
 /// The type that comes first, and those behind it.
 pub fn split_types(types: &[TyId]) -> Option<(TyId, &[TyId])>
@@ -29,6 +29,16 @@ pub fn split_data(values: &[Datum]) -> Option<(&Datum, &[Datum])>
 {
     match values {
         [first, rest @ ..] => Some((first, rest)),
+        [] => None,
+    }
+}
+
+/// The number that comes first, and those behind it.
+pub fn split_numbers(numbers: &[Number]) -> Option<(Number, &[Number])>
+    ensures { MatchOption result (numbers.now ≡ []) (λ on. numbers.now ≡ on.0 ∷ on.1.now) }
+{
+    match numbers {
+        [first, rest @ ..] => Some((*first, rest)),
         [] => None,
     }
 }
