@@ -1,6 +1,11 @@
 -- The flat form of the parts of a value, one after another.
 use Rattle.std.proofs.Common.{◌≡◌, ◌∙◌, refl, sym, ap, ℕ, zero, suc, nat_eq, Bool, true, false, if◌then◌else◌, List, [], ◌∷◌, ◌++◌, map, length, Option, Some, None, slice_get, ℤ, append_assoc}
-use Rattle.std.proofs.lemmas.List.{append-nil}
+use Rattle.std.proofs.lemmas.List.{append-nil, map-append}
+use Rattle.mir_syntax.specs.declared.types.ScalarTy.{ScalarTy}
+use Rattle.mir_syntax.specs.declared.number.Number.{Number}
+use Rattle.mir_num.specs.Numbers.{integer_of}
+use Rattle.mir_semantics.specs.Step.{number_in}
+use Rattle.mir_machine.specs.Ends.{integer_in}
 use Rattle.std.specs.Option.{option_map}
 use Rattle.mir_syntax.specs.Tree.{Tree, scalar, empty, more, ref, ref_mut, named}
 use Rattle.mir_syntax.specs.Shapes.{◌>>=◌}
@@ -37,3 +42,27 @@ flat_over f v vs a = refl
 pub flat_done : (f : ℕ → Value → Option (List ℤ)) (a : List ℤ) → both (Some a) (flat_by f empty nil) ≡ Some a
 unfolding ◌>>=◌
 flat_done f a = ap Some (append-nil a)
+
+number_is : (v : Value) (n : ℕ) → Some n ≡ number_in v → v ≡ number n
+number_is (number m) n h = let same : n ≡ m = cc in ap number (sym same)
+number_is nil n h = absurd cc
+number_is (cons v vs) n h = absurd cc
+number_is (variant k v) n h = absurd cc
+number_is (pointer a) n h = absurd cc
+number_is hole n h = absurd cc
+
+no_number : (f : ℕ → Value → Option (List ℤ)) (s : ScalarTy) (v : Value) → None ≡ number_in v → flat_by f (scalar s) v ≡ None
+no_number f s (number m) h = absurd cc
+no_number f s nil h = refl
+no_number f s (cons v vs) h = refl
+no_number f s (variant k v) h = refl
+no_number f s (pointer a) h = refl
+no_number f s hole h = refl
+
+pub scalar_pushed : (f : ℕ → Value → Option (List ℤ)) (s : ScalarTy) (v : Value) (n : ℕ) (x : Number) (old new : List Number) → Some n ≡ number_in v → integer_in x ≡ integer_of s n → new ≡ old ++ x ∷ [] → both (Some (map integer_in old)) (flat_by f (scalar s) v) ≡ Some (map integer_in new)
+unfolding ◌>>=◌
+scalar_pushed f s v n x old new h shown e = rw (number_is v n h, e, ← shown) (ap Some (sym (map-append integer_in old (x ∷ []))))
+
+pub scalar_none : (f : ℕ → Value → Option (List ℤ)) (s : ScalarTy) (v : Value) (a : List ℤ) → None ≡ number_in v → both (Some a) (flat_by f (scalar s) v) ≡ None
+unfolding ◌>>=◌
+scalar_none f s v a h = rw (no_number f s v h) refl

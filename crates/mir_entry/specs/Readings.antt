@@ -1,5 +1,5 @@
 -- Values that are read from their flat form. No public promise rests on these: those of `mir_semantics` speak of the flat form.
-use Rattle.std.specs.Prelude.{ℕ, zero, suc, Bool, true, false, nat_lt, if◌then◌else◌, List, [], ◌∷◌, ◌++◌, map, length, Option, Some, None, slice_get, ℤ, pos, negsuc}
+use Rattle.std.specs.Prelude.{ℕ, zero, suc, ◌^◌, Bool, true, false, nat_lt, if◌then◌else◌, List, [], ◌∷◌, ◌++◌, map, length, Option, Some, None, slice_get, ℤ, pos, negsuc}
 use Rattle.mir_syntax.specs.declared.number.Number.{Number}
 use Rattle.mir_syntax.specs.Tree.{Tree, scalar, empty, more, ref, ref_mut, named}
 use Rattle.mir_syntax.specs.Shapes.{Shape, ◌>>=◌, struct_fields}
@@ -24,8 +24,8 @@ scalar_front s [] = None
 scalar_front s (i ∷ is) = read_scalar is (exactly s i)
 
 abbrev pub then_read : (List ℤ → Reading) → Reading → Reading
-then_read more None = None
-then_read more (Some x) = more x.1 >>= λ y. Some (cons x.0 y.0, y.1)
+then_read next None = None
+then_read next (Some x) = next x.1 >>= λ y. Some (cons x.0 y.0, y.1)
 
 abbrev pub read_by : (ℕ → List ℤ → Reading) → Tree → List ℤ → Reading
 read_by of_def (scalar s) is = scalar_front s is
@@ -42,10 +42,17 @@ abbrev pub with_number : ℕ → Option Tree → Option (ℕ × Tree)
 with_number k None = None
 with_number k (Some t) = Some (k, t)
 
--- the variant that an integer names: its place, and the tuple of its fields
+abbrev pub small_natural : ℤ → Option ℕ
+small_natural (pos k) = if nat_lt k (2 ^ 32) then Some k else None
+small_natural (negsuc k) = None
+
+abbrev pub numbered : List Tree → Option ℕ → Option (ℕ × Tree)
+numbered ts None = None
+numbered ts (Some k) = with_number k (slice_get ts k)
+
+-- the variant that an integer below 2^32 names: its place, and the tuple of its fields
 abbrev pub variant_named : List Tree → ℤ → Option (ℕ × Tree)
-variant_named ts (pos k) = with_number k (slice_get ts k)
-variant_named ts (negsuc k) = None
+variant_named ts i = numbered ts (small_natural i)
 
 abbrev pub read_fields : (ℕ → List ℤ → Reading) → List ℤ → Option (ℕ × Tree) → Reading
 read_fields of_def is None = None

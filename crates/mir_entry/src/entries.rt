@@ -1,4 +1,4 @@
-ghost use Rattle.std.specs.Prelude.{◌≡◌, ◌↔◌, ◌+◌, ◌<◌, ◌^◌, ℕ, List, map, take, drop, IsTrue, IfOk, MatchOption, slice_get, Some};
+ghost use Rattle.std.specs.Prelude.{◌≡◌, ◌+◌, ◌<◌, ◌^◌, ℕ, map, take, drop, IfOk, MatchOption, slice_get};
 ghost use Rattle.mir_syntax.specs.Crate.{TypedBody};
 ghost use Rattle.mir_syntax.specs.declared.body.Function.{Function};
 ghost use Rattle.mir_semantics.specs.Entry.{IsEntry, AreFlat, arg_types};
@@ -8,12 +8,16 @@ ghost use Rattle.mir_meaning.specs.Views.{value_of};
 ghost use Rattle.mir_machine.specs.Seen.{code_in};
 ghost use Rattle.mir_machine.specs.Runs.{entry_in};
 ghost use Rattle.mir_machine.specs.Ends.{integer_in};
+ghost use Rattle.std.specs.List.{list_all};
+ghost use Rattle.mir_entry.specs.Entering.{few_variants, Enters, Refuses};
+ghost use Rattle.mir_entry.specs.Readings.{integers_of};
 ghost use Rattle.mir_entry.specs.declared.entries.EntryFault.TheVariants as fault;
 
 use crate::reads::{Arguments, read_arguments};
 use crate::refers::types_refer_any;
 use mir_machine::EntryCall;
-use mir_syntax::{Body, FnId, Number, OutOfMemory, Program, TyId};
+use mir_meaning::datum::Datum;
+use mir_syntax::{Body, FnId, List, Number, OutOfMemory, Program, TyId};
 use std::alloc::Global;
 
 /// Why numbers call no function from outside.
@@ -59,11 +63,49 @@ fn behind_first(types: &[TyId]) -> &[TyId]
     }
 }
 
+/// Whether each definition has no more variants than numbers of 32 bits.
+fn few_variants(program: &Program) -> bool
+    ensures { result ≡ list_all few_variants program.now.defs }
+{
+    program
+        .defs
+        .as_slice()
+        .iter()
+        .all(|def| def.variants.len() <= 0x1_0000_0000)
+}
+
+/// The arguments that numbers give a function.
+fn arguments(
+    alloc: Global,
+    program: &Program,
+    body: &Body,
+    flat: &[Number],
+) -> Result<List<Datum>, EntryFault>
+    ensures enters { IfOk result (λ args. Enters program.now body.now (integers_of flat.now) args) }
+    ensures refuses { (k : ℕ) → result ≡ Err (fault.NotFit k) → Refuses program.now body.now (integers_of flat.now) }
+{
+    let signature = signature(body);
+    if types_refer_any(program, signature) {
+        return Err(EntryFault::NotFit(body.args));
+    }
+    match read_arguments(alloc, program, behind_first(signature), flat)? {
+        Arguments::Fit(args, rest) => {
+            if rest.is_empty() {
+                Ok(args)
+            } else {
+                Err(EntryFault::NotFit(body.args))
+            }
+        }
+        Arguments::Stop(place) => Err(EntryFault::NotFit(place)),
+    }
+}
+
 /// A call of a function from outside, its arguments being given by their flat form.
 ///
 /// # Errors
 ///
-/// `NotFit` where the function's signature holds a reference, or the numbers are the flat form of no arguments of its types.
+/// `NotFit` where the function's signature holds a reference, or the numbers are the flat form of no arguments of its types. A program
+/// with a definition of more than 2^32 variants is want of memory.
 pub fn entry(
     alloc: Global,
     program: &Program,
@@ -75,23 +117,15 @@ pub fn entry(
     ensures fits { IfOk result (λ call. (body : TypedBody) → slice_get (code_in program.now).bodies f.0 ≡ Some body → AreFlat (shapes_in program.now) (arg_types body) (map integer_in flat.now) (map value_of call.args)) }
     ensures refused { (k : ℕ) → result ≡ Err (fault.NotFit k) → (body : TypedBody) (e : Entry) → slice_get (code_in program.now).bodies f.0 ≡ Some body → e.function ≡ f.0 → IsEntry (code_in program.now) e → AreFlat (shapes_in program.now) (arg_types body) (map integer_in flat.now) e.args → ⊥ }
 {
-    let Some(function) = program.functions.get(f.0 as usize) else {
-        return Err(EntryFault::NotFit(0));
-    };
-    let body = &function.body;
-    let signature = signature(body);
-    if types_refer_any(program, signature) {
-        return Err(EntryFault::NotFit(body.args));
+    if !few_variants(program) {
+        return Err(EntryFault::OutOfMemory);
     }
-    match read_arguments(alloc, program, behind_first(signature), flat)? {
-        Arguments::Fit(args, rest) => {
-            if rest.is_empty() {
-                Ok(EntryCall { f, args })
-            } else {
-                Err(EntryFault::NotFit(body.args))
-            }
+    match program.functions.get(f.0 as usize) {
+        Some(function) => {
+            let args = arguments(alloc, program, &function.body, flat)?;
+            Ok(EntryCall { f, args })
         }
-        Arguments::Stop(place) => Err(EntryFault::NotFit(place)),
+        None => Err(EntryFault::NotFit(0)),
     }
 }
 

@@ -13,19 +13,26 @@ ghost use Rattle.mir_entry.specs.Pushed.{pushed};
 use crate::splits::{split_data, split_fields, split_types};
 use mir_machine::integer;
 use mir_meaning::datum::Datum;
-use mir_meaning::operand::scalar_of;
+use mir_meaning::operand::{number_of, scalar_of};
 use mir_meaning::types::ty;
 use mir_syntax::{Field, List, Number, OutOfMemory, Program, ScalarTy, Ty, TyId};
 use std::alloc::Global;
 
-fn push_scalar(ty: ScalarTy, value: &Datum, out: &mut List<Number>) -> Result<bool, OutOfMemory>
+#[tactic(auto, using(crate::proofs::FlatParts::scalar_pushed, crate::proofs::FlatParts::scalar_none))]
+fn push_scalar(
+    ty: ScalarTy,
+    value: &Datum,
+    out: &mut List<Number>,
+) -> Result<bool, OutOfMemory>
     ensures { (of_def : ℕ → Value → Option (List ℤ)) → IfOk result (λ whole. both (Some (map integer_in out.old)) (flat_by of_def (scalar ty) (value_of value.now)) ≡ pushed whole out.new) }
 {
-    let Datum::Num(bits) = value else {
-        return Ok(false);
-    };
-    out.push(integer(ty, *bits))?;
-    Ok(true)
+    match number_of(value) {
+        Some(bits) => {
+            out.push(integer(ty, bits))?;
+            Ok(true)
+        }
+        None => Ok(false),
+    }
 }
 
 /// Puts the flat form of a value of a type at the end, to a depth of definitions inside one another; false where it has none.

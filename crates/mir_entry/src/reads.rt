@@ -153,19 +153,29 @@ fn read_struct<'a>(
     }
 }
 
+/// A number that isn't negative and has 32 bits.
+fn small_natural(number: Number) -> Option<u32>
+    ensures { result ≡ spec.small_natural (integer_in number) }
+{
+    if number.negative && number.size > 0 {
+        None
+    } else if number.size < 0x1_0000_0000 {
+        Some(number.size as u32)
+    } else {
+        None
+    }
+}
+
 /// The variant that a number names: its place, and its fields.
+#[tactic(auto, using(crate::proofs::Variants::variants_at))]
 fn variant_at(variants: &[Variant], number: Number) -> Option<(u32, &[Field])>
     ensures { (trees : List Tree) → option_map (λ f. (f.0, fields_tree trees f.1.now)) result ≡ spec.variant_named (map fields_tuple (map (variant_of trees) variants.now)) (integer_in number) }
 {
-    if number.negative && number.size > 0 {
-        return None;
-    }
-    if number.size > u32::MAX as u128 {
-        return None;
-    }
-    let place = number.size as u32;
-    match variants.get(place as usize) {
-        Some(variant) => Some((place, variant.fields.as_slice())),
+    match small_natural(number) {
+        Some(place) => match variants.get(place as usize) {
+            Some(variant) => Some((place, variant.fields.as_slice())),
+            None => None,
+        },
         None => None,
     }
 }
