@@ -1,5 +1,5 @@
 -- References in types, part by part.
-use Rattle.std.proofs.Common.{◌≡◌, ◌∙◌, refl, sym, ap, ℕ, zero, suc, ◌-◌, ◌<◌, ◌≤◌, Bool, true, false, ◌||◌, List, [], ◌∷◌, map, length, drop, get_or, slice_get, Option, Some, None, arith}
+use Rattle.std.proofs.Common.{◌≡◌, ◌∙◌, refl, sym, ap, ℕ, zero, suc, ◌+◌, ◌-◌, ◌<◌, ◌≤◌, Bool, true, false, ◌||◌, List, [], ◌∷◌, map, length, drop, get_or, slice_get, Option, Some, None, add-one, arith}
 use Rattle.std.proofs.Math.Seq.{drop-cons}
 use Rattle.mir_syntax.specs.declared.types.TyId.{TyId}
 use Rattle.mir_syntax.specs.declared.types.Field.{Field}
@@ -39,12 +39,6 @@ or_true a b e = rw e refl
 or_false : (a b : Bool) → a ≡ false → (a || b) ≡ b
 or_false a b e = rw e refl
 
-pub ids_on : (f : ℕ → Bool) (trees : List Tree) (ids : List TyId) (i : ℕ) (d : TyId) (r : Bool) → i < length ids → refers_by f (at_id trees (get_or ids i d)) ≡ false → r ≡ refers_by f (at_ids trees (drop i ids)) → r ≡ refers_by f (at_ids trees (drop (suc i) ids))
-ids_on f trees ids i d r h no e = e ∙ ap (λ xs. refers_by f (at_ids trees xs)) (drop-cons ids i d h) ∙ or_false _ _ no
-
-pub ids_stop : (f : ℕ → Bool) (trees : List Tree) (ids : List TyId) (i : ℕ) (d : TyId) (r : Bool) → i < length ids → refers_by f (at_id trees (get_or ids i d)) ≡ true → r ≡ refers_by f (at_ids trees (drop i ids)) → true ≡ r
-ids_stop f trees ids i d r h yes e = sym (e ∙ ap (λ xs. refers_by f (at_ids trees xs)) (drop-cons ids i d h) ∙ or_true _ _ yes)
-
 -- ---- signatures
 
 pub holds_more : (D : List Shape) (t ts : Tree) → holds_reference D (more t ts) ≡ (holds_reference D t || holds_reference D ts)
@@ -54,3 +48,22 @@ holds_more D t ts = refl
 pub holds_in : (p : Program) (t : Tree) (n : ℕ) (r : Bool) → n ≡ length p.defs → r ≡ refers_by (refers_def (shapes_in p) n) t → r ≡ holds_reference (shapes_in p) t
 unfolding holds_reference
 holds_in p t n r e h = h ∙ ap (λ m. refers_by (refers_def (shapes_in p) m) t) (e ∙ depth_enough p)
+
+pub any_on : (D : List Shape) (trees : List Tree) (types : List TyId) (i : ℕ) (d : TyId) → i < length types → holds_reference D (at_id trees (get_or types i d)) ≡ false → holds_reference D (at_ids trees (drop i types)) ≡ holds_reference D (at_ids trees (drop (i + 1) types))
+any_on D trees types i d h off =
+    ap (λ xs. holds_reference D (at_ids trees xs)) (drop-cons types i d h) ∙ holds_more D (at_id trees (get_or types i d)) (at_ids trees (drop (suc i) types)) ∙ or_false _ _ off
+    ∙ ap (λ n. holds_reference D (at_ids trees (drop n types))) (sym (add-one i))
+
+pub any_stop : (D : List Shape) (trees : List Tree) (types : List TyId) (i : ℕ) (d : TyId) → i < length types → holds_reference D (at_id trees (get_or types i d)) ≡ true → true ≡ holds_reference D (at_ids trees (drop i types))
+any_stop D trees types i d h on =
+    sym (ap (λ xs. holds_reference D (at_ids trees xs)) (drop-cons types i d h) ∙ holds_more D (at_id trees (get_or types i d)) (at_ids trees (drop (suc i) types)) ∙ or_true _ _ on)
+
+none_left : {A : Type 0} (xs : List A) (n : ℕ) → length xs ≤ n → drop n xs ≡ []
+none_left [] zero h = refl
+none_left [] (suc n) h = refl
+none_left (x ∷ xs) zero h = absurd (omega arith)
+none_left (x ∷ xs) (suc n) h = none_left xs n (omega arith)
+
+pub any_end : (D : List Shape) (trees : List Tree) (types : List TyId) (n : ℕ) → length types ≤ n → false ≡ holds_reference D (at_ids trees (drop n types))
+unfolding holds_reference
+any_end D trees types n h = sym (ap (λ xs. holds_reference D (at_ids trees xs)) (none_left types n h))

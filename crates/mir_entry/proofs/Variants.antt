@@ -1,22 +1,41 @@
 -- Variants by their places, and what is read of them.
-use Rattle.std.proofs.Common.{◌≡◌, ◌∙◌, refl, sym, ap, ℕ, zero, suc, ◌-◌, Bool, true, false, List, [], ◌∷◌, ◌++◌, map, slice_get, Option, Some, None, arith, ℤ}
+use Rattle.std.proofs.Common.{◌≡◌, ◌∙◌, refl, sym, ap, ℕ, zero, suc, ◌-◌, Bool, true, false, List, [], ◌∷◌, ◌++◌, map, slice_get, Option, Some, None, arith, rules, subst, IsTrue, ◌<◌, ℤ}
+use Rattle.std.proofs.lemmas.List.{map-append}
+use Rattle.mir_syntax.specs.Table.{all_below}
+use Rattle.mir_syntax.specs.declared.types.TyId.{TyId}
+use Rattle.mir_syntax.specs.declared.types.Field.{Field}
+use Rattle.mir_meaning.specs.declared.datum.Datum.{Datum}
+use Rattle.mir_meaning.specs.Views.{value_of, fields_of}
 use Rattle.std.specs.Option.{option_map}
 use Rattle.mir_syntax.specs.declared.types.Variant.{Variant}
 use Rattle.mir_syntax.specs.declared.types.Def.{Def}
 use Rattle.mir_syntax.specs.declared.program.Program.{Program}
-use Rattle.mir_syntax.specs.Tree.{Tree, more, trees_of}
+use Rattle.mir_syntax.specs.Tree.{Tree, more, at_id, at_ids, trees_of}
 use Rattle.mir_syntax.specs.Crate.{crate_of, variant_of}
 use Rattle.mir_syntax.specs.Shapes.{Shape, ◌>>=◌, fields_tree, fields_tuple, first_variant}
 use Rattle.mir_syntax.proofs.Places.{shape-at, shape-past}
 use Rattle.mir_semantics.specs.Values.{Value, cons, listed}
 use Rattle.mir_meaning.specs.Programs.{shapes_in}
-use Rattle.mir_entry.specs.Readings.{Reading, read_by, read_of, read_def, read_variant, behind, in_front}
+use Rattle.mir_entry.specs.Readings.{Reading, read_by, read_of, read_def, read_variant, behind, in_front, small_natural, numbered, with_number, variant_named}
 
 pub variants_at : (trees : List Tree) (variants : List Variant) (k : ℕ)
     → slice_get (map fields_tuple (map (variant_of trees) variants)) k ≡ option_map (λ v. fields_tree trees v.fields) (slice_get variants k)
 variants_at trees [] k = refl
 variants_at trees (v ∷ vs) zero = refl
 variants_at trees (v ∷ vs) (suc k) = variants_at trees vs k
+
+pub named_some : (trees : List Tree) (variants : List Variant) (i : ℤ) (k : ℕ) (v : Variant) (fs : List Field) → Some k ≡ small_natural i → slice_get variants k ≡ Some v → fs ≡ v.fields
+    → Some (k, fields_tree trees fs) ≡ variant_named (map fields_tuple (map (variant_of trees) variants)) i
+named_some trees variants i k v fs h there e =
+    let ts = map fields_tuple (map (variant_of trees) variants) in
+    ap (λ x. Some (k, fields_tree trees x)) e
+    ∙ sym (ap (numbered ts) (sym h) ∙ ap (with_number k) (variants_at trees variants k ∙ ap (option_map (λ w. fields_tree trees w.fields)) there))
+
+pub named_none : (trees : List Tree) (variants : List Variant) (i : ℤ) (k : ℕ) → Some k ≡ small_natural i → slice_get variants k ≡ None
+    → None ≡ variant_named (map fields_tuple (map (variant_of trees) variants)) i
+named_none trees variants i k h there =
+    let ts = map fields_tuple (map (variant_of trees) variants) in
+    sym (ap (numbered ts) (sym h) ∙ ap (with_number k) (variants_at trees variants k ∙ ap (option_map (λ w. fields_tree trees w.fields)) there))
 
 -- ---- definitions
 
@@ -69,3 +88,39 @@ read_stop f t ts vs is e = rw e refl
 -- all are read
 pub read_done : (vs : List Value) (is : List ℤ) → behind vs (Some (listed [], is)) ≡ Some (listed vs, is)
 read_done vs is = ap (λ w. Some (w, is)) (front_all vs)
+
+-- ---- what the loops keep
+
+pub fields_pushed : (f : ℕ → List ℤ → Reading) (trees : List Tree) (fields others : List Field) (x : Field) (values new : List Datum) (value : Datum) (is rest : List ℤ)
+    → fields ≡ x ∷ others → Some (value_of value, rest) ≡ read_by f (at_id trees x.ty) is → new ≡ values ++ value ∷ []
+    → behind (map value_of new) (read_by f (fields_tree trees others) rest) ≡ behind (map value_of values) (read_by f (fields_tree trees fields) is)
+fields_pushed f trees fields others x values new value is rest e h pushed =
+    ap (λ ns. behind (map value_of ns) (read_by f (fields_tree trees others) rest)) pushed
+    ∙ ap (λ vs. behind vs (read_by f (fields_tree trees others) rest)) (map-append value_of values (value ∷ []))
+    ∙ read_on f (at_id trees x.ty) (fields_tree trees others) (map value_of values) (value_of value) is rest (sym h)
+    ∙ ap (λ fs. behind (map value_of values) (read_by f (fields_tree trees fs) is)) (sym e)
+
+pub ids_pushed : (f : ℕ → List ℤ → Reading) (trees : List Tree) (ids others : List TyId) (x : TyId) (values new : List Datum) (value : Datum) (is rest : List ℤ)
+    → ids ≡ x ∷ others → Some (value_of value, rest) ≡ read_by f (at_id trees x) is → new ≡ values ++ value ∷ []
+    → behind (map value_of new) (read_by f (at_ids trees others) rest) ≡ behind (map value_of values) (read_by f (at_ids trees ids) is)
+ids_pushed f trees ids others x values new value is rest e h pushed =
+    ap (λ ns. behind (map value_of ns) (read_by f (at_ids trees others) rest)) pushed
+    ∙ ap (λ vs. behind vs (read_by f (at_ids trees others) rest)) (map-append value_of values (value ∷ []))
+    ∙ read_on f (at_id trees x) (at_ids trees others) (map value_of values) (value_of value) is rest (sym h)
+    ∙ ap (λ xs. behind (map value_of values) (read_by f (at_ids trees xs) is)) (sym e)
+
+pub fields_done : (f : ℕ → List ℤ → Reading) (trees : List Tree) (fields : List Field) (values : List Datum) (is : List ℤ) (whole : Reading)
+    → fields ≡ [] → behind (map value_of values) (read_by f (fields_tree trees fields) is) ≡ whole → Some (fields_of values, is) ≡ whole
+fields_done f trees fields values is whole e h =
+    sym (read_done (map value_of values) is) ∙ ap (λ fs. behind (map value_of values) (read_by f (fields_tree trees fs) is)) (sym e) ∙ h
+
+pub ids_done : (f : ℕ → List ℤ → Reading) (trees : List Tree) (ids : List TyId) (values : List Datum) (is : List ℤ) (whole : Reading)
+    → ids ≡ [] → behind (map value_of values) (read_by f (at_ids trees ids) is) ≡ whole → Some (fields_of values, is) ≡ whole
+ids_done f trees ids values is whole e h =
+    sym (read_done (map value_of values) is) ∙ ap (λ xs. behind (map value_of values) (read_by f (at_ids trees xs) is)) (sym e) ∙ h
+
+pub below_rest : (n : ℕ) (ids others : List TyId) (x : TyId) → ids ≡ x ∷ others → IsTrue (all_below n ids) → IsTrue (all_below n others)
+below_rest n ids others x e h =
+    let whole : IsTrue (all_below n (x ∷ others)) = subst (λ xs. IsTrue (all_below n xs)) e h in
+    let both : (x.0 < n) × IsTrue (all_below n others) = search rules in
+    both.1
