@@ -1,13 +1,12 @@
 -- The faults of a file, noted kind by kind, are those of the file.
 use Rattle.std.proofs.Common.{◌≡◌, ℕ, List, [], ◌∷◌, ◌++◌, map, Option, None, refl, sym, ap, ap₂, ◌∙◌}
-use Rattle.mir_syntax.specs.Crate.{TypedOutside}
 use Rattle.mir_text.specs.Grammar.{Items, end, last, more, items_of}
 use Rattle.mir_text.specs.GrammarItems as m
 use Rattle.mir_text.specs.GrammarItems.{FieldsRule, VariantRule, ItemRule, FileRule}
 use Rattle.mir_text.specs.Names.{Names, string_at}
 use Rattle.mir_text.specs.Naming.{outside_in, outsides_in}
 use Rattle.mir_text.specs.PartLines.{LinedItem}
-use Rattle.mir_text.specs.NameFaults.{Fault, on_line, unless, concat, each, none_twice, fields_codes, other_codes, item_faults, Defined, defined_by, path_faults, name_faults, first_fault}
+use Rattle.mir_text.specs.NameFaults.{Fault, on_line, unless, concat, each, none_twice, fields_codes, item_faults, defined_by, path_faults, name_faults, first_fault}
 use Rattle.mir_tree.specs.declared.Lined.{Lined}
 use Rattle.mir_tree.specs.declared.item.ItemText.{ItemText}
 use Rattle.mir_tree.specs.declared.item.ItemText.TheVariants as i

@@ -1,10 +1,9 @@
 -- Locals that are declared one after another, and the faults of their declarations.
-use Rattle.std.proofs.Common.{IsTrue, ◌≡◌, ℕ, ◌<◌, ◌≤◌, ◌||◌, nat_eq, not, Bool, true, false, cond, List, [], ◌∷◌, ◌++◌, map, length, Option, Some, None, is_some, refl, sym, ap, ap₂, ◌∙◌, append_assoc, append-nil, rules}
+use Rattle.std.proofs.Common.{◌≡◌, ℕ, ◌<◌, ◌||◌, nat_eq, not, Bool, true, false, cond, List, [], ◌∷◌, ◌++◌, map, length, Option, Some, None, is_some, refl, sym, ap, ap₂, ◌∙◌, append_assoc, append-nil, rules}
 use Rattle.std.proofs.lemmas.List.{map-append}
 use Rattle.std.proofs.lemmas.Simd.{map-map}
-use Rattle.mir_syntax.specs.declared.types.Ty.{Ty}
 use Rattle.mir_syntax.specs.declared.types.TyId.{TyId}
-use Rattle.mir_syntax.specs.Tree.{Tree, at_id, trees_of, Extends}
+use Rattle.mir_syntax.specs.Tree.{Tree, at_id}
 use Rattle.mir_syntax.proofs.Growth.{lt-more, at_id-extends}
 use Rattle.mir_text.specs.GrammarItems.{ArgRule}
 use Rattle.mir_text.specs.Names.{Names}

@@ -1,7 +1,6 @@
 -- The items of a kind, the first one and then the others.
 use Rattle.std.proofs.Common.{◌≡◌, ℕ, List, ◌∷◌, ◌++◌, map}
 use Rattle.std.proofs.lemmas.List.{map-append}
-use Rattle.mir_syntax.specs.Crate.{TypedDef}
 use Rattle.mir_text.specs.Names.{Strings, path_bytes, def_path, def_in, defs_in, def_paths, def_named}
 use Rattle.mir_tree.specs.declared.Lined.{Lined}
 use Rattle.mir_tree.specs.declared.item.ItemText.{ItemText}

@@ -1,11 +1,11 @@
 -- The faults of the head of a function, in the order in which they are noted.
-use Rattle.std.proofs.Common.{◌≡◌, ℕ, zero, suc, nat_eq, cond, Bool, true, false, List, [], ◌∷◌, ◌++◌, map, length, get_or, Option, Some, None, refl, sym, ap, ap₂, ◌∙◌}
+use Rattle.std.proofs.Common.{◌≡◌, ℕ, nat_eq, cond, Bool, true, false, List, [], ◌∷◌, ◌++◌, map, length, get_or, Option, Some, refl, sym, ap, ap₂, ◌∙◌}
 use Rattle.std.proofs.lemmas.List.{map-append, length-map}
 use Rattle.mir_syntax.specs.Tree.{Tree}
 use Rattle.mir_text.specs.GrammarItems.{ArgRule}
 use Rattle.mir_text.specs.Names.{Names, ty_of, same_type}
-use Rattle.mir_text.specs.NamedBodies.{Declared, declared_ty}
-use Rattle.mir_text.specs.Naming.{declares, declared}
+use Rattle.mir_text.specs.NamedBodies.{declared_ty}
+use Rattle.mir_text.specs.Naming.{declared}
 use Rattle.mir_text.specs.PartLines.{Lined}
 use Rattle.mir_text.specs.ReadLines.{local_line, local_lines}
 use Rattle.mir_text.specs.NameFaults.{Fault, on_line, unless, each, type_codes, none_missing, blocks_in_order, labels_of, declaration_faults, args_in_place, declared_once, result_faults}
@@ -13,7 +13,7 @@ use Rattle.mir_tree.specs.declared.Lined.{Lined as LinedText}
 use Rattle.mir_tree.specs.declared.item.ArgText.{ArgText}
 use Rattle.mir_tree.specs.declared.item.FnText.{FnText}
 use Rattle.mir_tree.specs.Bodies.{lined}
-use Rattle.mir_tree.specs.Rules.{arg_rule, part_arg, fn_rule, lined_fn}
+use Rattle.mir_tree.specs.Rules.{arg_rule, fn_rule, lined_fn}
 use Rattle.mir_resolve.specs.Faults.{noted}
 use Rattle.mir_resolve.proofs.Noting.{noted-append, noted_on}
 use Rattle.mir_resolve.proofs.FaultOrder.{noted_swap}

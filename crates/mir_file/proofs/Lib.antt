@@ -1,8 +1,10 @@
 pub mod Steps
+pub mod Bodies
 pub mod FirstItems
 pub mod Clashing
 pub mod Scopes
 pub mod AllFaults
+pub mod Told
 pub mod Declaring
 pub mod HeadSteps
 pub mod LineSteps

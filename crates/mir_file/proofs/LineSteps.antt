@@ -1,5 +1,5 @@
 -- The lines of locals, set declaration by declaration, the last one first.
-use Rattle.std.proofs.Common.{◌≡◌, ℕ, zero, suc, ◌+◌, ◌<◌, ◌≤◌, nat_eq, cond, true, false, List, [], ◌∷◌, ◌++◌, map, length, get_or, drop, set, replicate, refl, sym, ap, ap₂, ◌∙◌, arith, eq-eqb, add-one}
+use Rattle.std.proofs.Common.{◌≡◌, ℕ, zero, suc, ◌+◌, ◌<◌, ◌≤◌, cond, List, [], ◌∷◌, length, get_or, drop, set, replicate, refl, sym, ap, ap₂, ◌∙◌, arith, eq-eqb, add-one}
 use Rattle.std.proofs.Math.Seq.{drop-cons}
 use Rattle.mir_text.specs.GrammarItems.{ArgRule}
 use Rattle.mir_text.specs.PartLines.{Lined}

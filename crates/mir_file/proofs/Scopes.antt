@@ -1,17 +1,16 @@
 -- `debug` lines and scopes change nothing of what a file names.
-use Rattle.std.proofs.Common.{◌≡◌, ℕ, List, [], ◌∷◌, ◌++◌, map, length, refl, sym, ap, ap₂, ◌∙◌}
+use Rattle.std.proofs.Common.{◌≡◌, ℕ, List, [], ◌∷◌, ◌++◌, map, refl, ap, ap₂, ◌∙◌}
 use Rattle.mir_syntax.specs.declared.lines.FnLines.{FnLines}
 use Rattle.mir_syntax.specs.declared.lines.Lines.{Lines}
 use Rattle.mir_syntax.specs.Crate.{TypedDef, TypedOutside, TypedFunction, Crate}
 use Rattle.mir_syntax.specs.Shapes.{shapes_from}
 use Rattle.mir_text.specs.Grammar.{items_of}
-use Rattle.mir_text.specs.GrammarItems as m
-use Rattle.mir_text.specs.GrammarItems.{ArgRule, DeclsRule, FnRule, ItemRule, FileRule}
+use Rattle.mir_text.specs.GrammarItems.{ArgRule, FnRule}
 use Rattle.mir_text.specs.Names.{Strings, path_bytes, Names, DefRule, def_path, def_in, defs_in, def_named, function_path_in, function_paths_in, outside_path_in, outside_paths_in, names_of, ty_of}
 use Rattle.mir_text.specs.NamedBodies.{Declared}
-use Rattle.mir_text.specs.Naming.{lets_of, declarations, declares, declared, inline_named, body_named, function_in, functions_in, outside_in, outsides_in, crate_in, crate_named}
+use Rattle.mir_text.specs.Naming.{lets_of, declares, declared, inline_named, body_named, function_in, functions_in, outside_in, outsides_in, crate_in, crate_named}
 use Rattle.mir_text.specs.PartLines.{LinedFn, LinedItem, other, function}
-use Rattle.mir_text.specs.NameFaults.{Fault, on_line, unless, each, type_codes, none_missing, blocks_in_order, labels_of, declaration_faults, args_in_place, declared_once, result_faults, block_faults, item_faults, Defined, defined_by, path_faults, name_faults}
+use Rattle.mir_text.specs.NameFaults.{Fault, on_line, unless, each, type_codes, none_missing, blocks_in_order, labels_of, declaration_faults, args_in_place, declared_once, result_faults, block_faults, item_faults, defined_by, path_faults, name_faults}
 use Rattle.mir_text.specs.ReadLines.{def_line_in, outside_line_in, fn_lines_in, wrong_in_block, wrong_in_item, first_of, lines_named}
 use Rattle.mir_tree.specs.Rules.{lets_rule, item_of, file_of, without_scopes, plain_item}
 

@@ -36,7 +36,7 @@ faults_ended of left kept whole short nil h =
 
 -- ---- parts that lie in a table
 
-front_keeps : {X Y : Type 0} (of : List Tree → X → Y) (below : ℕ → X → Bool)
+pub front_keeps : {X Y : Type 0} (of : List Tree → X → Y) (below : ℕ → X → Bool)
     → ((trees later : List Tree) (x : X) → IsTrue (below (length trees) x) → of (trees ++ later) x ≡ of trees x)
     → (old new : List Ty) → Extends old new → (x : X) → IsTrue (below (length old) x) → of (trees_of new) x ≡ of (trees_of old) x
 front_keeps of below front old new e x h =

@@ -5,7 +5,7 @@ use Rattle.mir_text.specs.NameFaults.{Defined, defined_by, stands_in}
 use Rattle.mir_tree.specs.declared.Lined.{Lined}
 use Rattle.mir_tree.specs.declared.item.ItemText.{ItemText}
 use Rattle.mir_tree.specs.declared.item.VariantText.{VariantText}
-use Rattle.mir_tree.specs.Rules.{lined_item, lined_item_at}
+use Rattle.mir_tree.specs.Rules.{lined_item_at}
 use Rattle.mir_resolve.specs.Definitions.{before_defs}
 use Rattle.mir_resolve.specs.Once.{SameTexts}
 use Rattle.mir_file.specs.declared.clashes.SeenPaths.{SeenPaths}

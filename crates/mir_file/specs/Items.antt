@@ -1,8 +1,8 @@
 -- The items of a file's tree by their kinds, and what is wrong with those of one kind.
-use Rattle.std.specs.Prelude.{◌≡◌, ℕ, List, [], ◌∷◌, map, Option, None}
+use Rattle.std.specs.Prelude.{◌≡◌, ℕ, List, [], map, Option, None}
 use Rattle.mir_text.specs.GrammarItems as m
 use Rattle.mir_text.specs.GrammarItems.{ItemRule, FileRule}
-use Rattle.mir_text.specs.Names.{Names, Strings, path_bytes, DefRule, def_path, def_in}
+use Rattle.mir_text.specs.Names.{Names, Strings, path_bytes, def_path, def_in}
 use Rattle.mir_text.specs.PartLines.{LinedItem, other, function}
 use Rattle.mir_text.specs.NameFaults.{Fault, on_line, other_codes, fn_faults, each, path_faults}
 use Rattle.mir_tree.specs.declared.Lined.{Lined}
@@ -54,6 +54,9 @@ pub record Noticed (old new : Draft) (faults : List Fault) : Type 0 where
 abbrev pub fn_faults_in : Names → LinedItem → List Fault
 fn_faults_in names (other line item) = []
 fn_faults_in names (function f) = fn_faults names f
+
+abbrev pub fn_text_faults : Names → Lined ItemText → List Fault
+fn_text_faults names x = fn_faults_in names (lined_item x)
 
 -- the faults of paths, definitions and outside functions
 abbrev pub noted_before_functions : Names → List (Lined ItemText) → Option Fault

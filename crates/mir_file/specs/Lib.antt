@@ -1,3 +1,4 @@
 pub mod Items
 pub mod Clashes
 pub mod Declarations
+pub mod Functions

@@ -1,10 +1,8 @@
 -- What terminators do.
-use Rattle.std.proofs.Common.{◌≡◌, refl, sym, ap, subst, ◌∙◌, ℕ, suc, nat_eq, ◌+◌, ◌<◌, ◌≤◌, Bool, true, false, IsTrue, List, [], ◌∷◌, ◌++◌, map, length, drop, get_or, Option, Some, None, slice_get, arith, add-one, drop-cons, ℤ}
-use Rattle.std.specs.List.{list_all}
+use Rattle.std.proofs.Common.{◌≡◌, refl, sym, ap, ◌∙◌, ℕ, suc, nat_eq, ◌+◌, ◌<◌, ◌≤◌, Bool, true, false, List, [], ◌∷◌, ◌++◌, map, length, drop, get_or, Option, Some, None, slice_get, arith, drop-cons, ℤ}
 use Rattle.std.specs.Option.{option_map}
 use Rattle.std.proofs.lemmas.Option.{slice_get-map, slice_get_past, slice_get_read}
 use Rattle.std.proofs.lemmas.List.{drop_all}
-use Rattle.mir_syntax.proofs.InTable.{all-at}
 use Rattle.mir_syntax.specs.declared.types.Outside.{Outside}
 use Rattle.mir_syntax.specs.declared.body.Stmt.{Stmt}
 use Rattle.mir_syntax.specs.declared.body.Block.{Block}
@@ -20,15 +18,14 @@ use Rattle.mir_syntax.specs.declared.body.Callee.{Callee}
 use Rattle.mir_syntax.specs.declared.body.Callee.TheVariants as callee
 use Rattle.mir_syntax.specs.declared.body.Term.{Term}
 use Rattle.mir_syntax.specs.declared.body.Term.TheVariants.{Goto, Switch, Return, Unreachable, Drop, Call, Assert}
-use Rattle.mir_meaning.specs.Sight.{stmt_whole}
 use Rattle.mir_machine.specs.Seen.{code_in, dropped}
 use Rattle.mir_syntax.specs.Tree.{trees_of, Tree, scalar, empty, more, ref, ref_mut, named}
 use Rattle.mir_syntax.specs.Crate.{TypedStmt, TypedOutside, TypedBlock, TypedBody, outside_of, body_of, block_of, stmt_of}
 use Rattle.mir_syntax.specs.Shapes.{Shape, ◌>>=◌}
 use Rattle.mir_num.specs.Numbers as num
 use Rattle.mir_semantics.specs.Values.{Value, number, nil}
-use Rattle.mir_semantics.specs.Memory.{Memory, value_at, write, close_frame}
-use Rattle.mir_semantics.specs.Step.{Code, Dest, Visit, Dropping, Control, Called, State, Next, on, stop, fail, returned, aborted, no_answer, Here, Reading, store, exec, read_at, read_all, read_number, local_addr, dest_of, scalar_in, scalar_ty_of, take_arm, to_block, next_stmt, go_on, calling, answered, enter, entered, ask, call, numbers_in, return_to, work_on, left_at, visits_of, destroyed_at, destroyed, integers, check, finish, perform, step}
+use Rattle.mir_semantics.specs.Memory.{Memory, close_frame}
+use Rattle.mir_semantics.specs.Step.{Code, Dest, Visit, Dropping, Control, Called, State, on, stop, fail, returned, aborted, no_answer, Here, store, exec, read_at, read_all, read_number, local_addr, dest_of, scalar_in, take_arm, to_block, next_stmt, calling, answered, enter, entered, ask, call, numbers_in, return_to, work_on, left_at, visits_of, destroyed_at, destroyed, integers, check, finish, perform, step}
 use Rattle.mir_meaning.proofs.Binds.{bind_at, bind_gone}
 use Rattle.mir_machine.specs.Ends.{returned_to, frame_ended, told, asked, outside_called}
 
@@ -278,17 +275,17 @@ block_nowhere trees b k e = slice_get-map (block_of trees) b.blocks k ∙ ap (op
 pub block_at : (trees : List Tree) (b : Body) (k : ℕ) (block : Block) → slice_get b.blocks k ≡ Some block → slice_get (body_of trees b).blocks k ≡ Some (block_of trees block)
 block_at trees b k block e = slice_get-map (block_of trees) b.blocks k ∙ ap (option_map (block_of trees)) e
 
-pub no_stmt : (trees : List Tree) (stmts : List Stmt) (i : ℕ) → length stmts ≤ i → slice_get (map (stmt_of trees) stmts) i ≡ None
-no_stmt trees stmts i h = slice_get-map (stmt_of trees) stmts i ∙ ap (option_map (stmt_of trees)) (slice_get_past stmts i h)
+pub no_stmt : (trees : List Tree) (stmts slice : List Stmt) (i : ℕ) → slice ≡ stmts → length slice ≤ i → slice_get (map (stmt_of trees) stmts) i ≡ None
+no_stmt trees stmts slice i same h = slice_get-map (stmt_of trees) stmts i ∙ ap (option_map (stmt_of trees)) (ap (λ l. slice_get l i) (sym same) ∙ slice_get_past slice i h)
 
-pub stmt_at : (trees : List Tree) (stmts : List Stmt) (i : ℕ) (x : Stmt) → i < length stmts → x ≡ get_or stmts i x → slice_get (map (stmt_of trees) stmts) i ≡ Some (stmt_of trees x)
-stmt_at trees stmts i x h e = slice_get-map (stmt_of trees) stmts i ∙ ap (option_map (stmt_of trees)) (slice_get_read stmts (length stmts) i x refl h e)
+pub stmt_at : (trees : List Tree) (stmts slice : List Stmt) (i : ℕ) (x : Stmt) → slice ≡ stmts → i < length slice → x ≡ get_or slice i x → slice_get (map (stmt_of trees) stmts) i ≡ Some (stmt_of trees x)
+stmt_at trees stmts slice i x same h e = slice_get-map (stmt_of trees) stmts i ∙ ap (option_map (stmt_of trees)) (ap (λ l. slice_get l i) (sym same) ∙ slice_get_read slice (length slice) i x refl h e)
 
-pub stmt_is_whole : (stmts : List Stmt) (i : ℕ) (x : Stmt) → IsTrue (list_all stmt_whole stmts) → i < length stmts → x ≡ get_or stmts i x → IsTrue (stmt_whole x)
-stmt_is_whole stmts i x h l e = all-at stmt_whole stmts i x h (slice_get_read stmts (length stmts) i x refl l e)
+pub none_to_ask : (answers slice : List ℕ) (i : ℕ) → slice ≡ answers → length slice ≤ i → drop i answers ≡ []
+none_to_ask answers slice i same h = ap (drop i) (sym same) ∙ drop_all i slice h
 
-pub none_to_ask : (answers : List ℕ) (i : ℕ) → length answers ≤ i → drop i answers ≡ []
-none_to_ask answers i h = drop_all i answers h
-
-pub next_to_ask : (answers : List ℕ) (i a : ℕ) → i < length answers → a ≡ get_or answers i a → drop i answers ≡ a ∷ drop (i + 1) answers
-next_to_ask answers i a h e = rw (add-one, drop-cons answers i a h) (ap (λ x. x ∷ drop (suc i) answers) (sym e))
+pub next_to_ask : (answers slice : List ℕ) (i : ℕ) → slice ≡ answers → i < length slice → drop i answers ≡ get_or slice i 0 ∷ drop (i + 1) answers
+next_to_ask answers slice i same h = ap (drop i) (sym same) ∙ (drop-cons slice i 0 h ∙ ap (λ l. get_or slice i 0 ∷ l) (ap (λ n. drop n slice) (sym (one_more i)) ∙ ap (drop (i + 1)) same))
+  where
+    one_more : (n : ℕ) → n + 1 ≡ suc n
+    one_more n = omega arith

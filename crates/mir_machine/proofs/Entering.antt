@@ -1,19 +1,19 @@
 -- Destinations, and frames that begin.
-use Rattle.std.proofs.Common.{◌≡◌, ℕ, zero, suc, ◌+◌, ◌<◌, ◌≤◌, List, [], ◌∷◌, ◌++◌, map, length, take, drop, get_or, slice_get, Option, Some, None, refl, sym, ap, ◌∙◌, arith, append_assoc}
+use Rattle.std.proofs.Common.{◌≡◌, ℕ, zero, suc, ◌+◌, List, [], ◌∷◌, ◌++◌, map, length, take, drop, slice_get, Option, Some, None, refl, sym, ap, ◌∙◌, arith, append_assoc}
 use Rattle.std.specs.Prelude.{reverse}
 use Rattle.std.specs.Option.{option_map}
 use Rattle.std.proofs.lemmas.Option.{slice_get-map}
-use Rattle.std.proofs.lemmas.List.{map-append, reverse-append, take_all, take_more, append-nil}
+use Rattle.std.proofs.lemmas.List.{map-append, reverse-append}
 use Rattle.mir_syntax.specs.declared.types.TyId.{TyId}
 use Rattle.mir_syntax.specs.declared.body.Place.{Place}
 use Rattle.mir_syntax.specs.declared.body.Function.{Function}
 use Rattle.mir_syntax.specs.declared.program.Program.{Program}
 use Rattle.mir_syntax.specs.Tree.{Tree, trees_of}
-use Rattle.mir_syntax.specs.Crate.{TypedBody, function_of, body_of, crate_of}
-use Rattle.mir_syntax.specs.Shapes.{Shape, ◌>>=◌}
+use Rattle.mir_syntax.specs.Crate.{TypedBody, function_of, body_of}
+use Rattle.mir_syntax.specs.Shapes.{Shape}
 use Rattle.mir_semantics.specs.Values.{Addr, Value, blank}
 use Rattle.mir_semantics.specs.Memory.{Memory, open_frame}
-use Rattle.mir_semantics.specs.Step.{Code, Here, Dest, Control, Called, State, Next, on, body_in, code_of, resolve, type_of, guard_of, dest_of, blanks, first_of, new_slots, entered, enter}
+use Rattle.mir_semantics.specs.Step.{Code, Here, Dest, Control, State, on, body_in, resolve, type_of, dest_of, blanks, first_of, new_slots, entered, enter}
 use Rattle.mir_meaning.proofs.Binds.{bind_at, bind_gone}
 use Rattle.mir_machine.specs.Seen.{code_in}
 

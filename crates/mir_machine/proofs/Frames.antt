@@ -1,5 +1,5 @@
 -- The frames of a machine, and of the state that it stands for.
-use Rattle.std.proofs.Common.{◌≡◌, refl, sym, ap, subst, ◌∙◌, ℕ, suc, List, [], ◌∷◌, ◌++◌, map, Option, Some, None, MatchOption, true, false, arith}
+use Rattle.std.proofs.Common.{◌≡◌, refl, sym, ap, subst, ◌∙◌, ℕ, suc, List, [], ◌∷◌, ◌++◌, map, Option, Some, None, MatchOption, true, false}
 use Rattle.std.specs.Prelude.{reverse}
 use Rattle.mir_syntax.specs.declared.program.Program.{Program}
 use Rattle.mir_semantics.specs.Memory as sem

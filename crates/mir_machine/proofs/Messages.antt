@@ -1,5 +1,5 @@
 -- The integers of a message's operands.
-use Rattle.std.proofs.Common.{◌≡◌, ℕ, suc, ◌+◌, ◌<◌, ◌≤◌, List, [], ◌∷◌, ◌++◌, map, length, drop, get_or, Option, Some, None, refl, sym, ap, ◌∙◌, arith, append_assoc, add-one, drop-cons, ℤ}
+use Rattle.std.proofs.Common.{◌≡◌, ℕ, suc, ◌+◌, ◌<◌, ◌≤◌, List, [], ◌∷◌, ◌++◌, length, drop, get_or, Option, Some, None, refl, sym, ap, ◌∙◌, append_assoc, add-one, drop-cons, ℤ}
 use Rattle.std.proofs.lemmas.List.{append-nil, drop_all}
 use Rattle.mir_syntax.specs.declared.types.ScalarTy.{ScalarTy}
 use Rattle.mir_syntax.specs.declared.body.Operand.{Operand}

@@ -1,5 +1,5 @@
 -- A step keeps the frames in order, and makes at most one.
-use Rattle.std.proofs.Common.{◌≡◌, refl, sym, ap, subst, ◌∙◌, ℕ, suc, ◌<◌, ◌≤◌, nat_eq, if◌then◌else◌, Bool, true, false, List, [], ◌∷◌, map, Option, Some, None, slice_get, arith}
+use Rattle.std.proofs.Common.{◌≡◌, refl, sym, ap, subst, ◌∙◌, ℕ, suc, ◌<◌, ◌≤◌, nat_eq, if◌then◌else◌, Bool, true, false, List, [], ◌∷◌, map, Option, Some, None, arith}
 use Rattle.mir_syntax.specs.declared.body.Operand.{Operand}
 use Rattle.mir_syntax.specs.declared.body.Operand.TheVariants as operand
 use Rattle.mir_syntax.specs.declared.body.Callee.{Callee}
@@ -11,10 +11,10 @@ use Rattle.mir_syntax.specs.Crate.{TypedRvalue, «use», binary, overflow, unary
 use Rattle.mir_syntax.specs.Crate as rvalue
 use Rattle.mir_syntax.specs.Shapes.{Shape, ◌>>=◌, destructor_of, needs_drop}
 use Rattle.mir_num.specs.Numbers as num
-use Rattle.mir_semantics.specs.Values.{Addr, Value, pointer, blank, is_hole, put}
+use Rattle.mir_semantics.specs.Values.{Addr, Value, blank, is_hole, put}
 use Rattle.mir_semantics.specs.Memory.{Store, Memory, write, open_frame, close_frame, change_local, change_slot}
 use Rattle.mir_semantics.specs.Step.{Code, Dest, Visit, Dropping, Control, Called, State, Next, on, stop, fail, Here, only_if, allows, store, read, read_all, read_number, read_two, eval, exec, set_blank, write_unless, is_variant, go_on, calling, answered, entered, enter, ask, call, return_to, work_on, visit, visit_unless, visit_if, work_off, destroyed_at, destroyed, check, finish, perform, step}
-use Rattle.mir_machine.specs.Ordered.{store_frame, control_frame, frames_of, Falling, Ordered}
+use Rattle.mir_machine.specs.Ordered.{control_frame, frames_of, Falling, Ordered}
 
 -- what is there, of a chain
 pub bind_there : {A B : Type 0} (o : Option A) (f : A → Option B) (y : B) → (o >>= f) ≡ Some y → (x : A) × (o ≡ Some x) × (f x ≡ Some y)

@@ -1,5 +1,5 @@
 -- The start of a run.
-use Rattle.std.proofs.Common.{◌≡◌, refl, sym, ap, subst, ◌∙◌, ℕ, suc, List, [], ◌∷◌, map, drop, Option, Some, None, slice_get, arith}
+use Rattle.std.proofs.Common.{◌≡◌, sym, ap, subst, ◌∙◌, ℕ, suc, List, [], ◌∷◌, map, Some, None, slice_get, arith}
 use Rattle.std.specs.Prelude.{reverse}
 use Rattle.mir_syntax.specs.declared.program.Program.{Program}
 use Rattle.mir_syntax.specs.declared.body.Function.{Function}
@@ -17,7 +17,7 @@ use Rattle.mir_machine.specs.declared.control.Control.{Control}
 use Rattle.mir_machine.specs.declared.machine.Called.{Called}
 use Rattle.mir_machine.specs.declared.machine.Machine.{Machine}
 use Rattle.mir_machine.specs.declared.state.EntryCall.{EntryCall}
-use Rattle.mir_machine.specs.Seen.{code_in, control_in, called_as, state_in}
+use Rattle.mir_machine.specs.Seen.{code_in, control_in, called_as}
 use Rattle.mir_machine.specs.Ordered.{frame_in, stack_in, frames_of, Falling, Framed}
 use Rattle.mir_machine.specs.Runs.{entry_in}
 use Rattle.mir_machine.proofs.Entering.{body_nowhere, body_there, first_control}

@@ -1,5 +1,5 @@
 -- One step after another.
-use Rattle.std.proofs.Common.{◌≡◌, refl, sym, ap, subst, ◌∙◌, ℕ, zero, suc, ◌+◌, ◌-◌, ◌<◌, ◌≤◌, Bool, true, false, List, [], ◌∷◌, map, Option, Some, None, arith}
+use Rattle.std.proofs.Common.{◌≡◌, ◌&&◌, nat_lt, refl, sym, ap, subst, ◌∙◌, ℕ, zero, suc, ◌+◌, ◌-◌, ◌<◌, ◌≤◌, Bool, true, false, List, Option, Some, None, arith}
 use Rattle.std.specs.Prelude.{Result, Ok, Err, IfOk, is_ok}
 use Rattle.mir_syntax.specs.declared.OutOfMemory.{OutOfMemory}
 use Rattle.mir_syntax.specs.declared.program.Program.{Program}
@@ -7,14 +7,15 @@ use Rattle.mir_semantics.specs.Step as sem
 use Rattle.mir_semantics.specs.Step.{Code, Next, on, stop, fail, step}
 use Rattle.mir_semantics.specs.Run as runs
 use Rattle.mir_semantics.specs.Run.{Seen, after, steps}
-use Rattle.mir_machine.specs.declared.machine.Called.{Called}
 use Rattle.mir_machine.specs.declared.machine.Machine.{Machine}
 use Rattle.mir_machine.specs.declared.outcome.Outcome.{Outcome}
 use Rattle.mir_machine.specs.declared.outcome.Outcome.TheVariants.{Going, Returned, Aborted, NoAnswer, Undefined}
+use Rattle.mir_machine.specs.declared.state.State.{State}
+use Rattle.mir_machine.specs.declared.runs.RunResult.{RunResult}
 use Rattle.mir_machine.specs.Seen.{code_in, state_in}
 use Rattle.mir_machine.specs.Ends.{trace_in}
 use Rattle.mir_machine.specs.Ordered.{Ordered, Framed}
-use Rattle.mir_machine.specs.Runs.{Progress, going, ended, undefined, come_to, onward, so_far, seen_of, seen_as, progress_in, standing}
+use Rattle.mir_machine.specs.Runs.{Progress, going, ended, undefined, come_to, onward, so_far, seen_of, seen_as, progress_in, standing, standing_in, seen_in}
 use Rattle.mir_machine.specs.Sound.{goes, Sound}
 use Rattle.mir_machine.proofs.Orders.{StaysOrdered, order_ok}
 use Rattle.mir_machine.proofs.Frames.{framed_ordered, ordered_framed}
@@ -125,3 +126,70 @@ rest_stopped p m k (Returned v) h = refl
 rest_stopped p m k (Aborted text ns) h = refl
 rest_stopped p m k NoAnswer h = refl
 rest_stopped p m k Undefined h = refl
+
+-- ---- the loop of a run
+
+going_stands : (p : Program) (m : Machine) (r : Result Outcome OutOfMemory) → goes r ≡ true → standing p m r ≡ Ok (going (state_in p m))
+going_stands p m (Ok Going) e = refl
+going_stands p m (Ok (Returned v)) e = absurd cc
+going_stands p m (Ok (Aborted text ns)) e = absurd cc
+going_stands p m (Ok NoAnswer) e = absurd cc
+going_stands p m (Ok Undefined) e = absurd cc
+going_stands p m (Err x) e = absurd cc
+
+-- what a run of n steps shows, where so many of them were taken
+abbrev pub Shows : Program → Seen → ℕ → State → Type 0
+Shows p seen n s = (x : Progress) → standing_in p s ≡ Ok x → seen ≡ rest_of (code_in p) (n - s.taken) x
+
+met : (r : Result Progress OutOfMemory) (P : Progress → Type 0) (x : Progress) → r ≡ Ok x → IfOk r P → P x
+met (Ok y) P x e h = let same : y ≡ x = cc in subst P same h
+met (Err z) P x e h = absurd cc
+
+past : (a n : ℕ) → nat_lt a n ≡ false → n - a ≡ 0
+past a n e = grind arith
+
+pub shows_first : (p : Program) (seen : Seen) (n : ℕ) (s : State) (begin : sem.State) → seen ≡ steps (code_in p) n begin → standing_in p s ≡ Ok (going begin) → s.taken ≡ 0 → Shows p seen n s
+shows_first p seen n s begin e h k x q =
+    let same : going begin ≡ x = cc in
+    e ∙ (ap (λ m. rest_of (code_in p) m (going begin)) (whole n s.taken k) ∙ ap (rest_of (code_in p) (n - s.taken)) same)
+  where
+    whole : (n k : ℕ) → k ≡ 0 → n ≡ n - k
+    whole n k e = omega arith
+
+pub shows_next : (p : Program) (seen : Seen) (n : ℕ) (old new : State) → goes old.outcome ≡ true → old.taken < n → ((before : Progress) → standing_in p old ≡ Ok before → IfOk (standing_in p new) (λ after. after ≡ onward (code_in p) before)) → new.taken ≡ old.taken + 1
+    → Shows p seen n old → Shows p seen n new
+shows_next p seen n old new g l step k h x e =
+    let stands : standing_in p old ≡ Ok (going (state_in p old.machine)) = going_stands p old.machine old.outcome g in
+    let after : x ≡ onward (code_in p) (going (state_in p old.machine)) = met (standing_in p new) (λ after. after ≡ onward (code_in p) (going (state_in p old.machine))) x e (step (going (state_in p old.machine)) stands) in
+    h (going (state_in p old.machine)) stands
+    ∙ (ap (λ m. rest_of (code_in p) m (going (state_in p old.machine))) (less n old.taken new.taken l k)
+    ∙ (rest_next (code_in p) (n - new.taken) (going (state_in p old.machine)) ∙ ap (rest_of (code_in p) (n - new.taken)) (sym after)))
+  where
+    less : (n a b : ℕ) → a < n → b ≡ a + 1 → n - a ≡ suc (n - b)
+    less n a b h e = omega arith
+
+pub shows_last : (p : Program) (seen : Seen) (n : ℕ) (s : State) (r : RunResult) → s.outcome ≡ Ok r.outcome → r.trace ≡ s.machine.trace → (goes s.outcome && nat_lt s.taken n) ≡ false → Shows p seen n s → seen_in r ≡ seen
+shows_last p seen n s r e k ends h =
+    let stands : standing_in p s ≡ Ok (progress_in p s.machine r.outcome) = ap (standing p s.machine) e in
+    ap (λ t. seen_as t r.outcome) k
+    ∙ (sym (rest_stopped p s.machine (n - s.taken) r.outcome (λ g. none (nat_lt s.taken n) refl (ap (λ b. b && nat_lt s.taken n) (sym (ap goes e ∙ g)) ∙ ends)))
+    ∙ sym (h (progress_in p s.machine r.outcome) stands))
+  where
+    none : (b : Bool) → nat_lt s.taken n ≡ b → b ≡ false → n - s.taken ≡ 0
+    none true e f = absurd cc
+    none false e f = past s.taken n e
+
+pub below_both : (a b : Bool) → (a && b) ≡ true → (a ≡ true) × (b ≡ true)
+below_both true true e = (refl, refl)
+below_both true false e = absurd cc
+below_both false b e = absurd cc
+
+pub below : (a n : ℕ) → nat_lt a n ≡ true → a < n
+below a n e = grind arith
+
+pub next_within : (a b n : ℕ) → a < n → b ≡ a + 1 → b ≤ n
+next_within a b n h e = omega arith
+
+pub shown : (p : Program) (seen : Seen) (n : ℕ) (s : State) (r : Result RunResult OutOfMemory) → IfOk r (λ q. s.outcome ≡ Ok q.outcome) → IfOk r (λ q. q.trace ≡ s.machine.trace) → (goes s.outcome && nat_lt s.taken n) ≡ false → Shows p seen n s → IfOk r (λ q. seen_in q ≡ seen)
+shown p seen n s (Ok q) a b e h = shows_last p seen n s q a b e h
+shown p seen n s (Err x) a b e h = tt

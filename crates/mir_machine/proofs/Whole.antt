@@ -1,5 +1,5 @@
 -- In formed bodies each downcast is followed by a field.
-use Rattle.std.proofs.Common.{◌≡◌, ◌∙◌, ap, sym, ℕ, IsTrue, Bool, true, false, ◌&&◌, nat_lt, List, [], ◌∷◌, ◌++◌, map, flat_map, length, slice_get, Option, Some, None, refl}
+use Rattle.std.proofs.Common.{◌≡◌, ◌∙◌, ap, ℕ, IsTrue, Bool, true, ◌&&◌, nat_lt, List, [], ◌∷◌, ◌++◌, map, flat_map, length, slice_get, Some, refl}
 use Rattle.std.specs.Option.{option_map}
 use Rattle.std.proofs.lemmas.Option.{slice_get-map}
 use Rattle.std.specs.List.{list_all}
@@ -22,14 +22,6 @@ use Rattle.mir_rules.specs.Formed.{path_formed, place_formed, operand_formed, sh
 use Rattle.mir_rules.proofs.Lists.{and_true-left, and_true-right, list_all_true-at}
 use Rattle.mir_meaning.specs.Sight.{operand_whole, rvalue_whole, stmt_whole}
 use Rattle.mir_machine.specs.Ends.{term_whole, block_whole}
-
-truth : {b : Bool} → IsTrue b → b ≡ true
-truth {true} h = refl
-truth {false} h = absurd h
-
-truthful : {b : Bool} → b ≡ true → IsTrue b
-truthful {true} h = tt
-truthful {false} h = absurd cc
 
 both : (a b : Bool) → a ≡ true → b ≡ true → (a && b) ≡ true
 both a b e f = rw (e, f) refl
@@ -140,6 +132,6 @@ block_is_whole p f b function block h e k =
     let trees = trees_of p.types in
     let typed = function_of trees function in
     let there : slice_get C.functions f ≡ Some typed = slice_get-map (function_of trees) p.functions f ∙ ap (option_map (function_of trees)) e in
-    let formed : body_formed C typed.body ≡ true = list_all_true-at (function_formed C) C.functions f typed (formed_functions C (truth h)) there in
+    let formed : body_formed C typed.body ≡ true = list_all_true-at (function_formed C) C.functions f typed (formed_functions C h) there in
     let at : slice_get typed.body.blocks b ≡ Some (block_of trees block) = slice_get-map (block_of trees) function.body.blocks b ∙ ap (option_map (block_of trees)) k in
-    truthful (whole_block C typed.body trees block (list_all_true-at (block_formed C typed.body) typed.body.blocks b (block_of trees block) (formed_blocks C typed.body formed) at))
+    whole_block C typed.body trees block (list_all_true-at (block_formed C typed.body) typed.body.blocks b (block_of trees block) (formed_blocks C typed.body formed) at)

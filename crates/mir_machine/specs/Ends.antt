@@ -1,5 +1,5 @@
 -- How the steps of a machine end.
-use Rattle.std.specs.Prelude.{ℕ, List, ◌∷◌, slice_get, map, reverse, ℤ, pos, neg_ℤ, if◌then◌else◌, Bool, true, false, ◌&&◌, Option, Result, Ok, Err}
+use Rattle.std.specs.Prelude.{ℕ, List, ◌∷◌, slice_get, map, reverse, ℤ, pos, neg_ℤ, if◌then◌else◌, Bool, true, ◌&&◌, Option, Result, Ok, Err}
 use Rattle.std.specs.List.{list_all}
 use Rattle.mir_syntax.specs.declared.number.Number.{Number}
 use Rattle.mir_syntax.specs.declared.body.Block.{Block}

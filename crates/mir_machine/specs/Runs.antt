@@ -1,5 +1,5 @@
 -- Runs, as the code has them.
-use Rattle.std.specs.Prelude.{◌≡◌, ℕ, zero, suc, List, map, Bool, true, false, Option, Some, None, option_map, Result, Ok, Err}
+use Rattle.std.specs.Prelude.{ℕ, zero, suc, List, map, Option, Some, None, Result, Ok, Err}
 use Rattle.mir_syntax.specs.declared.program.Program.{Program}
 use Rattle.mir_syntax.specs.declared.OutOfMemory.{OutOfMemory}
 use Rattle.mir_semantics.specs.Step as sem
@@ -16,6 +16,7 @@ use Rattle.mir_machine.specs.declared.state.Stepped.{Stepped}
 use Rattle.mir_machine.specs.declared.state.Stepped.TheVariants as stepped
 use Rattle.mir_machine.specs.declared.machine.Called.{Called}
 use Rattle.mir_machine.specs.declared.runs.RunResult.{RunResult}
+use Rattle.mir_machine.specs.Sound.{Sound}
 use Rattle.mir_machine.specs.Seen.{state_in}
 use Rattle.mir_machine.specs.Ends.{integer_in, trace_in}
 
@@ -72,6 +73,10 @@ standing p m (Err e) = Err e
 -- what a run has come to; none is known where it is spent
 abbrev pub standing_in : Program → State → Result Progress OutOfMemory
 standing_in p s = standing p s.machine s.outcome
+
+-- while it goes on, its frames are in order
+abbrev pub IsSound : State → Type 0
+IsSound s = Sound s.machine s.taken s.outcome
 
 abbrev pub seen_in : RunResult → Seen
 seen_in r = seen_as r.trace r.outcome

@@ -3,7 +3,6 @@ use Rattle.std.specs.Prelude.{ℕ, suc, List, [], ◌∷◌, ◌++◌, map, reve
 use Rattle.mir_syntax.specs.declared.body.Proj.TheVariants.{Downcast}
 use Rattle.mir_semantics.specs.Values.{Addr}
 use Rattle.mir_syntax.specs.declared.body.Proj.{Proj}
-use Rattle.mir_syntax.specs.declared.types.FnId.{FnId}
 use Rattle.mir_syntax.specs.declared.program.Program.{Program}
 use Rattle.mir_syntax.specs.Crate.{crate_of}
 use Rattle.mir_syntax.specs.declared.body.Place.{Place}

@@ -61,7 +61,12 @@ pub fn flag(holds: bool) -> u128
 }
 
 /// The integers of a message's operands.
-pub fn integers(alloc: Global, here: Here<'_>, memory: &mut Memory, operands: &[Operand]) -> Result<List<Number>, Stop>
+pub fn integers(
+    alloc: Global,
+    here: Here<'_>,
+    memory: &mut Memory,
+    operands: &[Operand],
+) -> Result<List<Number>, Stop>
     requires formed { IsTrue (list_all operand_whole operands.now) }
     requires knows { KnowsDrops here.program.now }
     ensures { Gives result (sem.integers (here_of here.entry) (memory_of memory.old) operands.now) (λ numbers. (map integer_in numbers, memory_of memory.new)) }

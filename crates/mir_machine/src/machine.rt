@@ -41,7 +41,14 @@ pub struct Machine {
 
 impl Machine {
     /// A new frame of a function, on top of the one that stood there.
-    pub fn enter(&mut self, alloc: Global, program: &Program, function: FnId, args: List<Datum>, dest: Option<Dest>) -> Result<(), Stop>
+    pub fn enter(
+        &mut self,
+        alloc: Global,
+        program: &Program,
+        function: FnId,
+        args: List<Datum>,
+        dest: Option<Dest>,
+    ) -> Result<(), Stop>
         requires knows { KnowsDrops program.now }
         requires room { self.old.last < 2 ^ 64 - 1 }
         ensures goes { Gives result

@@ -1,5 +1,3 @@
-ghost use Rattle.mir_machine.specs.Sound.{Sound};
-
 use crate::machine::Machine;
 use crate::outcome::Outcome;
 use mir_meaning::datum::Datum;
@@ -26,5 +24,4 @@ pub struct State {
     pub(crate) machine: Machine,
     pub(crate) taken: u64,
     pub(crate) outcome: Result<Outcome, OutOfMemory>,
-    pub ghost sound: { Sound machine taken outcome },
 }

@@ -1,4 +1,4 @@
-ghost use Rattle.std.specs.Prelude.{◌≡◌, ◌+◌, ◌-◌, ◌<◌, ◌^◌, ◌≤◌, map, slice_get, IsTrue, IfOk, OnOk, Ok, true, false};
+ghost use Rattle.std.specs.Prelude.{◌≡◌, ◌&&◌, nat_lt, ◌+◌, ◌-◌, ◌<◌, ◌^◌, ◌≤◌, map, slice_get, IsTrue, IfOk, OnOk, Ok, true, false};
 ghost use Rattle.mir_syntax.specs.Drops.{KnowsDrops};
 ghost use Rattle.mir_syntax.specs.declared.program.Program.{Program};
 ghost use Rattle.mir_machine.specs.declared.machine.Machine.{Machine};
@@ -9,7 +9,7 @@ ghost use Rattle.mir_meaning.specs.Views.{value_of};
 ghost use Rattle.mir_machine.specs.Seen.{code_in, state_in};
 ghost use Rattle.mir_machine.specs.Ordered.{Framed};
 ghost use Rattle.mir_machine.specs.Sound.{goes};
-ghost use Rattle.mir_machine.specs.Runs.{Progress, going, entry_in, onward, standing, standing_in, answer_of};
+ghost use Rattle.mir_machine.specs.Runs.{Progress, going, entry_in, onward, standing, standing_in, answer_of, IsSound};
 
 use crate::control::Control;
 use crate::machine::Machine;
@@ -22,7 +22,11 @@ use mir_syntax::{List, OutOfMemory, Program};
 use std::alloc::Global;
 
 /// The locals of the function that is called; none where it isn't there.
-fn first_slots(alloc: Global, program: &Program, entry: &EntryCall) -> Result<List<Datum>, OutOfMemory>
+fn first_slots(
+    alloc: Global,
+    program: &Program,
+    entry: &EntryCall,
+) -> Result<List<Datum>, OutOfMemory>
     requires { KnowsDrops program.now }
     ensures { IfOk result (λ slots. map value_of slots ≡ runs.slots_at (code_in program.now) (map value_of entry.now.args) (slice_get (code_in program.now).bodies entry.now.f.0)) }
 {
@@ -33,7 +37,12 @@ fn first_slots(alloc: Global, program: &Program, entry: &EntryCall) -> Result<Li
     new_slots(alloc, program, function.body.locals.as_slice(), args)
 }
 
-fn start(alloc: Global, program: &Program, entry: &EntryCall, answers: &[u128]) -> Result<Machine, OutOfMemory>
+fn start(
+    alloc: Global,
+    program: &Program,
+    entry: &EntryCall,
+    answers: &[u128],
+) -> Result<Machine, OutOfMemory>
     requires { KnowsDrops program.now }
     ensures starts { IfOk result (λ machine. state_in program.now machine ≡ runs.start (code_in program.now) (entry_in entry.now) answers.now) }
     ensures framed { IfOk result (λ machine. Framed machine) }
@@ -88,10 +97,16 @@ fn stepped_as(outcome: &Outcome) -> Stepped
 
 impl State {
     /// The start of a run.
-    pub fn new(alloc: Global, program: &Program, entry: &EntryCall, answers: &[u128]) -> Result<State, OutOfMemory>
+    pub fn new(
+        alloc: Global,
+        program: &Program,
+        entry: &EntryCall,
+        answers: &[u128],
+    ) -> Result<State, OutOfMemory>
         requires { KnowsDrops program.now }
         ensures starts { IfOk result (λ state. standing_in program.now state ≡ Ok (going (runs.start (code_in program.now) (entry_in entry.now) answers.now))) }
         ensures none { IfOk result (λ state. state.taken ≡ 0) }
+        ensures sound { IfOk result (λ state. IsSound state) }
     {
         Ok(State {
             machine: start(alloc, program, entry, answers)?,
@@ -117,6 +132,13 @@ impl State {
         }
     }
 
+    /// Whether it goes on and has taken fewer steps than that.
+    pub(crate) fn goes_below(&self, limit: u64) -> bool
+        ensures { result ≡ (goes self.now.outcome && nat_lt self.now.taken limit) }
+    {
+        self.is_going() && self.taken < limit
+    }
+
     fn stepped(&self) -> Result<Stepped, OutOfMemory>
         ensures { (program : Program) → result ≡ answer_of (standing_in program self.now) }
     {
@@ -132,10 +154,12 @@ pub fn step(alloc: Global, program: &Program, state: &mut State) -> Result<Stepp
     requires formed { IsTrue (is_formed (crate_of program.now)) }
     requires knows { KnowsDrops program.now }
     requires room { state.old.taken < 2 ^ 64 - 1 }
+    requires sound { IsSound state.old }
     ensures goes { (before : Progress) → standing_in program.now state.old ≡ Ok before → IfOk (standing_in program.now state.new) (λ after. after ≡ onward (code_in program.now) before) }
     ensures answers { result ≡ answer_of (standing_in program.now state.new) }
     // What has stopped or is spent stays as it is, with no step taken.
     ensures rests { goes state.old.outcome ≡ false → state.new ≡ state.old }
+    ensures sound { IsSound state.new }
     ensures counts { goes state.old.outcome ≡ true → OnOk result (state.new.taken ≡ state.old.taken + 1) }
 {
     if !state.is_going() {

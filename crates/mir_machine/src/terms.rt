@@ -31,13 +31,23 @@ use mir_meaning::here::Here;
 use mir_meaning::operand::{read_all, read_number, scalar_of};
 use mir_meaning::stop::Stop;
 use mir_num::wrap;
-use mir_syntax::{Arm, Block, Callee, Copied, List, Name, Operand, OutId, OutOfMemory, Place, Program, ScalarTy, Term};
+use mir_syntax::{
+    Arm, Block, Callee, Copied, List, Name, Operand, OutId, OutOfMemory, Place, Program, ScalarTy,
+    Term,
+};
 use std::alloc::Global;
 use std::mem;
 
 impl Machine {
     /// Goes on in the block of the first arm with the operand's value, else in the other one.
-    fn switch(&mut self, alloc: Global, here: Here<'_>, operand: &Operand, arms: &[Arm], otherwise: u32) -> Result<(), Stop>
+    fn switch(
+        &mut self,
+        alloc: Global,
+        here: Here<'_>,
+        operand: &Operand,
+        arms: &[Arm],
+        otherwise: u32,
+    ) -> Result<(), Stop>
         requires formed { IsTrue (operand_whole operand.now) }
         requires knows { KnowsDrops here.program.now }
         ensures goes { Gives result (sem.finish (code_in here.entry.program.now) (here_of here.entry) (state_in here.entry.program.now self.old) (term.Switch operand.now arms.now otherwise))
@@ -105,7 +115,16 @@ impl Machine {
     }
 
     /// Goes on where a condition is as expected, else the run is aborted with the message.
-    fn assert(&mut self, alloc: Global, here: Here<'_>, operand: &Operand, expected: bool, text: &Name, values: &[Operand], block: u32) -> Result<Outcome, Stop>
+    fn assert(
+        &mut self,
+        alloc: Global,
+        here: Here<'_>,
+        operand: &Operand,
+        expected: bool,
+        text: &Name,
+        values: &[Operand],
+        block: u32,
+    ) -> Result<Outcome, Stop>
         requires condition { IsTrue (operand_whole operand.now) }
         requires shown { IsTrue (list_all operand_whole values.now) }
         requires knows { KnowsDrops here.program.now }
@@ -124,7 +143,13 @@ impl Machine {
     }
 
     /// A call of an outside function stands on the trace, also where its result can't be written.
-    fn told(&mut self, program: &Program, called: Called, dest: &Dest, value: Datum) -> Result<Outcome, Stop>
+    fn told(
+        &mut self,
+        program: &Program,
+        called: Called,
+        dest: &Dest,
+        value: Datum,
+    ) -> Result<Outcome, Stop>
         requires knows { KnowsDrops program.now }
         ensures goes { Gives result (told (shapes_in program.now) (state_in program.now self.old) (called_as called) (dest_in program.now dest.now) (value_of value))
             (λ outcome. next_in program.now self.new outcome) }
@@ -139,7 +164,14 @@ impl Machine {
     }
 
     /// An outside function answers with the next number, wrapped to its result type.
-    fn answer(&mut self, program: &Program, out: OutId, args: List<u128>, dest: &Dest, ty: ScalarTy) -> Result<Outcome, Stop>
+    fn answer(
+        &mut self,
+        program: &Program,
+        out: OutId,
+        args: List<u128>,
+        dest: &Dest,
+        ty: ScalarTy,
+    ) -> Result<Outcome, Stop>
         requires knows { KnowsDrops program.now }
         ensures goes { Gives result (asked (shapes_in program.now) (state_in program.now self.old) (dest_in program.now dest.now) out.0 args (scalar ty))
             (λ outcome. next_in program.now self.new outcome) }
@@ -152,12 +184,23 @@ impl Machine {
         let answer = answers[self.asked];
         let bits = wrap(ty, answer);
         self.asked += 1;
-        let called = Called { out, args, answer: Some(bits) };
+        let called = Called {
+            out,
+            args,
+            answer: Some(bits),
+        };
         self.told(program, called, dest, Datum::Num(bits))
     }
 
     /// A call of an outside function.
-    fn ask(&mut self, alloc: Global, program: &Program, out: OutId, args: &[Datum], dest: &Dest) -> Result<Outcome, Stop>
+    fn ask(
+        &mut self,
+        alloc: Global,
+        program: &Program,
+        out: OutId,
+        args: &[Datum],
+        dest: &Dest,
+    ) -> Result<Outcome, Stop>
         requires knows { KnowsDrops program.now }
         ensures goes { Gives result (outside_called (code_in program.now) (state_in program.now self.old) (dest_in program.now dest.now) out.0 (map value_of args.now))
             (λ outcome. next_in program.now self.new outcome) }
@@ -170,14 +213,26 @@ impl Machine {
         match scalar_of(program, outside.result) {
             Some(ty) => self.answer(program, out, args, dest, ty),
             None => {
-                let called = Called { out, args, answer: None };
+                let called = Called {
+                    out,
+                    args,
+                    answer: None,
+                };
                 self.told(program, called, dest, Datum::Parts(List::new(alloc)))
             }
         }
     }
 
     /// A call: the place of the result comes first, then the arguments.
-    fn call(&mut self, alloc: Global, here: Here<'_>, place: &Place, callee: Callee, args: &[Operand], block: u32) -> Result<Outcome, Stop>
+    fn call(
+        &mut self,
+        alloc: Global,
+        here: Here<'_>,
+        place: &Place,
+        callee: Callee,
+        args: &[Operand],
+        block: u32,
+    ) -> Result<Outcome, Stop>
         requires place { IsTrue (path_formed place.now.proj) }
         requires args { IsTrue (list_all operand_whole args.now) }
         requires knows { KnowsDrops here.program.now }
@@ -228,7 +283,15 @@ impl Machine {
                 self.call(alloc, here, place, *callee, args.as_slice(), *block)
             }
             Term::Assert(operand, expected, text, values, block) => {
-                self.assert(alloc, here, operand, *expected, text, values.as_slice(), *block)
+                self.assert(
+                    alloc,
+                    here,
+                    operand,
+                    *expected,
+                    text,
+                    values.as_slice(),
+                    *block,
+                )
             }
         }
     }
@@ -271,7 +334,11 @@ impl Machine {
         let Some(block) = body.blocks.get(self.top.block as usize) else {
             return Err(Stop::Undefined);
         };
-        let here = Here { program, body, frame: self.top.frame };
+        let here = Here {
+            program,
+            body,
+            frame: self.top.frame,
+        };
         self.perform(alloc, here, block)
     }
 

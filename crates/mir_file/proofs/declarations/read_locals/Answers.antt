@@ -6,7 +6,6 @@ use Rattle.mir_tree.specs.Rules.{arg_rule, part_arg}
 use Rattle.mir_resolve.specs.Faults.{noted}
 use Rattle.mir_resolve.specs.Definitions.{before_defs}
 use Rattle.mir_bodies.specs.Locals.{declared_in}
-use Rattle.mir_file.specs.Items.{Noticed}
 use Rattle.mir_file.specs.Declarations.{declarations_faults}
 use Rattle.mir_file.proofs.Declaring.{head_declared, declared_lined, noticed_then, declarations_append}
 use Rattle.mir_file.proofs.declarations.read_locals.Goals as goal

@@ -9,7 +9,6 @@ use Rattle.mir_syntax.proofs.Growth.{map-same, all-weaker, def-more, length-exte
 use Rattle.mir_text.specs.Names.{names_of, defs_in, def_named}
 use Rattle.mir_text.specs.Naming.{outsides_in}
 use Rattle.mir_resolve.specs.Definitions.{before_defs}
-use Rattle.mir_resolve.proofs.Making.{Keeps}
 use Rattle.mir_file.specs.Items.{rules_of}
 use Rattle.mir_file.proofs.Steps.{defs_keep}
 use Rattle.mir_file.proofs.AllFaults.{outsides_same}

@@ -1,4 +1,4 @@
-use Rattle.std.proofs.Common.{◌≡◌, ◌+◌, ◌∷◌, ◌∙◌, map, ap, sym, arith}
+use Rattle.std.proofs.Common.{◌≡◌, ◌∷◌, ◌∙◌, map, ap, sym}
 use Rattle.mir_text.specs.NameFaults.{in_order}
 use Rattle.mir_resolve.proofs.Making.{later_of, first_left}
 use Rattle.mir_file.specs.Declarations.{label_in}

@@ -1,4 +1,4 @@
-use Rattle.std.proofs.Common.{◌≡◌, ℕ, ◌&&◌, List, ◌∷◌, get_or, is_some, ◌∙◌, ap, ap₂, refl, sym}
+use Rattle.std.proofs.Common.{◌≡◌, ℕ, ◌&&◌, ◌∷◌, get_or, is_some, ◌∙◌, ap, ap₂, refl, sym}
 use Rattle.mir_syntax.specs.declared.types.TyId.{TyId}
 use Rattle.mir_text.specs.NameFaults.{below_declared, none_missing_in}
 use Rattle.mir_resolve.proofs.Making.{later_of, and_step}

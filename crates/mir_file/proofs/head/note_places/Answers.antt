@@ -1,4 +1,4 @@
-use Rattle.std.proofs.Common.{◌≡◌, ◌+◌, suc, nat_eq, ◌∷◌, ◌∙◌, map, ap, refl, sym, arith, add-one}
+use Rattle.std.proofs.Common.{◌≡◌, ◌+◌, suc, nat_eq, ◌∷◌, ◌∙◌, map, ap, refl, sym, add-one}
 use Rattle.mir_text.specs.NameFaults.{args_in_place, on_line, unless}
 use Rattle.mir_tree.specs.Bodies.{lined}
 use Rattle.mir_tree.specs.Rules.{arg_rule}

@@ -1,21 +1,18 @@
-use Rattle.std.proofs.Common.{IsTrue, ◌≡◌, ◌<◌, List, ◌++◌, map, length, get_or, Option, IfSome, option_map, ap, ap₂, sym, subst, ◌∙◌}
-use Rattle.std.specs.List.{list_all}
+use Rattle.std.proofs.Common.{◌≡◌, ◌<◌, ◌++◌, map, length, get_or, Option, IfSome, option_map, ap, ap₂, sym, subst, ◌∙◌}
 use Rattle.std.proofs.lemmas.List.{length-map}
 use Rattle.std.proofs.lemmas.Simd.{map-map}
 use Rattle.mir_syntax.specs.declared.types.TyId.{TyId}
 use Rattle.mir_syntax.specs.Tree.{at_id, trees_of}
 use Rattle.mir_syntax.proofs.Growth.{map-same, all-weaker, length-extends, at_id-extends}
 use Rattle.mir_text.specs.NamedBodies.{declared_ty}
-use Rattle.mir_text.specs.Naming.{declared, locals_from}
+use Rattle.mir_text.specs.Naming.{locals_from}
 use Rattle.mir_text.specs.PartLines.{LinedBlock}
 use Rattle.mir_text.specs.NameFaults.{none_missing, blocks_in_order}
 use Rattle.mir_text.specs.ReadLines.{local_lines}
 use Rattle.mir_tree.specs.Bodies.{lined, lined_block}
-use Rattle.mir_tree.specs.Rules.{arg_rule, fn_rule}
+use Rattle.mir_tree.specs.Rules.{arg_rule}
 use Rattle.mir_resolve.specs.Definitions.{before_defs}
 use Rattle.mir_resolve.proofs.Growing.{grown_then}
-use Rattle.mir_resolve.proofs.Making.{Keeps}
-use Rattle.mir_bodies.specs.Locals.{declared_in}
 use Rattle.mir_file.specs.Declarations.{declared_below, declared_as, label_in}
 use Rattle.mir_file.proofs.Declaring.{declared_keep}
 use Rattle.mir_file.proofs.TypesOf.{first_told, first_inside}

@@ -1,4 +1,4 @@
-use Rattle.std.proofs.Common.{◌≡◌, ◌+◌, ◌-◌, ◌<◌, ◌≤◌, ◌∷◌, ◌∙◌, ◌++◌, map, drop, set, length, ap, sym, arith}
+use Rattle.std.proofs.Common.{◌≡◌, ◌+◌, ◌-◌, ◌<◌, ◌∷◌, ◌∙◌, ◌++◌, map, drop, set, length, ap, sym, arith}
 use Rattle.mir_text.specs.ReadLines.{local_lines}
 use Rattle.mir_tree.specs.Bodies.{lined}
 use Rattle.mir_tree.specs.Rules.{arg_rule}

@@ -1,11 +1,9 @@
 use Rattle.std.proofs.Common.{IsTrue, List, length, map, ap, sym, subst, ◌∙◌}
-use Rattle.std.specs.List.{list_all}
 use Rattle.mir_syntax.specs.declared.types.TyId.{TyId}
 use Rattle.mir_syntax.specs.Tree.{at_id, trees_of}
 use Rattle.mir_syntax.specs.Table.{all_below}
 use Rattle.mir_syntax.proofs.Growth.{all-weaker, length-extends}
 use Rattle.mir_text.specs.Naming.{locals_from}
-use Rattle.mir_resolve.proofs.Making.{Keeps}
 use Rattle.mir_bodies.specs.Locals.{declared_in}
 use Rattle.mir_file.specs.Declarations.{declared_below}
 use Rattle.mir_file.proofs.Declaring.{declared_keep}

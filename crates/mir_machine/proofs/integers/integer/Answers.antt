@@ -1,4 +1,4 @@
-use Rattle.std.proofs.Common.{◌≡◌, ◌∙◌, sym, arith}
+use Rattle.std.proofs.Common.{◌∙◌, sym, arith}
 use Rattle.mir_machine.proofs.Shown.{unsigned_shown, low_shown, high_shown, within}
 use Rattle.mir_machine.proofs.integers.integer.Goals as goal
 

@@ -1,4 +1,4 @@
-use Rattle.std.proofs.Common.{◌≡◌, ◌∙◌, ◌∷◌, ◌++◌, [], sym, ap, map}
+use Rattle.std.proofs.Common.{◌∙◌, ◌∷◌, ◌++◌, [], ap, map}
 use Rattle.std.proofs.lemmas.List.{map-append}
 use Rattle.mir_meaning.specs.Views.{memory_of}
 use Rattle.mir_meaning.specs.Sight.{here_of}

@@ -1,8 +1,7 @@
-use Rattle.std.proofs.Common.{◌≡◌, ◌∙◌, sym, ap, map, Some, None, []}
+use Rattle.std.proofs.Common.{◌∙◌, sym, ap, map, None}
 use Rattle.mir_syntax.specs.Tree.{trees_of}
 use Rattle.mir_syntax.specs.Crate.{outside_of}
-use Rattle.mir_semantics.specs.Values.{nil, listed}
-use Rattle.mir_meaning.specs.declared.datum.Datum.{Parts}
+use Rattle.mir_semantics.specs.Values.{listed}
 use Rattle.mir_meaning.specs.Programs.{shapes_in, type_in}
 use Rattle.mir_meaning.specs.Views.{value_of}
 use Rattle.mir_meaning.proofs.Values.{view_parts}

@@ -1,4 +1,4 @@
-use Rattle.std.proofs.Common.{◌≡◌, ◌∙◌, sym, ap, map, Some, true, false, arith}
+use Rattle.std.proofs.Common.{◌∙◌, sym, ap, map, Some, true, false, arith}
 use Rattle.mir_semantics.specs.Step.{on}
 use Rattle.mir_meaning.specs.Views.{memory_of}
 use Rattle.mir_meaning.specs.Sight.{here_of}

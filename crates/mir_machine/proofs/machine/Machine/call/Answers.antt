@@ -1,4 +1,4 @@
-use Rattle.std.proofs.Common.{◌≡◌, ◌∙◌, sym, ap, map, Some, None}
+use Rattle.std.proofs.Common.{◌∙◌, sym, ap, map, Some}
 use Rattle.mir_syntax.specs.declared.body.Term.TheVariants as term
 use Rattle.mir_semantics.specs.Step.{finish, enter}
 use Rattle.mir_meaning.specs.Views.{value_of, memory_of}

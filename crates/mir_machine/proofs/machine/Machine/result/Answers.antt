@@ -1,6 +1,4 @@
-use Rattle.std.proofs.Common.{◌≡◌, ◌∙◌, sym, ap, Some, None, []}
-use Rattle.mir_semantics.specs.Memory.{value_at}
-use Rattle.mir_semantics.specs.Step.{local_addr, read_at}
+use Rattle.std.proofs.Common.{◌∙◌, sym, ap, Some}
 use Rattle.mir_meaning.specs.Views.{memory_of, part_of}
 use Rattle.mir_machine.proofs.Frames.{result_gone, result_hole, result_whole}
 use Rattle.mir_machine.proofs.machine.Machine.result.Goals as goal

@@ -1,4 +1,4 @@
-use Rattle.std.proofs.Common.{◌≡◌, ◌∙◌, sym, ap, Some}
+use Rattle.std.proofs.Common.{◌∙◌, sym, ap, Some}
 use Rattle.mir_semantics.specs.Step.{on}
 use Rattle.mir_meaning.specs.Views.{memory_of}
 use Rattle.mir_meaning.specs.Sight.{here_of}

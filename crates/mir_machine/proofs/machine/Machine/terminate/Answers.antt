@@ -1,4 +1,4 @@
-use Rattle.std.proofs.Common.{◌≡◌, ◌∙◌, sym, ap, Some, None}
+use Rattle.std.proofs.Common.{◌∙◌, sym, ap, Some}
 use Rattle.mir_semantics.specs.Step.{on, finish}
 use Rattle.mir_meaning.specs.Sight.{here_of}
 use Rattle.mir_meaning.proofs.Binds.{stopped, gives_same}
