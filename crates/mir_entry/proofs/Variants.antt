@@ -1,5 +1,5 @@
 -- Variants by their places, and what is read of them.
-use Rattle.std.proofs.Common.{◌≡◌, ◌∙◌, refl, sym, ap, ℕ, zero, suc, ◌-◌, Bool, true, false, List, [], ◌∷◌, ◌++◌, map, slice_get, Option, Some, None, arith, rules, subst, IsTrue, ◌<◌, ℤ}
+use Rattle.std.proofs.Common.{◌≡◌, ◌∙◌, refl, sym, ap, ℕ, zero, suc, ◌-◌, Bool, true, false, List, [], ◌∷◌, ◌++◌, map, slice_get, length, Option, Some, None, arith, rules, subst, IsTrue, ◌<◌, ℤ}
 use Rattle.std.proofs.lemmas.List.{map-append}
 use Rattle.mir_syntax.specs.Table.{all_below}
 use Rattle.mir_syntax.specs.declared.types.TyId.{TyId}
@@ -16,7 +16,8 @@ use Rattle.mir_syntax.specs.Shapes.{Shape, ◌>>=◌, fields_tree, fields_tuple,
 use Rattle.mir_syntax.proofs.Places.{shape-at, shape-past}
 use Rattle.mir_semantics.specs.Values.{Value, cons, listed}
 use Rattle.mir_meaning.specs.Programs.{shapes_in}
-use Rattle.mir_entry.specs.Readings.{Reading, read_by, read_of, read_def, read_variant, behind, in_front, small_natural, numbered, with_number, variant_named}
+use Rattle.mir_meaning.proofs.Blanks.{depth_enough}
+use Rattle.mir_entry.specs.Readings.{Reading, read_by, read_of, read_def, read_variant, reading, behind, in_front, small_natural, numbered, with_number, variant_named}
 
 pub variants_at : (trees : List Tree) (variants : List Variant) (k : ℕ)
     → slice_get (map fields_tuple (map (variant_of trees) variants)) k ≡ option_map (λ v. fields_tree trees v.fields) (slice_get variants k)
@@ -119,8 +120,19 @@ pub ids_done : (f : ℕ → List ℤ → Reading) (trees : List Tree) (ids : Lis
 ids_done f trees ids values is whole e h =
     sym (read_done (map value_of values) is) ∙ ap (λ xs. behind (map value_of values) (read_by f (at_ids trees xs) is)) (sym e) ∙ h
 
+pub ids_stopped : (f : ℕ → List ℤ → Reading) (trees : List Tree) (ids others : List TyId) (x : TyId) (values : List Datum) (is : List ℤ) (whole : Reading)
+    → ids ≡ x ∷ others → None ≡ read_by f (at_id trees x) is → behind (map value_of values) (read_by f (at_ids trees ids) is) ≡ whole → None ≡ whole
+ids_stopped f trees ids others x values is whole e h kept =
+    sym (read_stop f (at_id trees x) (at_ids trees others) (map value_of values) is (sym h)) ∙ ap (λ xs. behind (map value_of values) (read_by f (at_ids trees xs) is)) (sym e) ∙ kept
+
 pub below_rest : (n : ℕ) (ids others : List TyId) (x : TyId) → ids ≡ x ∷ others → IsTrue (all_below n ids) → IsTrue (all_below n others)
 below_rest n ids others x e h =
     let whole : IsTrue (all_below n (x ∷ others)) = subst (λ xs. IsTrue (all_below n xs)) e h in
     let both : (x.0 < n) × IsTrue (all_below n others) = search rules in
     both.1
+
+-- ---- at the depth of all definitions
+
+pub reading_in : (p : Program) (t : Tree) (n : ℕ) (is : List ℤ) (r : Reading) → n ≡ length p.defs → r ≡ read_by (read_def (shapes_in p) n) t is → r ≡ reading (shapes_in p) t is
+unfolding reading
+reading_in p t n is r e h = h ∙ ap (λ m. read_by (read_def (shapes_in p) m) t is) (e ∙ depth_enough p)

@@ -1,4 +1,4 @@
-ghost use Rattle.std.specs.Prelude.{◌≡◌, ◌+◌, ◌<◌, ◌^◌, ℕ, map, take, drop, IfOk, MatchOption, slice_get};
+ghost use Rattle.std.specs.Prelude.{◌≡◌, ◌+◌, ◌<◌, ◌^◌, ℕ, map, take, drop, length, IfOk, MatchOption, slice_get};
 ghost use Rattle.mir_syntax.specs.Crate.{TypedBody};
 ghost use Rattle.mir_syntax.specs.declared.body.Function.{Function};
 ghost use Rattle.mir_semantics.specs.Entry.{IsEntry, AreFlat, arg_types};
@@ -42,7 +42,8 @@ impl From<OutOfMemory> for EntryFault {
 
 /// The types of a function's result and arguments.
 fn signature(body: &Body) -> &[TyId]
-    ensures { result.now ≡ take (body.now.args + 1) body.now.locals }
+    ensures takes { result.now ≡ take (body.now.args + 1) body.now.locals }
+    ensures few { length result.now < 2 ^ 32 + 1 }
 {
     let locals = body.locals.as_slice();
     let count = body.args as usize + 1;
@@ -55,7 +56,9 @@ fn signature(body: &Body) -> &[TyId]
 
 /// The types without the first.
 fn behind_first(types: &[TyId]) -> &[TyId]
-    ensures { result.now ≡ drop 1 types.now }
+    requires { length types.now < 2 ^ 32 + 1 }
+    ensures drops { result.now ≡ drop 1 types.now }
+    ensures few { length result.now < 2 ^ 32 }
 {
     match types {
         [_, rest @ ..] => rest,

@@ -115,10 +115,10 @@ fn read_named<'a>(
     }
     match program.defs.get(def as usize) {
         Some(def) => {
-            let variants = def.variants.as_slice();
             if def.is_enum {
-                read_variant(alloc, program, depth - 1, variants, numbers)
+                read_variant(alloc, program, depth - 1, &def.variants, numbers)
             } else {
+                let variants = def.variants.as_slice();
                 read_struct(alloc, program, depth - 1, variants, numbers)
             }
         }
@@ -168,7 +168,7 @@ fn small_natural(number: Number) -> Option<u32>
 
 /// The variant that a number names: its place, and its fields.
 #[tactic(auto, using(crate::proofs::Variants::variants_at))]
-fn variant_at(variants: &[Variant], number: Number) -> Option<(u32, &[Field])>
+fn variant_at(variants: &List<Variant>, number: Number) -> Option<(u32, &[Field])>
     ensures { (trees : List Tree) → option_map (λ f. (f.0, fields_tree trees f.1.now)) result ≡ spec.variant_named (map fields_tuple (map (variant_of trees) variants.now)) (integer_in number) }
 {
     match small_natural(number) {
@@ -186,7 +186,7 @@ fn read_variant<'a>(
     alloc: Global,
     program: &Program,
     depth: usize,
-    variants: &[Variant],
+    variants: &List<Variant>,
     numbers: &'a [Number],
 ) -> Result<Option<(Datum, &'a [Number])>, OutOfMemory>
     ensures { IfOk result (λ found. option_map (λ f. (value_of f.0, integers_of f.1.now)) found ≡ spec.read_variant (read_def (shapes_in program.now) depth) (map fields_tuple (map (variant_of (trees_of program.now.types)) variants.now)) (integers_of numbers.now)) }

@@ -34,8 +34,7 @@ read_types-returns t c =
 pub read_named-returns-then-def : goal.read_named-returns-then-def
 read_named-returns-then-def t c =
     let p = c.args.program.now in
-    IfOk-weaker c.read_variant.result _ _ (λ found h. h ∙ ap (λ vs. read_variant (read_def (shapes_in p) (c.args.depth - 1)) (map fields_tuple (map (variant_of (trees_of p.types)) vs)) (integers_of c.args.numbers.now)) c.as_slice-variants.ensures
-    ∙ read_enum p c.args.depth c.args.def c.in-Some.def.now (integers_of c.args.numbers.now) c.if-depth-eq0.false (sym c.in-Some.ensures) c.if-def.true) c.read_variant.ensures
+    IfOk-weaker c.read_variant.result _ _ (λ found h. h ∙ read_enum p c.args.depth c.args.def c.in-Some.def.now (integers_of c.args.numbers.now) c.if-depth-eq0.false (sym c.in-Some.ensures) c.if-def.true) c.read_variant.ensures
 
 pub read_named-returns-else-def : goal.read_named-returns-else-def
 read_named-returns-else-def t c =
