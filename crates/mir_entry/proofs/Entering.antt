@@ -23,6 +23,9 @@ use Rattle.mir_machine.specs.Seen.{code_in}
 use Rattle.mir_machine.specs.Runs.{entry_in}
 use Rattle.mir_entry.specs.Readings.{reading}
 use Rattle.std.specs.List.{list_all}
+use Rattle.std.specs.Prelude.{Result, Ok, Err, IsErrAnd}
+use Rattle.mir_entry.specs.declared.entries.EntryFault.{EntryFault}
+use Rattle.mir_entry.specs.declared.entries.EntryFault.TheVariants as fault
 use Rattle.mir_syntax.specs.declared.types.Def.{Def}
 use Rattle.mir_entry.specs.Entering.{few_variants, signature, has_references, arguments_read, Enters, Refuses}
 use Rattle.mir_entry.proofs.Readings.{Front, Few, reading_sound, reading_complete}
@@ -140,3 +143,11 @@ variants_typed p d s (Some def) h all e =
 
 pub few_shapes : (p : Program) → list_all few_variants p.defs ≡ true → Few (shapes_in p)
 few_shapes p all = record { few = λ d s e. variants_typed p d s (slice_get p.defs d) refl all e }
+
+pub few_yes : (b c : Bool) → b ≡ c → b ≡ true → c ≡ true
+few_yes b c h e = sym h ∙ e
+
+-- the fault of a call is that of the function that makes it
+pub fault_on : {A B : Type 0} (r : Result A EntryFault) (s : Result B EntryFault) (e : EntryFault) (k : ℕ) → r ≡ Err e → IsErrAnd s (λ x. x ≡ e) → s ≡ Err (fault.NotFit k) → r ≡ Err (fault.NotFit k)
+fault_on r (Ok y) e k h g n = absurd g
+fault_on r (Err x) e k h g n = let same : x ≡ fault.NotFit k = cc in h ∙ ap Err (sym g ∙ same)

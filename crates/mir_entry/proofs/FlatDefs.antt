@@ -11,10 +11,10 @@ use Rattle.mir_semantics.specs.Step.{variant_in}
 use Rattle.mir_semantics.specs.Entry.{both, flat_by, flat_fields, flat_variant, flat_of, flat_def, flat}
 use Rattle.mir_meaning.specs.declared.datum.Datum.{Datum}
 use Rattle.mir_meaning.specs.Programs.{shapes_in}
-use Rattle.mir_meaning.specs.Views as views
 use Rattle.mir_meaning.proofs.Blanks.{depth_enough}
 use Rattle.mir_machine.specs.Ends.{integer_in}
 use Rattle.mir_entry.specs.Pushed.{pushed}
+use Rattle.mir_entry.proofs.FlatParts.{both_none}
 
 -- ---- joined
 
@@ -27,10 +27,6 @@ both_on : (a b : List ℤ) (x : Option (List ℤ)) → both (Some a) (both (Some
 unfolding ◌>>=◌
 both_on a b None = refl
 both_on a b (Some xs) = ap Some (sym (append_assoc a b xs))
-
-both_none : (a : List ℤ) (x : Option (List ℤ)) → x ≡ None → both (Some a) x ≡ None
-unfolding ◌>>=◌
-both_none a x e = rw e refl
 
 -- ---- definitions
 

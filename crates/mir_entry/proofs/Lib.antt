@@ -1,6 +1,8 @@
 pub mod Entering
 pub mod Exact
+pub mod FlatDefs
 pub mod FlatParts
+pub mod Finding
 pub mod Integers
 pub mod Readings
 pub mod Referring

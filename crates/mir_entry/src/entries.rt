@@ -1,6 +1,6 @@
-ghost use Rattle.std.specs.Prelude.{◌≡◌, ◌+◌, ◌<◌, ◌^◌, ℕ, map, take, drop, length, IfOk, MatchOption, slice_get};
+ghost use Rattle.std.specs.Prelude.{◌≡◌, ◌+◌, ◌<◌, ◌^◌, ℕ, map, take, drop, length, IfOk, IsTrue, ◌↔◌, MatchOption, slice_get};
 ghost use Rattle.mir_syntax.specs.Crate.{TypedBody};
-ghost use Rattle.mir_syntax.specs.declared.body.Function.{Function};
+ghost use Rattle.mir_syntax.specs.declared.body.Function as spec;
 ghost use Rattle.mir_semantics.specs.Entry.{IsEntry, AreFlat, arg_types};
 ghost use Rattle.mir_semantics.specs.Run.{Entry};
 ghost use Rattle.mir_meaning.specs.Programs.{shapes_in};
@@ -15,9 +15,10 @@ ghost use Rattle.mir_entry.specs.declared.entries.EntryFault.TheVariants as faul
 
 use crate::reads::{Arguments, read_arguments};
 use crate::refers::types_refer_any;
+use crate::splits::split_functions;
 use mir_machine::EntryCall;
 use mir_meaning::datum::Datum;
-use mir_syntax::{Body, FnId, List, Number, OutOfMemory, Program, TyId};
+use mir_syntax::{Body, FnId, Function, List, Number, OutOfMemory, Program, TyId};
 use std::alloc::Global;
 
 /// Why numbers call no function from outside.
@@ -132,19 +133,28 @@ pub fn entry(
     }
 }
 
+/// Whether a function has a path.
+fn has_path(function: &Function, path: &[u8]) -> bool
+    ensures { IsTrue result ↔ (function.now.path ≡ path.now) }
+{
+    function.path.as_slice() == path
+}
+
 /// The function with a path; the first where several have it.
 pub fn function_at(program: &Program, path: &[u8]) -> Option<FnId>
-    ensures { MatchOption result ((k : ℕ) (g : Function) → k < 2 ^ 32 → slice_get program.now.functions k ≡ Some g → g.path ≡ path.now → ⊥) (λ f. (g : Function) × (slice_get program.now.functions f.0 ≡ Some g) × (g.path ≡ path.now)) }
+    ensures { MatchOption result ((k : ℕ) (g : spec.Function) → k < 2 ^ 32 → slice_get program.now.functions k ≡ Some g → g.path ≡ path.now → ⊥) (λ f. (g : spec.Function) × (slice_get program.now.functions f.0 ≡ Some g) × (g.path ≡ path.now)) }
 {
+    let mut left = program.functions.as_slice();
     let mut place = 0;
-    'functions: for function in program.functions.as_slice() {
-        if function.path.as_slice() == path {
+    'functions: while let Some((function, rest)) = split_functions(left) {
+        if has_path(function, path) {
             return Some(FnId(place));
         }
         if place == u32::MAX {
             return None;
         }
         place += 1;
+        left = rest;
     }
     None
 }

@@ -1,5 +1,5 @@
 ghost use Rattle.std.specs.Prelude.{◌≡◌, ℕ, List, Option, Some, map, IsTrue, IfOk, option_map, ℤ};
-ghost use Rattle.mir_syntax.specs.Tree.{scalar, at_ids, trees_of};
+ghost use Rattle.mir_syntax.specs.Tree.{scalar, named, at_ids, trees_of};
 ghost use Rattle.mir_syntax.specs.Table.{all_below};
 ghost use Rattle.mir_syntax.specs.Shapes.{fields_tree};
 ghost use Rattle.mir_semantics.specs.Values.{Value};
@@ -10,7 +10,7 @@ ghost use Rattle.mir_meaning.specs.Views.{value_of, fields_of};
 ghost use Rattle.mir_machine.specs.Ends.{integer_in};
 ghost use Rattle.mir_entry.specs.Pushed.{pushed};
 
-use crate::splits::{split_data, split_fields, split_types};
+use crate::splits::{parts, split_data, split_fields, split_types, variant};
 use mir_machine::integer;
 use mir_meaning::datum::Datum;
 use mir_meaning::operand::{number_of, scalar_of};
@@ -48,8 +48,10 @@ fn push_value(program: &Program, depth: usize, id: TyId, value: &Datum, out: &mu
     };
     match ty {
         Ty::Tuple(ids) => push_tuple(program, depth, id.0, ids.as_slice(), value, out),
-        Ty::Named(def) => push_def(program, depth, *def, value, out),
-        _ => Ok(false),
+        Ty::Named(def) => push_def(program, depth, id, *def, value, out),
+        Ty::Ref(_) => Ok(false),
+        Ty::RefMut(_) => Ok(false),
+        Ty::Scalar(_) => Ok(false),
     }
 }
 
@@ -58,10 +60,10 @@ fn push_tuple(program: &Program, depth: usize, bound: u32, ids: &[TyId], value: 
     requires { IsTrue (all_below bound ids.now) }
     ensures { IfOk result (λ whole. both (Some (map integer_in out.old)) (flat_by (flat_def (shapes_in program.now) depth) (at_ids (trees_of program.now.types) ids.now) (value_of value.now)) ≡ pushed whole out.new) }
 {
-    let Datum::Parts(values) = value else {
+    let Some(values) = parts(value) else {
         return Ok(false);
     };
-    push_types(program, depth, bound, ids, values.as_slice(), out)
+    push_types(program, depth, bound, ids, values, out)
 }
 
 #[cycle(flat)]
@@ -71,7 +73,7 @@ fn push_types(program: &Program, depth: usize, bound: u32, ids: &[TyId], values:
 {
     let mut ids = ids;
     let mut values = values;
-    while let Some((id, rest)) = split_types(ids) {
+    'types: while let Some((id, rest)) = split_types(ids) {
         let Some((value, others)) = split_data(values) else {
             return Ok(false);
         };
@@ -85,7 +87,8 @@ fn push_types(program: &Program, depth: usize, bound: u32, ids: &[TyId], values:
 }
 
 #[cycle(flat)]
-fn push_def(program: &Program, depth: usize, def: u32, value: &Datum, out: &mut List<Number>) -> Result<bool, OutOfMemory>
+fn push_def(program: &Program, depth: usize, id: TyId, def: u32, value: &Datum, out: &mut List<Number>) -> Result<bool, OutOfMemory>
+    requires { type_in program.now id ≡ named def }
     ensures { IfOk result (λ whole. both (Some (map integer_in out.old)) (flat_def (shapes_in program.now) depth def (value_of value.now)) ≡ pushed whole out.new) }
 {
     if depth == 0 {
@@ -94,27 +97,25 @@ fn push_def(program: &Program, depth: usize, def: u32, value: &Datum, out: &mut 
     if let Some(fields) = program.struct_fields(def) {
         return push_struct(program, depth - 1, fields, value, out);
     }
-    let Datum::Variant(variant, values) = value else {
+    let Some((place, values)) = variant(value) else {
         return Ok(false);
     };
-    let Some(def) = program.defs.get(def as usize) else {
+    let Some(fields) = program.variant_fields(id, place) else {
         return Ok(false);
     };
-    let Some(fields) = def.variants.get(*variant as usize) else {
-        return Ok(false);
-    };
-    out.push(Number { negative: false, size: *variant as u128 })?;
-    push_fields(program, depth - 1, fields.fields.as_slice(), values.as_slice(), out)
+    let number = Number { negative: false, size: place as u128 };
+    out.push(number)?;
+    push_fields(program, depth - 1, fields, values, out)
 }
 
 #[cycle(flat)]
 fn push_struct(program: &Program, depth: usize, fields: &[Field], value: &Datum, out: &mut List<Number>) -> Result<bool, OutOfMemory>
     ensures { IfOk result (λ whole. both (Some (map integer_in out.old)) (flat_by (flat_def (shapes_in program.now) depth) (fields_tree (trees_of program.now.types) fields.now) (value_of value.now)) ≡ pushed whole out.new) }
 {
-    let Datum::Parts(values) = value else {
+    let Some(values) = parts(value) else {
         return Ok(false);
     };
-    push_fields(program, depth, fields, values.as_slice(), out)
+    push_fields(program, depth, fields, values, out)
 }
 
 #[cycle(flat)]
@@ -123,7 +124,7 @@ fn push_fields(program: &Program, depth: usize, fields: &[Field], values: &[Datu
 {
     let mut fields = fields;
     let mut values = values;
-    while let Some((field, rest)) = split_fields(fields) {
+    'fields: while let Some((field, rest)) = split_fields(fields) {
         let Some((value, others)) = split_data(values) else {
             return Ok(false);
         };

@@ -1,9 +1,12 @@
-use Rattle.std.proofs.Common.{◌≡◌, ℕ, ◌<◌, slice_get, Some}
-use Rattle.mir_syntax.specs.declared.body.Function.{Function}
+use Rattle.std.proofs.Common.{◌≡◌, drop, length}
+use Rattle.mir_entry.proofs.Finding.{None_before}
 use Rattle.mir_entry.proofs.entries.function_at.Given as goal
 
 abbrev pub invariant-functions : goal.invariant-functions
 invariant-functions l = record {
-  place : l.place ≡ l.function-index;
-  none : (k : ℕ) (g : Function) → k < l.function-index → slice_get l.program.functions k ≡ Some g → g.path ≡ l.path → ⊥;
+  behind : l.left ≡ drop l.place l.program.functions;
+  none : None_before l.program.functions l.path l.place;
 }
+
+abbrev pub decreases-functions : goal.decreases-functions
+decreases-functions l = length l.left

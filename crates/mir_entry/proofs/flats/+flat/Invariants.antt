@@ -26,17 +26,17 @@ decreases-push_struct l = 2 ^ 36 * l.depth + (2 ^ 35 + 1)
 abbrev pub decreases-push_fields : goal.decreases-push_fields
 decreases-push_fields l = 2 ^ 36 * l.depth + 2 ^ 35
 
-abbrev pub invariant-push_types-loop-id : goal.invariant-push_types-loop-id
-invariant-push_types-loop-id l = record {
+abbrev pub invariant-push_types-types : goal.invariant-push_types-types
+invariant-push_types-types l = record {
   below : IsTrue (all_below l.bound l.ids);
   same : both (Some (map integer_in l.out)) (flat_by (flat_def (shapes_in l.program) l.depth) (at_ids (trees_of l.program.types) l.ids) (fields_of l.values)) ≡ both (Some (map integer_in l.initial.out)) (flat_by (flat_def (shapes_in l.program) l.depth) (at_ids (trees_of l.program.types) l.initial.ids) (fields_of l.initial.values));
 }
 
-abbrev pub decreases-push_types-loop-id : goal.decreases-push_types-loop-id
-decreases-push_types-loop-id l = length l.ids
+abbrev pub decreases-push_types-types : goal.decreases-push_types-types
+decreases-push_types-types l = length l.ids
 
-abbrev pub invariant-push_fields-loop-field : goal.invariant-push_fields-loop-field
-invariant-push_fields-loop-field l = both (Some (map integer_in l.out)) (flat_by (flat_def (shapes_in l.program) l.depth) (fields_tree (trees_of l.program.types) l.fields) (fields_of l.values)) ≡ both (Some (map integer_in l.initial.out)) (flat_by (flat_def (shapes_in l.program) l.depth) (fields_tree (trees_of l.program.types) l.initial.fields) (fields_of l.initial.values))
+abbrev pub invariant-push_fields-fields : goal.invariant-push_fields-fields
+invariant-push_fields-fields l = both (Some (map integer_in l.out)) (flat_by (flat_def (shapes_in l.program) l.depth) (fields_tree (trees_of l.program.types) l.fields) (fields_of l.values)) ≡ both (Some (map integer_in l.initial.out)) (flat_by (flat_def (shapes_in l.program) l.depth) (fields_tree (trees_of l.program.types) l.initial.fields) (fields_of l.initial.values))
 
-abbrev pub decreases-push_fields-loop-field : goal.decreases-push_fields-loop-field
-decreases-push_fields-loop-field l = length l.fields
+abbrev pub decreases-push_fields-fields : goal.decreases-push_fields-fields
+decreases-push_fields-fields l = length l.fields
