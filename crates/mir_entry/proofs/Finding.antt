@@ -35,15 +35,15 @@ on_behind fs left rest n x h e = behind_drop fs n x rest (sym h ∙ e) ∙ ap (�
 
 -- one more is not the one
 pub none_on : (fs left rest : List Function) (path : List ℕ) (n : ℕ) (x : Function) (b : Bool) → left ≡ drop n fs → left ≡ x ∷ rest → (IsTrue b ↔ (x.path ≡ path)) → b ≡ false → None_before fs path n → None_before fs path (n + 1)
-none_on fs left rest path n x b h e decides no before k g small there q = by_place (nat_eq k n) refl
+none_on fs left rest path n x b h e decides off before k g small there q = by_place (nat_eq k n) refl
   where
     by_place : (c : Bool) → nat_eq k n ≡ c → ⊥
     by_place true t =
         let same : k ≡ n = grind (arith, nat_tests) in
         let both : ◌≡◌ {A = Option Function} (Some x) (Some g) = sym (found_there fs left rest n x h e) ∙ ap (slice_get fs) (sym same) ∙ there in
         let own : x ≡ g = cc in
-        let yes : b ≡ true = decides.1 (ap (λ y. y.path) own ∙ q) in
-        let wrong : true ≡ false = sym yes ∙ no in
+        let holds : b ≡ true = decides.1 (ap (λ y. y.path) own ∙ q) in
+        let wrong : true ≡ false = sym holds ∙ off in
         cc
     by_place false t =
         let other : (k ≡ n → ⊥) = grind (arith, nat_tests) in
@@ -58,4 +58,4 @@ none_at_all fs left path n h e before k g small there q =
 
 pub none_numbered : (fs left rest : List Function) (path : List ℕ) (n : ℕ) (x : Function) (b : Bool) → left ≡ drop n fs → left ≡ x ∷ rest → (IsTrue b ↔ (x.path ≡ path)) → b ≡ false → n ≡ 2 ^ 32 - 1 → None_before fs path n
     → (k : ℕ) (g : Function) → k < 2 ^ 32 → slice_get fs k ≡ Some g → g.path ≡ path → ⊥
-none_numbered fs left rest path n x b h e decides no last before k g small there q = none_on fs left rest path n x b h e decides no before k g (omega (arith, last, small)) there q
+none_numbered fs left rest path n x b h e decides off last before k g small there q = none_on fs left rest path n x b h e decides off before k g (omega (arith, last, small)) there q

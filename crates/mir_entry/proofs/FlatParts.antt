@@ -168,3 +168,11 @@ pub fields_done : (f : ℕ → Value → Option (List ℤ)) (trees : List Tree) 
     → fields ≡ [] → b ≡ nat_eq (length values) 0 → both (Some (map integer_in ns)) (flat_by f (fields_tree trees fields) (fields_of values)) ≡ whole → whole ≡ pushed b ns
 fields_done f trees fields [] b ns whole e g kept = let yes : b ≡ true = g in sym kept ∙ rw (e, yes) (flat_done f (map integer_in ns))
 fields_done f trees fields (v ∷ vs) b ns whole e g kept = let no : b ≡ false = g ∙ not_zero (length vs) in sym kept ∙ rw (e, no) (flat_over f (value_of v) (fields_of vs) (map integer_in ns))
+
+pub scalar_is : (t : Tree) (s : ScalarTy) → Some s ≡ scalar_in t → t ≡ scalar s
+scalar_is (scalar x) s h = let same : s ≡ x = cc in ap scalar (sym same)
+scalar_is empty s h = absurd cc
+scalar_is (more t ts) s h = absurd cc
+scalar_is (ref t) s h = absurd cc
+scalar_is (ref_mut t) s h = absurd cc
+scalar_is (named d) s h = absurd cc

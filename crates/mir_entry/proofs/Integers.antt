@@ -86,5 +86,5 @@ in_range t (negsuc m) e = by_test (nat_lt m (negatives t)) refl
 -- the bits that an integer has in a type stand for it
 pub bits_for : (t : ScalarTy) (z : ℤ) (n : ℕ) → exactly t z ≡ Some n → Bits t z n
 bits_for t z n h =
-    let (yes, same) = within t z (fits t z) refl n h in
-    subst (Bits t z) (sym same) (in_range t z yes)
+    let (inside, same) = within t z (fits t z) refl n h in
+    subst (Bits t z) (sym same) (in_range t z inside)

@@ -49,6 +49,7 @@ pair_sound I G t ts v vs is mid rest a b = record {
 }
 
 sound_by : (F : ℕ → List ℤ → Reading) (I : ℕ → Value → Bool) (G : ℕ → Value → Option (List ℤ)) → Sound F I G → (t : Tree) (is : List ℤ) (v : Value) (rest : List ℤ) → read_by F t is ≡ Some (v, rest) → Front (is_by I t v) (flat_by G t v) is rest
+unfolding ◌>>=◌
 sound_by F I G def (scalar s) [] v rest h = absurd cc
 sound_by F I G def (scalar s) (i ∷ is) v rest h = scalar_sound s i is v rest (exactly s i) refl h I G
 sound_by F I G def empty is v rest h =
@@ -58,7 +59,6 @@ sound_by F I G def empty is v rest h =
 sound_by F I G def (more t ts) is v rest h = by_first (read_by F t is) refl h
   where
     by_second : (x : Value × List ℤ) → read_by F t is ≡ Some x → (y : Reading) → read_by F ts x.1 ≡ y → (y >>= λ z. Some (cons x.0 z.0, z.1)) ≡ Some (v, rest) → Front (is_by I (more t ts) v) (flat_by G (more t ts) v) is rest
-    unfolding ◌>>=◌
     by_second x e None g k = absurd cc
     by_second x e (Some y) g k =
         let pair : ◌≡◌ {A = Value × List ℤ} (cons x.0 y.0, y.1) (v, rest) = cc in
