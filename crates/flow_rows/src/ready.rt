@@ -1,13 +1,12 @@
-ghost use Rattle.std.specs.Prelude.{◌≡◌, ◌<◌, ◌^◌, IsTrue, length};
+ghost use Rattle.std.specs.Prelude.{◌≡◌, ◌<◌, ◌^◌, length};
 ghost use Rattle.std.specs.Bool.{OnTrue};
 ghost use Rattle.std.specs.List.{list_all};
-ghost use Rattle.mir_syntax.specs.Table.{all_below};
 ghost use Rattle.mir_syntax.specs.Ids.{rvalue_below};
 ghost use Rattle.mir_rules.specs.Parts.{targets};
-ghost use Rattle.dead_store.specs.Rounds.{set_locals, IsReady};
-ghost use Rattle.flow_rows.specs.Ready.{are_below, stmt_fits, block_fits, body_fits};
+ghost use Rattle.dead_store.specs.Rounds.{IsReady};
+ghost use Rattle.flow_rows.specs.Ready.{are_below, arm_fits, id_fits, stmt_fits, block_fits, body_fits};
 
-use mir_syntax::{Block, Body, Program, Rvalue, Stmt, Term};
+use mir_syntax::{Arm, Block, Body, Program, Rvalue, Stmt, Term, TyId};
 
 fn rvalue_fits(types: u32, rvalue: &Rvalue) -> bool
     ensures { result ≡ rvalue_below types rvalue.now }
@@ -37,6 +36,12 @@ fn statement_fits(types: u32, locals: u32, stmt: &Stmt) -> bool
     }
 }
 
+fn arms_fit(blocks: u32, arms: &[Arm]) -> bool
+    ensures { result ≡ list_all (arm_fits blocks) arms.now }
+{
+    arms.iter().all(|arm| arm.block < blocks)
+}
+
 fn edges_fit(blocks: u32, term: &Term) -> bool
     ensures { result ≡ are_below blocks (targets term.now) }
 {
@@ -45,19 +50,36 @@ fn edges_fit(blocks: u32, term: &Term) -> bool
         Term::Drop(_, next) => *next < blocks,
         Term::Call(_, _, _, next) => *next < blocks,
         Term::Assert(_, _, _, _, next) => *next < blocks,
-        Term::Switch(_, arms, other) => {
-            arms.as_slice().iter().all(|arm| arm.block < blocks) && *other < blocks
-        }
+        Term::Switch(_, arms, other) => arms_fit(blocks, arms.as_slice()) & (*other < blocks),
         Term::Return => true,
         Term::Unreachable => true,
     }
 }
 
+fn statements_fit(types: u32, locals: u32, stmts: &[Stmt]) -> bool
+    ensures { result ≡ list_all (stmt_fits types locals) stmts.now }
+{
+    stmts.iter().all(|stmt| statement_fits(types, locals, stmt))
+}
+
 fn one_fits(types: u32, locals: u32, blocks: u32, block: &Block) -> bool
     ensures { result ≡ block_fits types locals blocks block.now }
 {
-    let stmts = block.stmts.as_slice();
-    stmts.iter().all(|stmt| statement_fits(types, locals, stmt)) && edges_fit(blocks, &block.term)
+    statements_fit(types, locals, block.stmts.as_slice()) & edges_fit(blocks, &block.term)
+}
+
+fn all_fit(types: u32, locals: u32, count: u32, blocks: &[Block]) -> bool
+    ensures { result ≡ list_all (block_fits types locals count) blocks.now }
+{
+    blocks
+        .iter()
+        .all(|block| one_fits(types, locals, count, block))
+}
+
+fn ids_fit(types: u32, ids: &[TyId]) -> bool
+    ensures { result ≡ list_all (id_fits types) ids.now }
+{
+    ids.iter().all(|id| id.0 < types)
 }
 
 fn fits(types: u32, body: &Body) -> bool
@@ -67,16 +89,15 @@ fn fits(types: u32, body: &Body) -> bool
 {
     let locals = body.locals.len() as u32;
     let blocks = body.blocks.len() as u32;
-    let all = body.blocks.as_slice();
-    body.locals.as_slice().iter().all(|ty| ty.0 < types)
-        && all
-            .iter()
-            .all(|block| one_fits(types, locals, blocks, block))
+    ids_fit(types, body.locals.as_slice()) & all_fit(types, locals, blocks, body.blocks.as_slice())
 }
 
 /// Whether the ids, edges and written locals of a body are there, so that the passes take it.
 pub fn is_ready(program: &Program, body: &Body) -> bool
     ensures { OnTrue result (IsReady program.now.types body.now) }
 {
-    body.blocks.len() < 1 << 30 && body.locals.len() < 1 << 30 && fits(program.types(), body)
+    if body.blocks.len() >= 1 << 30 || body.locals.len() >= 1 << 30 {
+        return false;
+    }
+    fits(program.types(), body)
 }
