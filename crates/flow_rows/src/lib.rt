@@ -11,5 +11,5 @@ mod ready;
 mod tests;
 
 pub use answers::{borrowed_locals, live_starts, pruned_if_ready, sources, written};
-pub use made::{Made, Types, block, borrowed, constant, copied, part, place, program, target};
+pub use made::{End, Line, Made, block, body, chain, program};
 pub use ready::is_ready;
