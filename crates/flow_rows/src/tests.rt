@@ -2,6 +2,8 @@ use crate::{
     End, Line, body, borrowed_locals, chain, live_starts, program, pruned_if_ready, sources,
     written,
 };
+use mir_syntax::OutOfMemory;
+use std::alloc::Global;
 use std::test::Fail;
 use trim_locals::trimmed;
 
@@ -42,32 +44,40 @@ fn a_result_is_live_along_a_chain(rt: HostRuntime) -> Result<(), Fail> {
     Ok(())
 }
 
-// The last body has the head bb1 of a loop, bb2 that goes back to it, the way out bb3, and bb4, to which no edge leads.
 #[test]
-fn live_locals_are_told(rt: HostRuntime) -> Result<(), Fail> {
+fn a_swap_reads_both_arguments(rt: HostRuntime) -> Result<(), Fail> {
     let alloc = rt.alloc();
     let made = program(alloc)?;
-    let swap = [
+    let lines = [
         Line::Copy(3, 1),
         Line::Copy(1, 2),
         Line::Copy(2, 3),
         Line::Subtract(0, 1, 2),
     ];
-    let swap = [(swap.as_slice(), End::Return)];
-    let body_of_swap = body(alloc, made.byte, 4, swap.as_slice())?;
-    let starts = live_starts(alloc, &made.program, &body_of_swap)?;
-    for (start, want) in starts.iter().zip([[1, 2].as_slice()]) {
-        assert_eq!(rt; start.as_slice(), want);
+    let plan = [(lines.as_slice(), End::Return)];
+    let body = body(alloc, made.byte, 4, plan.as_slice())?;
+    let starts = live_starts(alloc, &made.program, &body)?;
+    assert_eq!(rt; starts.len(), 1);
+    for start in &starts {
+        assert_eq!(rt; start.as_slice(), [1, 2].as_slice());
     }
-    let turns = [
+    Ok(())
+}
+
+// A loop with the head bb1, bb2 that goes back to it and the way out bb3, and bb4, to which no edge leads.
+#[test]
+fn a_loop_carries_what_its_blocks_read(rt: HostRuntime) -> Result<(), Fail> {
+    let alloc = rt.alloc();
+    let made = program(alloc)?;
+    let plan = [
         ([Line::Copy(2, 1)].as_slice(), End::Goto(1)),
         ([].as_slice(), End::Choose(2, 2, 3)),
         ([Line::Copy(2, 3)].as_slice(), End::Goto(1)),
         ([Line::Copy(0, 1)].as_slice(), End::Return),
         ([Line::Copy(0, 4)].as_slice(), End::Goto(1)),
     ];
-    let body_of_turns = body(alloc, made.byte, 5, turns.as_slice())?;
-    let starts = live_starts(alloc, &made.program, &body_of_turns)?;
+    let body = body(alloc, made.byte, 5, plan.as_slice())?;
+    let starts = live_starts(alloc, &made.program, &body)?;
     let wanted = [
         [1, 3].as_slice(),
         [1, 2, 3].as_slice(),
@@ -82,42 +92,43 @@ fn live_locals_are_told(rt: HostRuntime) -> Result<(), Fail> {
     Ok(())
 }
 
-// A call that writes a part of a local leaves the rest, so the local is live before it. A borrowed local stays while the reference is used, and
-// each round asks again what is borrowed.
-#[test]
-fn parts_and_loans_keep_what_is_read(rt: HostRuntime) -> Result<(), Fail> {
-    let alloc = rt.alloc();
+/// The locals that the first block of a pruned body writes.
+fn left(alloc: Global, plan: &[(&[Line], End)]) -> Result<Vec<u32>, OutOfMemory> {
     let made = program(alloc)?;
-    let read = [
-        ([Line::Copy(1, 2)].as_slice(), End::CallInto(1, 0, 1)),
-        ([Line::CopyPart(0, 1, 1)].as_slice(), End::Return),
-    ];
-    let unread = [
-        ([Line::Copy(1, 2)].as_slice(), End::CallInto(1, 0, 1)),
-        ([Line::Constant(0)].as_slice(), End::Return),
-    ];
-    let idle = [Line::Constant(1), Line::Borrow(2, 1), Line::Constant(0)];
-    let idle = [(idle.as_slice(), End::Return)];
-    let used = [
+    let body = body(alloc, made.byte, 3, plan)?;
+    match pruned_if_ready(alloc, &made.program, body)? {
+        Some(body) => written(alloc, &body, 0),
+        None => Ok(Vec::new(alloc)),
+    }
+}
+
+// A call that writes a part of a local leaves the rest of it, but no local is live that nobody reads.
+#[test]
+fn a_call_into_a_part_keeps_what_is_read(rt: HostRuntime) -> Result<(), Fail> {
+    let call = ([Line::Copy(1, 2)].as_slice(), End::CallInto(1, 0, 1));
+    let read = ([Line::CopyPart(0, 1, 1)].as_slice(), End::Return);
+    let unread = ([Line::Constant(0)].as_slice(), End::Return);
+    let kept = left(rt.alloc(), [call, read].as_slice())?;
+    assert_eq!(rt; kept.as_slice(), [1].as_slice());
+    let gone = left(rt.alloc(), [call, unread].as_slice())?;
+    assert!(rt; gone.is_empty());
+    Ok(())
+}
+
+// A borrowed local stays while the reference is used, and each round asks again what is borrowed.
+#[test]
+fn a_borrowed_local_stays_while_it_is_lent(rt: HostRuntime) -> Result<(), Fail> {
+    let lines = [
         Line::Constant(1),
         Line::Borrow(2, 1),
         Line::Store(2),
         Line::Constant(0),
     ];
-    let used = [(used.as_slice(), End::Return)];
-    for (plan, want) in [
-        (read.as_slice(), [1].as_slice()),
-        (unread.as_slice(), [].as_slice()),
-        (idle.as_slice(), [0].as_slice()),
-        (used.as_slice(), [1, 2, 2, 0].as_slice()),
-    ] {
-        let body = body(alloc, made.byte, 3, plan)?;
-        let Some(left) = pruned_if_ready(alloc, &made.program, body)? else {
-            assert!(rt; false);
-            return Ok(());
-        };
-        assert_eq!(rt; written(alloc, &left, 0)?.as_slice(), want);
-    }
+    let used = left(rt.alloc(), [(lines.as_slice(), End::Return)].as_slice())?;
+    assert_eq!(rt; used.as_slice(), [1, 2, 2, 0].as_slice());
+    let lines = [Line::Constant(1), Line::Borrow(2, 1), Line::Constant(0)];
+    let idle = left(rt.alloc(), [(lines.as_slice(), End::Return)].as_slice())?;
+    assert_eq!(rt; idle.as_slice(), [0].as_slice());
     Ok(())
 }
 
@@ -126,25 +137,22 @@ fn edges_and_loans_are_told(rt: HostRuntime) -> Result<(), Fail> {
     let alloc = rt.alloc();
     let made = program(alloc)?;
     let turns = [([].as_slice(), End::Goto(1)), ([].as_slice(), End::Goto(1))];
-    let body_of_turns = body(alloc, made.byte, 1, turns.as_slice())?;
-    let found = sources(alloc, &made.program, &body_of_turns)?;
+    let turning = body(alloc, made.byte, 1, turns.as_slice())?;
+    let found = sources(alloc, &made.program, &turning)?;
+    let wanted = [[].as_slice(), [0, 1].as_slice()];
     assert_eq!(rt; found.len(), 2);
-    for (from, want) in found
-        .as_slice()
-        .iter()
-        .zip([[].as_slice(), [0, 1].as_slice()])
-    {
+    for (from, want) in found.as_slice().iter().zip(wanted) {
         assert_eq!(rt; from.as_slice(), want);
     }
-    let loans = [
+    let lines = [
         Line::Borrow(3, 1),
         Line::Borrow(4, 3),
         Line::Borrow(5, 2),
         Line::Reborrow(5, 4),
     ];
-    let loans = [(loans.as_slice(), End::Return)];
-    let body_of_loans = body(alloc, made.byte, 6, loans.as_slice())?;
-    let lent = borrowed_locals(alloc, &made.program, &body_of_loans)?;
+    let plan = [(lines.as_slice(), End::Return)];
+    let lending = body(alloc, made.byte, 6, plan.as_slice())?;
+    let lent = borrowed_locals(alloc, &made.program, &lending)?;
     assert_eq!(rt; lent.as_slice(), [1, 2, 3].as_slice());
     Ok(())
 }
