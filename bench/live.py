@@ -21,32 +21,24 @@ FILES = {
     "src/main.rt": """//! Times `live` on a chain of blocks and on a ladder of loops.
 #![tactic(auto)]
 
-ghost use Rattle.std.specs.Prelude.{◌<◌, ◌^◌};
-
-use flow_rows::{block, copied, is_ready, place, program};
+use flow_rows::{End, Line, block, is_ready, program};
 use liveness::live;
-use mir_syntax::{Arm, Block, Body, List, Operand, OutOfMemory, Term, TyId};
+use mir_syntax::{Body, List, OutOfMemory, TyId};
 use std::alloc::Global;
 use std::io;
 use std::time::Instant;
 
 const COUNT: u32 = 10000;
 
-fn read_and(alloc: Global, local: u32, term: Term) -> Result<Block, OutOfMemory> {
-    let mut stmts = Vec::new(alloc);
-    stmts.push(copied(place(alloc, 0), place(alloc, local)))?;
-    Ok(block(stmts, term))
-}
-
-/// Goes on to the next block, or back to the one before.
-fn rung(alloc: Global, number: u32) -> Result<Term, OutOfMemory> {
-    let mut arms = Vec::new(alloc);
-    arms.push(Arm {
-        value: 0,
-        block: number.saturating_sub(1),
-    })?;
-    let on = Operand::Copy(place(alloc, number));
-    Ok(Term::Switch(on, List::from_vec(arms), number.saturating_add(1)))
+fn end(number: u32, is_ladder: bool) -> End {
+    let next = number.saturating_add(1);
+    if next == COUNT {
+        End::Return
+    } else if is_ladder {
+        End::Choose(number, number.saturating_sub(1), next)
+    } else {
+        End::Goto(next)
+    }
 }
 
 fn body(alloc: Global, ty: TyId, is_ladder: bool) -> Result<Body, OutOfMemory> {
@@ -54,14 +46,8 @@ fn body(alloc: Global, ty: TyId, is_ladder: bool) -> Result<Body, OutOfMemory> {
     let mut blocks = List::new(alloc);
     for number in 0..COUNT {
         locals.push(ty)?;
-        let term = if number == COUNT - 1 {
-            Term::Return
-        } else if is_ladder {
-            rung(alloc, number)?
-        } else {
-            Term::Goto(number + 1)
-        };
-        blocks.push(read_and(alloc, number, term)?)?;
+        let lines = [Line::Copy(0, number)];
+        blocks.push(block(alloc, lines.as_slice(), end(number, is_ladder))?)?;
     }
     Ok(Body {
         args: 0,
@@ -76,10 +62,10 @@ fn main(rt: HostRuntime) -> io::Result<()> {
         return println!(rt; "out of memory");
     };
     for is_ladder in [false, true] {
-        let Ok(body) = body(alloc, made.types.byte, is_ladder) else {
+        let Ok(body) = body(alloc, made.byte, is_ladder) else {
             return println!(rt; "out of memory");
         };
-        if !is_ready(&made.program, &body) {
+        if body.blocks.is_empty() || !is_ready(&made.program, &body) {
             return println!(rt; "not ready");
         }
         let start = Instant::now(&rt)?;
@@ -88,15 +74,13 @@ fn main(rt: HostRuntime) -> io::Result<()> {
         };
         let time = start.elapsed(&rt)?;
         let mut count = 0u32;
-        if body.blocks.len() > 0 {
-            for local in 0..COUNT {
-                if rows.starts.has(0, local) {
-                    count = count.saturating_add(1);
-                }
+        for local in 0..COUNT {
+            if rows.starts.has(0, local) {
+                count = count.saturating_add(1);
             }
         }
         let name = if is_ladder { "ladder" } else { "chain" };
-        println!(rt; "{name}: {time:?}, {count} locals live at the start")?;
+        println!(rt; "{name}: {time:?}, {count} locals are live at the start")?;
     }
     Ok(())
 }
