@@ -29,3 +29,20 @@ fn nothing_new_changes_no_row(rt: HostRuntime) -> Result<(), Fail> {
     assert!(rt; !rows.or_row(1, 1));
     Ok(())
 }
+
+#[test]
+fn a_long_row_takes_bits_at_the_ends_of_its_blocks(rt: HostRuntime) -> Result<(), Fail> {
+    let mut rows = BitRows::new(rt.alloc(), 2, 1090)?;
+    rows.set(1, 511, true);
+    rows.set(1, 512, true);
+    rows.set(1, 1089, true);
+    assert!(rt; !rows.meets(0, 1));
+    assert!(rt; rows.or_row(0, 1));
+    assert!(rt; rows.get(0, 511) && rows.get(0, 512) && rows.get(0, 1089));
+    assert!(rt; !rows.get(0, 510) && !rows.get(0, 1023) && !rows.get(0, 1088));
+    assert!(rt; !rows.copy_row(0, 1));
+    rows.set(1, 1089, false);
+    assert!(rt; rows.minus_row(0, 1) && !rows.meets(0, 1));
+    assert!(rt; rows.get(0, 1089));
+    Ok(())
+}

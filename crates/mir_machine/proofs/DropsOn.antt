@@ -1,5 +1,5 @@
 -- How drops go on.
-use Rattle.std.proofs.Common.{slice_get, if◌then◌else◌, ◌++◌, not, is_some, ◌≡◌, ℕ, suc, nat_eq, Bool, true, false, List, [], ◌∷◌, length, map, Option, Some, None, refl, sym, ap, ◌∙◌, arith}
+use Rattle.std.proofs.Common.{slice_get, if◌then◌else◌, ◌++◌, not, is_some, ◌≡◌, ℕ, suc, nat_eq, Bool, true, false, List, [], ◌∷◌, length, Option, Some, None, refl, sym, ap, ◌∙◌, arith}
 use Rattle.std.specs.Prelude.{reverse}
 use Rattle.std.specs.Option.{option_map}
 use Rattle.mir_meaning.specs.declared.part.Part.{Part}

@@ -1,19 +1,19 @@
 -- Destinations, and frames that begin.
-use Rattle.std.proofs.Common.{◌≡◌, ℕ, zero, suc, ◌+◌, ◌<◌, ◌≤◌, List, [], ◌∷◌, ◌++◌, map, length, take, drop, get_or, slice_get, Option, Some, None, refl, sym, ap, ◌∙◌, arith, append_assoc}
+use Rattle.std.proofs.Common.{◌≡◌, ℕ, zero, suc, ◌+◌, List, [], ◌∷◌, ◌++◌, map, length, take, drop, slice_get, Option, Some, None, refl, sym, ap, ◌∙◌, arith, append_assoc}
 use Rattle.std.specs.Prelude.{reverse}
 use Rattle.std.specs.Option.{option_map}
 use Rattle.std.proofs.lemmas.Option.{slice_get-map}
-use Rattle.std.proofs.lemmas.List.{map-append, reverse-append, take_all, take_more, append-nil}
+use Rattle.std.proofs.lemmas.List.{map-append, reverse-append}
 use Rattle.mir_syntax.specs.declared.types.TyId.{TyId}
 use Rattle.mir_syntax.specs.declared.body.Place.{Place}
 use Rattle.mir_syntax.specs.declared.body.Function.{Function}
 use Rattle.mir_syntax.specs.declared.program.Program.{Program}
 use Rattle.mir_syntax.specs.Tree.{Tree, trees_of}
-use Rattle.mir_syntax.specs.Crate.{TypedBody, function_of, body_of, crate_of}
-use Rattle.mir_syntax.specs.Shapes.{Shape, ◌>>=◌}
+use Rattle.mir_syntax.specs.Crate.{TypedBody, function_of, body_of}
+use Rattle.mir_syntax.specs.Shapes.{Shape}
 use Rattle.mir_semantics.specs.Values.{Addr, Value, blank}
 use Rattle.mir_semantics.specs.Memory.{Memory, open_frame}
-use Rattle.mir_semantics.specs.Step.{Code, Here, Dest, Control, Called, State, Next, on, body_in, code_of, resolve, type_of, guard_of, dest_of, blanks, first_of, new_slots, entered, enter}
+use Rattle.mir_semantics.specs.Step.{Code, Here, Dest, Control, State, on, body_in, resolve, type_of, dest_of, blanks, first_of, new_slots, entered, enter}
 use Rattle.mir_meaning.proofs.Binds.{bind_at, bind_gone}
 use Rattle.mir_machine.specs.Seen.{code_in}
 
@@ -48,23 +48,19 @@ pub enter_nowhere : (C : Code) (s : State) (m : Memory) (c : Control) (g : ℕ) 
 unfolding enter
 enter_nowhere C s m c g args d e = bind_gone _ _ e
 
-state_same : (m m' : Memory) (t : Control) (cs cs' : List Control) (n n' : ℕ) (ans : List ℕ) (r : List Called) → m ≡ m' → cs ≡ cs' → n ≡ n'
-    → ◌≡◌ {A = Option Next} (Some (on (record { memory = m; top = t; callers = cs; next = n; answers = ans; trace = r }))) (Some (on (record { memory = m'; top = t; callers = cs'; next = n'; answers = ans; trace = r })))
-state_same m m' t cs cs' n n' ans r e f g =
-    ap (λ x. Some (on (record { memory = x; top = t; callers = cs; next = n; answers = ans; trace = r }))) e
-    ∙ (ap (λ x. Some (on (record { memory = m'; top = t; callers = x; next = n; answers = ans; trace = r }))) f
-    ∙ ap (λ x. Some (on (record { memory = m'; top = t; callers = cs'; next = x; answers = ans; trace = r }))) g)
-
 abbrev pub first_control : ℕ → ℕ → Option Dest → Control
 first_control g f d = record { function = g; frame = f; block = 0; at = 0; dropping = None; dest = d }
 
-pub enter_there : (C : Code) (s : State) (m m' : Memory) (c t : Control) (g : ℕ) (args slots : List Value) (d : Option Dest) (b : TypedBody) (cs : List Control) → slice_get C.bodies g ≡ Some b → slots ≡ new_slots C.shapes b.locals args
-    → m' ≡ open_frame m s.next slots → cs ≡ c ∷ s.callers → t ≡ first_control g s.next d
-    → enter C s m c g args d ≡ Some (on (record { memory = m'; top = t; callers = cs; next = s.next + 1; answers = s.answers; trace = s.trace }))
+pub enter_there : (C : Code) (s : State) (m m' : Memory) (c t : Control) (g : ℕ) (args slots : List Value) (d : Option Dest) (b : TypedBody) (cs : List Control) (f : ℕ) → slice_get C.bodies g ≡ Some b → slots ≡ new_slots C.shapes b.locals args
+    → f ≡ s.next → m' ≡ open_frame m f slots → cs ≡ c ∷ s.callers → t ≡ first_control g f d
+    → enter C s m c g args d ≡ Some (on (record { memory = m'; top = t; callers = cs; next = suc f; answers = s.answers; trace = s.trace }))
 unfolding enter entered
-enter_there C s m m' c t g args slots d b cs e f h k w =
-    bind_at _ b _ e ∙ (state_same _ _ _ _ _ _ _ _ _ (sym (h ∙ ap (open_frame m s.next) f)) (sym k) (let one : suc s.next ≡ s.next + 1 = omega arith in one)
-    ∙ ap (λ x. Some (on (record { memory = m'; top = x; callers = cs; next = s.next + 1; answers = s.answers; trace = s.trace }))) (sym w))
+enter_there C s m m' c t g args slots d b cs f e h q k w z =
+    bind_at _ b _ e
+    ∙ (ap (λ x. Some (on (record { memory = open_frame m x (new_slots C.shapes b.locals args); top = first_control g x d; callers = c ∷ s.callers; next = suc x; answers = s.answers; trace = s.trace }))) (sym q)
+    ∙ (ap (λ x. Some (on (record { memory = x; top = first_control g f d; callers = c ∷ s.callers; next = suc f; answers = s.answers; trace = s.trace }))) (sym (k ∙ ap (open_frame m f) h))
+    ∙ (ap (λ x. Some (on (record { memory = m'; top = first_control g f d; callers = x; next = suc f; answers = s.answers; trace = s.trace }))) (sym w)
+    ∙ ap (λ x. Some (on (record { memory = m'; top = x; callers = cs; next = suc f; answers = s.answers; trace = s.trace }))) (sym z))))
 
 pub newest_first : {X Y : Type 0} (f : X → Y) (xs : List X) (x : X) → map f (reverse (xs ++ x ∷ [])) ≡ f x ∷ map f (reverse xs)
 newest_first f xs x = ap (map f) (reverse-append xs (x ∷ []))

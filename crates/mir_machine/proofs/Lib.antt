@@ -2,3 +2,11 @@ pub mod Entering
 pub mod Visiting
 pub mod DropsOn
 pub mod Bits
+pub mod Orders
+pub mod Whole
+pub mod Ending
+pub mod Frames
+pub mod Messages
+pub mod Starting
+pub mod Stepping
+pub mod Shown

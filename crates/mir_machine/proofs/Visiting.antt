@@ -1,13 +1,12 @@
 -- Items of drops, the next one last.
-use Rattle.std.proofs.Common.{Bool, true, false, if◌then◌else◌, slice_get, ◌≡◌, ℕ, zero, suc, ◌+◌, ◌-◌, ◌<◌, ◌≤◌, IsTrue, List, [], ◌∷◌, ◌++◌, map, length, drop, get_or, Option, Some, None, refl, sym, ap, subst, ◌∙◌, arith, append_assoc, add-one, drop-cons}
-use Rattle.std.specs.Prelude.{reverse}
+use Rattle.std.proofs.Common.{Bool, true, false, if◌then◌else◌, slice_get, ◌≡◌, ℕ, suc, ◌+◌, ◌<◌, IsTrue, List, [], ◌∷◌, ◌++◌, map, length, drop, get_or, Option, Some, None, refl, sym, ap, subst, ◌∙◌, arith, append_assoc, drop-cons}
 use Rattle.std.proofs.lemmas.List.{drop_all, reverse-append}
 use Rattle.mir_syntax.specs.declared.types.TyId.{TyId}
 use Rattle.mir_syntax.specs.declared.types.Field.{Field}
 use Rattle.mir_syntax.specs.declared.body.Proj.{Proj}
 use Rattle.mir_syntax.specs.declared.body.Proj.TheVariants as proj
 use Rattle.mir_syntax.specs.declared.program.Program.{Program}
-use Rattle.mir_syntax.specs.Tree.{Tree, empty, more, at_id, at_ids, trees_of, node}
+use Rattle.mir_syntax.specs.Tree.{Tree, at_id, at_ids, trees_of, node}
 use Rattle.mir_syntax.specs.declared.types.Ty.{Ty}
 use Rattle.mir_syntax.specs.declared.types.Ty.TheVariants.{Scalar, Tuple, Ref, RefMut, Named}
 use Rattle.mir_syntax.specs.Shapes.{Shape, fields_tree, fields_of_struct, struct_fields, variant_of_enum, ◌>>=◌}

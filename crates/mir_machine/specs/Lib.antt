@@ -1,1 +1,5 @@
 pub mod Seen
+pub mod Ends
+pub mod Ordered
+pub mod Runs
+pub mod Sound

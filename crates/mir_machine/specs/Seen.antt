@@ -1,9 +1,8 @@
 -- What a machine stands for, for a program.
-use Rattle.std.specs.Prelude.{ℕ, List, [], ◌∷◌, ◌++◌, map, reverse, drop, Option, None, Some, option_map}
+use Rattle.std.specs.Prelude.{ℕ, suc, List, [], ◌∷◌, ◌++◌, map, reverse, drop, Option, None, Some, option_map}
 use Rattle.mir_syntax.specs.declared.body.Proj.TheVariants.{Downcast}
 use Rattle.mir_semantics.specs.Values.{Addr}
 use Rattle.mir_syntax.specs.declared.body.Proj.{Proj}
-use Rattle.mir_syntax.specs.declared.types.FnId.{FnId}
 use Rattle.mir_syntax.specs.declared.program.Program.{Program}
 use Rattle.mir_syntax.specs.Crate.{crate_of}
 use Rattle.mir_syntax.specs.declared.body.Place.{Place}
@@ -43,7 +42,7 @@ called_as c = record { outside = c.out.0; args = c.args; answer = c.answer }
 
 -- the newest caller and the newest call stand first there
 abbrev pub state_in : Program → Machine → sem.State
-state_in p m = record { memory = memory_of m.memory; top = control_in p m.top; callers = map (control_in p) (reverse m.callers); next = m.next; answers = drop m.asked m.answers; trace = map called_as (reverse m.trace) }
+state_in p m = record { memory = memory_of m.memory; top = control_in p m.top; callers = map (control_in p) (reverse m.callers); next = suc m.last; answers = drop m.asked m.answers; trace = map called_as (reverse m.trace) }
 
 -- the variant of what stands at an address, where one is named
 abbrev pub path_inside : List Proj → Option ℕ → List Proj

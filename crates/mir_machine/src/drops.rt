@@ -26,7 +26,13 @@ use std::alloc::Global;
 use std::mem;
 
 /// A drop begins with the visit of its place.
-pub fn begin(alloc: Global, here: Here<'_>, memory: &Memory, place: &Place, target: u32) -> Result<Dropping, Stop>
+pub fn begin(
+    alloc: Global,
+    here: Here<'_>,
+    memory: &Memory,
+    place: &Place,
+    target: u32,
+) -> Result<Dropping, Stop>
     requires { IsTrue (path_formed place.now.proj) }
     ensures { Gives result (begun (here_of here.entry) (memory_of memory.now) place.now target) (λ dropping. dropping_in here.entry.program.now dropping) }
 {
@@ -81,7 +87,12 @@ impl Machine {
     }
 
     /// Goes on with the items that are left; where none is, the place becomes blank and the drop is done.
-    pub fn work_on(&mut self, alloc: Global, program: &Program, dropping: Dropping) -> Result<(), Stop>
+    pub fn work_on(
+        &mut self,
+        alloc: Global,
+        program: &Program,
+        dropping: Dropping,
+    ) -> Result<(), Stop>
         requires { KnowsDrops program.now }
         ensures goes { Gives result
             (sem.work_on (shapes_in program.now) (state_in program.now self.old) (control_in program.now self.old.top) (dropping_in program.now dropping) (items_in program.now dropping.items))
@@ -97,15 +108,23 @@ impl Machine {
             return Err(Stop::Undefined);
         }
         let blank = blank(alloc, program, dropping.place.ty)?;
-        self.memory.write(at.frame, at.local, at.path.as_slice(), blank);
+        self.memory
+            .write(at.frame, at.local, at.path.as_slice(), blank);
         self.go_to(dropping.target);
         Ok(())
     }
 
     /// The visit of a place that isn't a hole: its destructor is called with `&mut` of it, else its fields come next.
-    fn visit(&mut self, alloc: Global, program: &Program, dropping: Dropping, visit: Visit, active: Option<u32>) -> Result<(), Stop>
+    fn visit(
+        &mut self,
+        alloc: Global,
+        program: &Program,
+        dropping: Dropping,
+        visit: Visit,
+        active: Option<u32>,
+    ) -> Result<(), Stop>
         requires knows { KnowsDrops program.now }
-        requires room { self.old.next < 2 ^ 64 - 1 }
+        requires room { self.old.last < 2 ^ 64 - 1 }
         ensures goes { (v : Value) → variant_in v ≡ active → Gives result
             (sem.visit (code_in program.now) (state_in program.now self.old) (dropping_in program.now dropping) (visit_in program.now visit) (items_in program.now dropping.items) v (destructor_of (shapes_in program.now) (type_in program.now visit.ty)))
             (λ _. on (state_in program.now self.new)) }
@@ -127,7 +146,7 @@ impl Machine {
     /// One item: a type that needs no drop isn't looked at, and a hole has nothing to drop.
     fn work_off(&mut self, alloc: Global, program: &Program, dropping: Dropping) -> Result<(), Stop>
         requires knows { KnowsDrops program.now }
-        requires room { self.old.next < 2 ^ 64 - 1 }
+        requires room { self.old.last < 2 ^ 64 - 1 }
         ensures goes { Gives result
             (sem.work_off (code_in program.now) (state_in program.now self.old) (dropping_in program.now dropping) (items_in program.now dropping.items))
             (λ _. on (state_in program.now self.new)) }
@@ -151,10 +170,16 @@ impl Machine {
     }
 
     /// A step of the drop of a place.
-    pub fn drop_step(&mut self, alloc: Global, here: Here<'_>, place: &Place, target: u32) -> Result<(), Stop>
+    pub fn drop_step(
+        &mut self,
+        alloc: Global,
+        here: Here<'_>,
+        place: &Place,
+        target: u32,
+    ) -> Result<(), Stop>
         requires formed { IsTrue (path_formed place.now.proj) }
         requires knows { KnowsDrops here.program.now }
-        requires room { self.old.next < 2 ^ 64 - 1 }
+        requires room { self.old.last < 2 ^ 64 - 1 }
         ensures goes { Gives result
             (dropped (code_in here.entry.program.now) (here_of here.entry) (state_in here.entry.program.now self.old) place.now target)
             (λ _. on (state_in here.entry.program.now self.new)) }

@@ -30,8 +30,8 @@ pub struct Machine {
     pub top: Control,
     /// The newest caller last.
     pub callers: List<Control>,
-    /// The number of the next frame.
-    pub next: u64,
+    /// The greatest number that a frame was given.
+    pub last: u64,
     pub answers: List<u128>,
     /// How many of the answers were taken.
     pub asked: usize,
@@ -41,9 +41,16 @@ pub struct Machine {
 
 impl Machine {
     /// A new frame of a function, on top of the one that stood there.
-    pub fn enter(&mut self, alloc: Global, program: &Program, function: FnId, args: List<Datum>, dest: Option<Dest>) -> Result<(), Stop>
+    pub fn enter(
+        &mut self,
+        alloc: Global,
+        program: &Program,
+        function: FnId,
+        args: List<Datum>,
+        dest: Option<Dest>,
+    ) -> Result<(), Stop>
         requires knows { KnowsDrops program.now }
-        requires room { self.old.next < 2 ^ 64 - 1 }
+        requires room { self.old.last < 2 ^ 64 - 1 }
         ensures goes { Gives result
             (sem.enter (code_in program.now) (state_in program.now self.old) (memory_of self.old.memory) (control_in program.now self.old.top) function.0 (map value_of args) (option_map (dest_in program.now) dest))
             (λ _. on (state_in program.now self.new)) }
@@ -53,7 +60,7 @@ impl Machine {
             return Err(Stop::Undefined);
         };
         let slots = new_slots(alloc, program, callee.body.locals.as_slice(), args)?;
-        let frame = self.next;
+        let frame = self.last + 1;
         self.memory.open(frame, slots)?;
         let control = Control {
             function,
@@ -65,7 +72,7 @@ impl Machine {
         };
         let caller = mem::replace(&mut self.top, control);
         self.callers.push(caller)?;
-        self.next = frame + 1;
+        self.last = frame;
         Ok(())
     }
 }

@@ -11,7 +11,12 @@ use mir_syntax::{List, OutOfMemory, Program, TyId};
 use std::alloc::Global;
 
 /// Puts the blanks of types at the end.
-fn push_blanks(alloc: Global, program: &Program, slots: &mut List<Datum>, types: &[TyId]) -> Result<(), OutOfMemory>
+fn push_blanks(
+    alloc: Global,
+    program: &Program,
+    slots: &mut List<Datum>,
+    types: &[TyId],
+) -> Result<(), OutOfMemory>
     requires { KnowsDrops program.now }
     ensures { OnOk result (map value_of slots.new ≡ map value_of slots.old ++ blanks (shapes_in program.now) (map (type_in program.now) types.now)) }
 {
@@ -39,7 +44,12 @@ fn first(locals: &[TyId]) -> &[TyId]
 }
 
 /// The locals of a new frame: the arguments, and all others blank.
-pub fn new_slots(alloc: Global, program: &Program, locals: &[TyId], args: List<Datum>) -> Result<List<Datum>, OutOfMemory>
+pub fn new_slots(
+    alloc: Global,
+    program: &Program,
+    locals: &[TyId],
+    args: List<Datum>,
+) -> Result<List<Datum>, OutOfMemory>
     requires { KnowsDrops program.now }
     ensures { IfOk result (λ slots. map value_of slots ≡ sem.new_slots (shapes_in program.now) (map (type_in program.now) locals.now) (map value_of args)) }
 {

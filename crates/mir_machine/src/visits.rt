@@ -16,7 +16,12 @@ use mir_syntax::{Copied, Field, List, OutOfMemory, Program, Proj, Ty, TyId};
 use std::alloc::Global;
 
 /// The path of a field, of a variant where one is named.
-fn field_path(alloc: Global, path: &List<Proj>, variant: Option<u32>, field: u32) -> Result<List<Proj>, OutOfMemory>
+fn field_path(
+    alloc: Global,
+    path: &List<Proj>,
+    variant: Option<u32>,
+    field: u32,
+) -> Result<List<Proj>, OutOfMemory>
     ensures { IfOk result (λ made. made ≡ path_inside path.now variant ++ Proj.Field field ∷ []) }
 {
     let mut made = path.copied(alloc)?;
@@ -28,7 +33,12 @@ fn field_path(alloc: Global, path: &List<Proj>, variant: Option<u32>, field: u32
 }
 
 /// The address of a field, of a variant where one is named. A number that no `u32` holds is more than memory has room for.
-fn part(alloc: Global, at: &Pointer, variant: Option<u32>, field: usize) -> Result<Pointer, OutOfMemory>
+fn part(
+    alloc: Global,
+    at: &Pointer,
+    variant: Option<u32>,
+    field: usize,
+) -> Result<Pointer, OutOfMemory>
     ensures { IfOk result (λ part. addr_of part ≡ sem.further (inside (addr_of at.now) variant) (Proj.Field field)) }
 {
     if field > u32::MAX as usize {
@@ -43,7 +53,12 @@ fn part(alloc: Global, at: &Pointer, variant: Option<u32>, field: usize) -> Resu
 }
 
 /// Puts the visits of types in front, the first of them next.
-fn push_types(alloc: Global, items: &mut List<Visit>, at: &Pointer, types: &[TyId]) -> Result<(), OutOfMemory>
+fn push_types(
+    alloc: Global,
+    items: &mut List<Visit>,
+    at: &Pointer,
+    types: &[TyId],
+) -> Result<(), OutOfMemory>
     ensures { OnOk result ((program : Program) → items_in program items.new ≡ field_visits (addr_of at.now) 0 (at_ids (trees_of program.types) types.now) ++ items_in program items.old) }
 {
     let mut k = types.len();
@@ -56,20 +71,36 @@ fn push_types(alloc: Global, items: &mut List<Visit>, at: &Pointer, types: &[TyI
 }
 
 /// Puts the visits of fields in front, the first of them next.
-fn push_fields(alloc: Global, items: &mut List<Visit>, at: &Pointer, variant: Option<u32>, fields: &[Field]) -> Result<(), OutOfMemory>
+fn push_fields(
+    alloc: Global,
+    items: &mut List<Visit>,
+    at: &Pointer,
+    variant: Option<u32>,
+    fields: &[Field],
+) -> Result<(), OutOfMemory>
     ensures { OnOk result ((program : Program) → items_in program items.new ≡ field_visits (inside (addr_of at.now) variant) 0 (fields_tree (trees_of program.types) fields.now) ++ items_in program items.old) }
 {
     let mut k = fields.len();
     while 0 < k {
         k -= 1;
         let at = part(alloc, at, variant, k)?;
-        items.push(Visit { at, ty: fields[k].ty })?;
+        items.push(Visit {
+            at,
+            ty: fields[k].ty,
+        })?;
     }
     Ok(())
 }
 
 /// The same for a definition; of an enum the fields of the variant that is active.
-fn push_def(alloc: Global, program: &Program, items: &mut List<Visit>, visit: &Visit, def: u32, active: Option<u32>) -> Result<(), OutOfMemory>
+fn push_def(
+    alloc: Global,
+    program: &Program,
+    items: &mut List<Visit>,
+    visit: &Visit,
+    def: u32,
+    active: Option<u32>,
+) -> Result<(), OutOfMemory>
     requires { type_in program.now visit.now.ty ≡ named def }
     ensures { OnOk result ((v : Value) → variant_in v ≡ active → items_in program.now items.new ≡ shape_visits (addr_of visit.now.at) (slice_get (shapes_in program.now) def) v ++ items_in program.now items.old) }
 {
@@ -86,7 +117,13 @@ fn push_def(alloc: Global, program: &Program, items: &mut List<Visit>, visit: &V
 }
 
 /// Puts the visits of the fields of a place in front; of an enum those of the variant that is active.
-pub fn push_visits(alloc: Global, program: &Program, items: &mut List<Visit>, visit: &Visit, active: Option<u32>) -> Result<(), OutOfMemory>
+pub fn push_visits(
+    alloc: Global,
+    program: &Program,
+    items: &mut List<Visit>,
+    visit: &Visit,
+    active: Option<u32>,
+) -> Result<(), OutOfMemory>
     ensures { OnOk result ((v : Value) → variant_in v ≡ active → items_in program.now items.new ≡ visits_of (shapes_in program.now) (addr_of visit.now.at) (type_in program.now visit.now.ty) v ++ items_in program.now items.old) }
 {
     let Some(ty) = program.ty_at(visit.ty) else {

@@ -17,7 +17,8 @@ use Rattle.mir_rules.proofs.Lists.{and_true-left, and_true-right}
 use Rattle.mir_rules.proofs.Least.{first_fault_append, either_assoc}
 use Rattle.mir_validate.specs.Codes.{first_code}
 use Rattle.mir_validate.specs.Terms.{ascends_from, ascends}
-use Rattle.mir_validate.specs.Walk.{either, at_line, on_line, statements_broken, blocks_broken}
+use Rattle.mir_validate.specs.Walk.{at_line, on_line, statements_broken, blocks_broken}
+use Rattle.mir_limits.specs.Answer.{either}
 use Rattle.mir_validate.proofs.Seeing.{not_true}
 
 -- ---- ascending codes

@@ -8,6 +8,6 @@ pub mod Faulty
 pub mod FormedParts
 pub mod Located
 pub mod Gathering
-pub mod Fitting
 pub mod Earlier
 pub mod Completing
+pub mod Validated

@@ -13,11 +13,8 @@ use Rattle.mir_syntax.specs.Shapes.{Shape, ◌>>=◌}
 use Rattle.mir_rules.specs.Broken.{Spot, statement, terminator, gather, at_spot, statement_broken, terminator_broken, statement_found, block_found, body_found}
 use Rattle.mir_rules.specs.Faults.{block_lines, line_at, same_lengths, block_fits, by_line}
 use Rattle.mir_rules.proofs.Lists.{and_true-left, and_true-right}
+use Rattle.mir_limits.proofs.Gathered.{map_append}
 use Rattle.mir_validate.specs.Walk.{at_line, statements_broken, block_broken, blocks_broken}
-
-pub map_append : {A B : Type 0} (f : A → B) (xs ys : List A) → map f (xs ++ ys) ≡ map f xs ++ map f ys
-map_append f [] ys = refl
-map_append f (x ∷ xs) ys = ap (λ l. f x ∷ l) (map_append f xs ys)
 
 -- codes at a spot, by the line of the spot
 pub at_spots : (lines : Lines) (spot : Spot) (line : ℕ) (codes : List ℕ) → line_at lines spot ≡ line → map (by_line lines) (map (at_spot spot) codes) ≡ map (at_line line) codes

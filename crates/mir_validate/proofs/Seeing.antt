@@ -1,22 +1,16 @@
 -- The types that are seen, and whether they are those of the table.
-use Rattle.std.proofs.Common.{◌≡◌, ℕ, ◌<◌, Bool, true, false, ◌&&◌, nat_eq, List, [], ◌∷◌, length, Option, Some, None, refl, ap, eqb-true}
+use Rattle.std.proofs.Common.{◌≡◌, ℕ, ◌<◌, Bool, true, false, ◌&&◌, nat_eq, List, [], ◌∷◌, length, None, refl, ap, eqb-true}
 use Rattle.std.proofs.lemmas.Bool.{eqb-false}
 use Rattle.mir_syntax.specs.declared.types.TyId.{TyId}
 use Rattle.mir_syntax.specs.declared.types.ScalarTy.{ScalarTy}
 use Rattle.mir_syntax.specs.declared.types.ScalarTy.TheVariants as scalar_ty
 use Rattle.mir_syntax.specs.declared.types.Ty.{Ty}
 use Rattle.mir_syntax.specs.declared.types.Ty.TheVariants.{Scalar, Tuple, Ref, RefMut, Named}
-use Rattle.mir_syntax.specs.declared.body.Proj.{Proj}
-use Rattle.mir_syntax.specs.declared.body.Proj.TheVariants as proj
-use Rattle.mir_syntax.specs.declared.body.Place.{Place}
 use Rattle.mir_syntax.specs.Tree.{Tree, scalar, more, ref, ref_mut, named, at_id, at_ids, node, trees_of}
 use Rattle.mir_syntax.specs.Table.{IsTable}
-use Rattle.mir_syntax.specs.Shapes.{Shape, place_ty, path_ty, whole_path_ty, whole_place_ty, ends_in_downcast, ◌>>=◌}
 use Rattle.mir_syntax.proofs.OneId.{one-id-each}
-use Rattle.mir_rules.specs.Formed.{path_formed, begins_with_field}
 use Rattle.mir_rules.specs.Same.{same_tree}
 use Rattle.mir_rules.specs.Typing.{scalar_of}
-use Rattle.mir_rules.proofs.Lists.{and_true-right}
 use Rattle.mir_validate.specs.Inside.{flagged}
 use Rattle.mir_rules.proofs.Same.{same_tree_is, same_tree_refl}
 
@@ -25,30 +19,6 @@ use Rattle.mir_rules.proofs.Same.{same_tree_is, same_tree_refl}
 pub not_true : (b : Bool) → (b ≡ true → ⊥) → b ≡ false
 not_true true h = absurd (h refl)
 not_true false h = refl
-
--- ---- whole places
-
-no_end : (ps : List Proj) → path_formed ps ≡ true → ends_in_downcast ps ≡ false
-no_end [] h = refl
-no_end (proj.Field i ∷ []) h = refl
-no_end (proj.Deref ∷ []) h = refl
-no_end (proj.Downcast k ∷ []) h = absurd cc
-no_end (proj.Field i ∷ (q ∷ ps)) h = no_end (q ∷ ps) h
-no_end (proj.Deref ∷ (q ∷ ps)) h = no_end (q ∷ ps) h
-no_end (proj.Downcast k ∷ (q ∷ ps)) h = no_end (q ∷ ps) (and_true-right (begins_with_field (q ∷ ps)) (path_formed (q ∷ ps)) h)
-
-whole_path : (D : List Shape) (t : Tree) (ps : List Proj) → path_formed ps ≡ true → whole_path_ty D t ps ≡ path_ty D t ps
-unfolding whole_path_ty
-whole_path D t ps h = rw (no_end ps h) refl
-
-whole_local : (D : List Shape) (o : Option Tree) (ps : List Proj) → path_formed ps ≡ true → (o >>= λ t. whole_path_ty D t ps) ≡ (o >>= λ t. path_ty D t ps)
-unfolding ◌>>=◌
-whole_local D None ps h = refl
-whole_local D (Some t) ps h = whole_path D t ps h
-
-pub whole_place : (D : List Shape) (locals : List Tree) (p : Place) → path_formed p.proj ≡ true → whole_place_ty D locals p ≡ place_ty D locals p
-unfolding place_ty
-whole_place D locals p h = whole_local D _ p.proj h
 
 -- ---- types of the table, by what they aren't
 

@@ -1,23 +1,17 @@
 -- The walk over a body with its lines, in the shape of the code. No public promise rests on these.
-use Rattle.std.specs.Prelude.{ℕ, List, [], ◌∷◌, ◌++◌, map, Option, Some, None, option_map}
+use Rattle.std.specs.Prelude.{ℕ, List, [], ◌∷◌, ◌++◌, map, Option, option_map}
 use Rattle.mir_syntax.specs.declared.lines.BlockLines.{BlockLines}
 use Rattle.mir_syntax.specs.declared.body.Stmt.{Stmt}
 use Rattle.mir_syntax.specs.declared.body.Block.{Block}
 use Rattle.mir_syntax.specs.Tree.{Tree}
 use Rattle.mir_syntax.specs.Crate.{Crate, stmt_of}
 use Rattle.mir_syntax.specs.Shapes.{Shape}
-use Rattle.mir_text.specs.NameFaults.{earlier}
 use Rattle.mir_rules.specs.Broken.{statement_broken, terminator_broken}
 use Rattle.mir_validate.specs.declared.fault.Broken.{Broken}
 
 -- the line and the code
 abbrev pub place_of : Broken → ℕ × ℕ
 place_of b = (b.line, b.code)
-
--- the fault that is kept of two
-abbrev pub either : Option (ℕ × ℕ) → Option (ℕ × ℕ) → Option (ℕ × ℕ)
-either None b = b
-either (Some a) b = Some (earlier a b)
 
 abbrev pub at_line : ℕ → ℕ → ℕ × ℕ
 at_line line code = (line, code)

@@ -1,5 +1,6 @@
 ghost use Rattle.std.specs.Prelude.{◌≡◌, option_map};
-ghost use Rattle.mir_validate.specs.Walk.{place_of, either, on_line};
+ghost use Rattle.mir_validate.specs.Walk.{place_of, on_line};
+ghost use Rattle.mir_limits.specs.Answer.{either};
 ghost use Rattle.mir_text.specs.NameFaults.{comes_first};
 
 /// A rule that is broken: the line, and the rule's code.

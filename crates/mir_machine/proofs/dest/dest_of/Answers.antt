@@ -1,5 +1,4 @@
-use Rattle.std.proofs.Common.{◌≡◌, ◌∙◌, sym, ap, Some}
-use Rattle.mir_syntax.specs.Shapes.{◌>>=◌}
+use Rattle.std.proofs.Common.{◌∙◌, sym, ap}
 use Rattle.mir_semantics.specs.Step.{guard_of}
 use Rattle.mir_meaning.specs.Programs.{shapes_in, type_in}
 use Rattle.mir_meaning.specs.Spots.{spot_of}

@@ -1,4 +1,4 @@
-use Rattle.std.proofs.Common.{◌≡◌, ◌∙◌, sym, ap, Some, None}
+use Rattle.std.proofs.Common.{◌∙◌, sym, ap, Some, None}
 use Rattle.std.specs.Option.{option_map}
 use Rattle.mir_syntax.specs.Tree.{trees_of, node}
 use Rattle.mir_semantics.specs.Step.{variant_in, left_at}

@@ -1,4 +1,4 @@
-use Rattle.std.proofs.Common.{◌≡◌, ◌∙◌, ◌∷◌, ◌++◌, [], sym, ap, refl}
+use Rattle.std.proofs.Common.{◌∙◌, ◌∷◌, ◌++◌, [], sym, ap}
 use Rattle.mir_meaning.specs.Programs.{type_in}
 use Rattle.mir_meaning.specs.Spots.{spot_of}
 use Rattle.mir_meaning.specs.Views.{memory_of, addr_of}

@@ -1,4 +1,4 @@
-use Rattle.std.proofs.Common.{◌≡◌, ◌∙◌, sym, ap, map, refl}
+use Rattle.std.proofs.Common.{◌∙◌, map}
 use Rattle.mir_meaning.specs.Views.{value_of}
 use Rattle.mir_machine.proofs.Bits.{all_numbers, number_missing, number_next, no_numbers_left}
 use Rattle.mir_machine.proofs.numbers.numbers_in.Goals as goal

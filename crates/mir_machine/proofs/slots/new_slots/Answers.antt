@@ -1,4 +1,4 @@
-use Rattle.std.proofs.Common.{◌≡◌, ◌∙◌, ◌++◌, sym, ap, map, length, take}
+use Rattle.std.proofs.Common.{◌∙◌, ◌++◌, sym, ap, map}
 use Rattle.std.proofs.lemmas.List.{map-append, length-map}
 use Rattle.mir_semantics.specs.Step.{blanks}
 use Rattle.mir_meaning.specs.Programs.{shapes_in, type_in}

@@ -1,11 +1,10 @@
-use Rattle.std.proofs.Common.{◌≡◌, ◌∙◌, ◌++◌, sym, ap, [], Some, None, slice_get}
+use Rattle.std.proofs.Common.{◌∙◌, ◌++◌, sym, ap, slice_get}
 use Rattle.std.proofs.lemmas.Result.{IfOk-weaker}
-use Rattle.mir_syntax.specs.Tree.{trees_of}
-use Rattle.mir_syntax.specs.Shapes.{fields_tree, variant_ty}
+use Rattle.mir_syntax.specs.Shapes.{variant_ty}
 use Rattle.mir_meaning.specs.Programs.{shapes_in}
 use Rattle.mir_meaning.specs.Views.{addr_of}
 use Rattle.mir_machine.specs.Seen.{items_in}
-use Rattle.mir_semantics.specs.Step.{shape_visits, variant_visits, variant_in}
+use Rattle.mir_semantics.specs.Step.{variant_visits}
 use Rattle.mir_machine.proofs.Visiting.{struct_visits, other_visits, enum_visits_are}
 use Rattle.mir_machine.proofs.visits.push_def.Goals as goal
 

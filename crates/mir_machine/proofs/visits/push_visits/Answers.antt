@@ -1,10 +1,10 @@
-use Rattle.std.proofs.Common.{◌≡◌, ◌∙◌, ◌++◌, sym, ap, [], Some, None}
+use Rattle.std.proofs.Common.{◌∙◌, ◌++◌, sym, ap}
 use Rattle.std.proofs.lemmas.Result.{IfOk-weaker}
 use Rattle.mir_syntax.specs.Tree.{trees_of, at_ids, node}
-use Rattle.mir_meaning.specs.Programs.{shapes_in, type_in}
+use Rattle.mir_meaning.specs.Programs.{shapes_in}
 use Rattle.mir_meaning.specs.Views.{addr_of}
 use Rattle.mir_machine.specs.Seen.{items_in}
-use Rattle.mir_semantics.specs.Step.{visits_of, field_visits, variant_in}
+use Rattle.mir_semantics.specs.Step.{visits_of, field_visits}
 use Rattle.mir_machine.proofs.Visiting.{visits_tuple, visits_none}
 use Rattle.mir_machine.proofs.visits.push_visits.Goals as goal
 

@@ -11,9 +11,11 @@ use Rattle.mir_rules.specs.Faults.{by_line}
 use Rattle.mir_rules.proofs.Terminators.{slice_get_there}
 use Rattle.mir_validate.specs.Codes.{first_code}
 use Rattle.mir_validate.specs.Inside.{shapes}
-use Rattle.mir_validate.specs.Walk.{place_of, either, on_line}
-use Rattle.mir_validate.proofs.Gathering.{gathered_more, spot_first, one_ascends}
-use Rattle.mir_validate.proofs.Fitting.{defs_long, definition_line}
+use Rattle.mir_validate.specs.Walk.{place_of, on_line}
+use Rattle.mir_limits.specs.Answer.{either}
+use Rattle.mir_validate.proofs.Gathering.{spot_first, one_ascends}
+use Rattle.mir_limits.proofs.Gathered.{gathered_more}
+use Rattle.mir_limits.proofs.Fitting.{defs_long, definition_line}
 use Rattle.mir_validate.proofs.rules.definitions_fault.Goals as goal
 
 pub bounds-as_slice-at : goal.bounds-as_slice-at
@@ -37,4 +39,4 @@ loop-at-preserved c =
     let code : c.code_if-code.result ≡ first_code codes = c.code_if-code.ensures ∙ ap (λ b. first_code (if_broken b 1)) (c.is_marked.ensures ∙ c.requires.holding at below) in
     let item : option_map place_of c.on_line.result ≡ first_fault (map (by_line lines) (definition_found D at def)) =
     c.on_line.ensures ∙ (ap₂ on_line (ap (λ l. get_or l at 0) c.as_slice.ensures) code ∙ spot_first lines (definition at) line codes (definition_line lines at line there) (one_ascends (breaks_v01 D at) 1)) in
-    c.sooner-found.ensures ∙ (ap₂ either c.loop-at.invariant item ∙ gathered_more lines (definition_found D) C.defs at def is)
+    c.sooner-found.ensures ∙ (ap₂ either c.loop-at.invariant item ∙ gathered_more (by_line lines) (definition_found D) C.defs at def is)

@@ -11,9 +11,11 @@ use Rattle.mir_rules.specs.Broken.{header, header_broken, body_found, at_spot, f
 use Rattle.mir_rules.specs.Faults.{by_line}
 use Rattle.mir_rules.proofs.Lists.{and_true-right, list_all_true-at}
 use Rattle.mir_validate.specs.Inside.{shapes}
-use Rattle.mir_validate.specs.Walk.{place_of, either, on_line}
-use Rattle.mir_validate.proofs.Gathering.{both_walks, spot_first, header_ascends}
-use Rattle.mir_validate.proofs.Fitting.{functions_long, function_blocks, header_line}
+use Rattle.mir_validate.specs.Walk.{place_of, on_line}
+use Rattle.mir_limits.specs.Answer.{either}
+use Rattle.mir_validate.proofs.Gathering.{spot_first, header_ascends}
+use Rattle.mir_limits.proofs.Gathered.{both_walks}
+use Rattle.mir_limits.proofs.Fitting.{functions_long, function_blocks, header_line}
 use Rattle.mir_validate.proofs.rules.function_fault.Goals as goal
 
 pub bounds-as_slice-at-2 : goal.bounds-as_slice-at-2
@@ -54,7 +56,7 @@ returns c = λ function same.
     let codes = header_broken D at (view f) in
     let head : option_map place_of c.on_line-header.result ≡ first_fault (map (by_line lines) (map (at_spot (header at)) codes)) =
     c.on_line-header.ensures ∙ (ap (on_line fl.head) c.header_code.ensures ∙ spot_first lines (header at) fl.head codes (header_line lines at fl there) (header_ascends D at (view f))) in
-    let body : option_map place_of c.body_fault.result ≡ first_fault (map (by_line lines) (body_found C D at (view f).body)) = c.body_fault.ensures lines at there (function_blocks lines p c.requires.fit at fl (view f) there is) in
+    let body : option_map place_of c.body_fault.result ≡ first_fault (map (by_line lines) (body_found C D at (view f).body)) = c.body_fault.ensures lines at there (function_blocks lines C c.requires.fit at fl (view f) there is) in
     let all : option_map place_of c.sooner.result ≡ first_fault (map (by_line lines) (function_found C D at (view f))) =
-    c.sooner.ensures ∙ (ap₂ either head body ∙ both_walks lines (map (at_spot (header at)) codes) (body_found C D at (view f).body)) in
+    c.sooner.ensures ∙ (ap₂ either head body ∙ both_walks (by_line lines) (map (at_spot (header at)) codes) (body_found C D at (view f).body)) in
     all ∙ ap (λ g. first_fault (map (by_line lines) (function_found C D at (view g)))) one

@@ -8,9 +8,11 @@ use Rattle.mir_rules.specs.DefinitionRules.{breaks_v02}
 use Rattle.mir_rules.specs.Broken.{outside, if_broken, outside_found}
 use Rattle.mir_rules.specs.Faults.{by_line}
 use Rattle.mir_validate.specs.Codes.{first_code}
-use Rattle.mir_validate.specs.Walk.{place_of, either, on_line}
-use Rattle.mir_validate.proofs.Gathering.{gathered_more, spot_first, one_ascends}
-use Rattle.mir_validate.proofs.Fitting.{outsides_long, outside_line}
+use Rattle.mir_validate.specs.Walk.{place_of, on_line}
+use Rattle.mir_limits.specs.Answer.{either}
+use Rattle.mir_validate.proofs.Gathering.{spot_first, one_ascends}
+use Rattle.mir_limits.proofs.Gathered.{gathered_more}
+use Rattle.mir_limits.proofs.Fitting.{outsides_long, outside_line}
 use Rattle.mir_validate.proofs.rules.outsides_fault.Goals as goal
 
 pub bounds-as_slice-at-in-loop-at : goal.bounds-as_slice-at-in-loop-at
@@ -36,4 +38,4 @@ loop-at-preserved c =
     let code : c.code_if-code.result ≡ first_code codes = c.code_if-code.ensures ∙ ap (λ b. first_code (if_broken b 2)) c.breaks_v02.ensures in
     let item : option_map place_of c.on_line.result ≡ first_fault (map (by_line lines) (outside_found at (typed o))) =
     c.on_line.ensures ∙ (ap₂ on_line (ap (λ l. get_or l at 0) c.as_slice-in-loop-at.ensures) code ∙ spot_first lines (outside at) line codes (outside_line lines at line there) (one_ascends (breaks_v02 (typed o)) 2)) in
-    c.sooner-found.ensures ∙ (ap₂ either c.loop-at.invariant item ∙ gathered_more lines outside_found C.outsides at (typed o) is)
+    c.sooner-found.ensures ∙ (ap₂ either c.loop-at.invariant item ∙ gathered_more (by_line lines) outside_found C.outsides at (typed o) is)

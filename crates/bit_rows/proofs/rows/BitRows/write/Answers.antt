@@ -1,4 +1,4 @@
-use Rattle.std.proofs.Common.{◌≡◌, ◌<◌, ◌≤◌, [], ap, ◌∙◌, sym, set, get_or, length, arith}
+use Rattle.std.proofs.Common.{[], ap, ◌∙◌, sym, set, arith}
 use Rattle.std.proofs.lemmas.List.{set-get_or, set_past}
 use Rattle.bit_rows.specs.Rows.{row_at}
 use Rattle.bit_rows.specs.Words.{kept_flag}

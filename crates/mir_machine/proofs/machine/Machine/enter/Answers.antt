@@ -1,4 +1,4 @@
-use Rattle.std.proofs.Common.{◌∷◌, ◌≡◌, ◌∙◌, sym, ap, map}
+use Rattle.std.proofs.Common.{arith, suc, ◌+◌, ◌∷◌, ◌≡◌, ◌∙◌, sym, ap, map}
 use Rattle.std.specs.Prelude.{reverse}
 use Rattle.std.specs.Option.{option_map}
 use Rattle.mir_syntax.specs.Tree.{trees_of}
@@ -18,9 +18,9 @@ returns-in_default-clause-goes c =
 pub returns-clause-goes : goal.returns-clause-goes
 returns-clause-goes c =
     enter_there (code_in c.args.program.now) (state_in c.args.program.now c.args.self.now) (memory_of c.args.self.now.memory) (memory_of c.open.new.self) (control_in c.args.program.now c.args.self.now.top) (control_in c.args.program.now c.replace-caller.new.dest) c.args.function.0 (map value_of c.args.args) (map value_of c.in_ok-slots.slots) (option_map (dest_in c.args.program.now) c.args.dest)
-    (body_of (trees_of c.args.program.now.types) c.in-Some.callee.now.body) (map (control_in c.args.program.now) (reverse c.push.new.self))
+    (body_of (trees_of c.args.program.now.types) c.in-Some.callee.now.body) (map (control_in c.args.program.now) (reverse c.push.new.self)) (c.args.self.now.last + 1)
     (body_there c.args.program.now c.args.function.0 c.in-Some.callee.now (sym c.in-Some.ensures))
     (c.in_ok-slots.ensures ∙ ap (λ l. new_slots (shapes_in c.args.program.now) (map (type_in c.args.program.now) l) (map value_of c.args.args)) c.as_slice.ensures)
-    c.in_ok-open.ensures
+    (let one : c.args.self.now.last + 1 ≡ suc c.args.self.now.last = omega arith in one) c.in_ok-open.ensures
     (ap (λ l. map (control_in c.args.program.now) (reverse l)) c.in_ok-push.ensures.ok ∙ (newest_first (control_in c.args.program.now) c.args.self.now.callers c.replace-caller.result ∙ ap (λ x. control_in c.args.program.now x ∷ map (control_in c.args.program.now) (reverse c.args.self.now.callers)) c.replace-caller.ensures.value))
     (ap (control_in c.args.program.now) c.replace-caller.ensures.after)

@@ -1,4 +1,4 @@
-use Rattle.std.proofs.Common.{◌≡◌, ◌∙◌, ◌++◌, ◌∷◌, [], sym, ap, map, Some, None}
+use Rattle.std.proofs.Common.{◌∙◌, ◌++◌, ◌∷◌, [], ap, map, Some}
 use Rattle.mir_syntax.specs.Shapes.{destructor_of}
 use Rattle.mir_semantics.specs.Values.{pointer}
 use Rattle.mir_meaning.specs.declared.datum.Datum.{Ref}

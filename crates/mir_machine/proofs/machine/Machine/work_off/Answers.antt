@@ -1,4 +1,4 @@
-use Rattle.std.proofs.Common.{◌≡◌, ◌∙◌, sym, ap, refl}
+use Rattle.std.proofs.Common.{◌∙◌, sym, ap}
 use Rattle.mir_meaning.specs.Views.{part_of}
 use Rattle.mir_meaning.proofs.Binds.{gives_same}
 use Rattle.mir_machine.specs.Seen.{code_in, dropping_in, visit_in, items_in, state_in}

@@ -1,8 +1,8 @@
-use Rattle.std.proofs.Common.{◌≡◌, ◌∙◌, sym, ap, Some, None}
+use Rattle.std.proofs.Common.{◌∙◌, sym, ap, Some}
 use Rattle.mir_semantics.specs.Memory.{write}
 use Rattle.mir_semantics.specs.Step.{on}
-use Rattle.mir_meaning.specs.Programs.{shapes_in, type_in}
-use Rattle.mir_meaning.specs.Views.{memory_of, addr_of, address, value_of, part_of}
+use Rattle.mir_meaning.specs.Programs.{shapes_in}
+use Rattle.mir_meaning.specs.Views.{memory_of, addr_of, address, value_of}
 use Rattle.mir_machine.specs.Seen.{control_in, dropping_in, items_in, state_in}
 use Rattle.mir_machine.proofs.DropsOn.{work_more, work_nowhere, work_done_at, part_gone, items_empty, items_left}
 use Rattle.mir_machine.proofs.machine.Machine.work_on.Goals as goal

@@ -4,7 +4,8 @@ use Rattle.mir_syntax.specs.Crate.{crate_of}
 use Rattle.mir_rules.specs.Broken.{terminator_broken}
 use Rattle.mir_rules.proofs.Least.{first_fault_append}
 use Rattle.mir_validate.specs.Inside.{shapes, local_types}
-use Rattle.mir_validate.specs.Walk.{either, at_line, on_line, statements_broken}
+use Rattle.mir_validate.specs.Walk.{at_line, on_line, statements_broken}
+use Rattle.mir_limits.specs.Answer.{either}
 use Rattle.mir_validate.proofs.Faulty.{terminator_ascends, line_first}
 use Rattle.mir_validate.proofs.inside.Inside.block_fault.Goals as goal
 

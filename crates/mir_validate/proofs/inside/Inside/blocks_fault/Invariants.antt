@@ -7,7 +7,8 @@ use Rattle.mir_text.specs.NameFaults.{first_fault}
 use Rattle.mir_syntax.specs.Ids.{block_below}
 use Rattle.mir_validate.specs.Terms.{block_whole}
 use Rattle.mir_validate.specs.Inside.{shapes, local_types}
-use Rattle.mir_validate.specs.Walk.{place_of, either, blocks_broken}
+use Rattle.mir_validate.specs.Walk.{place_of, blocks_broken}
+use Rattle.mir_limits.specs.Answer.{either}
 use Rattle.mir_validate.proofs.inside.Inside.blocks_fault.Given as goal
 
 abbrev pub invariant-walk : goal.invariant-walk

@@ -6,7 +6,8 @@ use Rattle.mir_text.specs.NameFaults.{first_fault}
 use Rattle.mir_syntax.specs.Ids.{stmt_below}
 use Rattle.mir_validate.specs.Codes.{stmt_whole}
 use Rattle.mir_validate.specs.Inside.{shapes, local_types}
-use Rattle.mir_validate.specs.Walk.{place_of, either, statements_broken}
+use Rattle.mir_validate.specs.Walk.{place_of, statements_broken}
+use Rattle.mir_limits.specs.Answer.{either}
 use Rattle.mir_validate.proofs.inside.Inside.statements_fault.Given as goal
 
 abbrev pub invariant-stmts : goal.invariant-stmts

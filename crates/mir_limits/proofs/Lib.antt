@@ -1,0 +1,6 @@
+pub mod Gathered
+pub mod Fitting
+pub mod Places
+pub mod Counted
+pub mod Weighed
+pub mod Answered

@@ -1,0 +1,4 @@
+pub mod FirstNames
+pub mod NumberLists
+pub mod Rows
+pub mod Tokens

@@ -1,0 +1,31 @@
+use mir_syntax::{List, Name, Number, OutOfMemory};
+
+/// What the program is asked for.
+#[derive(Debug, Drop)]
+pub enum Command {
+    /// How many functions a crate has.
+    Check,
+    /// A crate's optimised text.
+    Seq,
+    /// A run: the function's path, its arguments, the answers of outside functions modulo 2^128, and the number of steps.
+    Run(Name, List<Number>, List<u128>, u64),
+}
+
+/// Why words are no command.
+#[derive(Clone, Copy, Debug, Drop, PartialEq, Eq)]
+pub enum WordsFault {
+    /// The place of the first word that doesn't fit, counted from 1; the place after the last where one is missing.
+    Bad(u32),
+    OutOfMemory,
+}
+
+impl From<OutOfMemory> for WordsFault {
+    ghost use Rattle.std.specs.Prelude.{◌≡◌};
+    ghost use Rattle.pipe_words.specs.declared.command.WordsFault.TheVariants as fault;
+
+    ghost from_gives = { λ _ e. e ≡ fault.OutOfMemory };
+
+    fn from(_error: OutOfMemory) -> WordsFault {
+        WordsFault::OutOfMemory
+    }
+}
