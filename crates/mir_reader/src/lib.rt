@@ -1,27 +1,38 @@
-//! Reads the text of a crate.
-//!
-//! So far the first form alone is read: one function whose statements assign an operand to a local, and whose terminators are `goto`,
-//! `return` and `unreachable`. `read_first` answers the program of such a text, and refuses exactly the others (`FirstForm`,
-//! `specs/Form.antt`): the text has no comment and names a valid crate (`Reads` of `mir_text`, `Valid` of `mir_rules`) by a derivation of
-//! that form (`specs/First.antt`), with at most 10,000 locals and blocks. `ReadsFirst` (`specs/FirstForm.antt`) says the same by the one
-//! function that is derived (`specs/FirstText.antt`) and the tests of its locals, blocks and types (`specs/Checks.antt`).
+//! Stand-in: the contract of the reader, over a body that refuses. `formed` and `fit` are laws of the crate `read_formed` in the real ones.
 #![tactic(auto)]
 
-mod block;
-mod build;
-mod check;
-mod first;
-mod function;
-mod locals;
-mod number;
-mod operand;
-mod refused;
-mod sign;
-#[cfg(test)]
-mod tests;
-mod text;
-mod tokens;
+ghost use Rattle.std.specs.Prelude.{◌≡◌, ◌≤◌, ℕ, IsTrue, IfOk, Err, length};
+ghost use Rattle.mir_syntax.specs.Crate.{Crate, crate_of};
+ghost use Rattle.mir_syntax.specs.Ids.{IdsInTable};
+ghost use Rattle.mir_text.specs.Reads.{Reads, ReadsWith};
+ghost use Rattle.mir_rules.specs.Formed.{is_formed};
+ghost use Rattle.mir_rules.specs.Faults.{lines_fit};
 
-pub use first::read_first;
-pub use refused::FirstRefused;
-use text::{Declared, FunctionText, SmallTy};
+use mir_syntax::{Lines, Program};
+use std::alloc::Global;
+
+/// The program that a text names, and the lines of its parts.
+#[derive(Drop)]
+pub struct Read {
+    pub program: Program,
+    pub lines: Lines,
+}
+
+/// Why a text names no program: a fault with its line, or want of memory.
+#[derive(Debug, Drop)]
+pub enum ReadRefused {
+    Fault { code: u8, line: u32 },
+    OutOfMemory,
+}
+
+/// The program that a text names.
+pub fn read_program(alloc: Global, bytes: &[u8]) -> Result<Read, ReadRefused>
+    requires { length bytes.now ≤ 67108864 }
+    ensures reads { IfOk result (λ read. ReadsWith bytes.now (crate_of read.program) read.lines) }
+    ensures refuses { (code line : ℕ) → result ≡ Err (ReadRefused.Fault code line) → (C : Crate) → Reads bytes.now C → ⊥ }
+    ensures in_table { IfOk result (λ read. IdsInTable read.program) }
+    ensures formed { IfOk result (λ read. IsTrue (is_formed (crate_of read.program))) }
+    ensures fit { IfOk result (λ read. IsTrue (lines_fit read.lines (crate_of read.program))) }
+{
+    Err(ReadRefused::OutOfMemory)
+}

@@ -1,5 +1,0 @@
-pub mod Inside
-pub mod Codes
-pub mod Terms
-pub mod Walk
-pub mod Complete
