@@ -3,6 +3,7 @@
 
 ghost use Rattle.std.specs.Prelude.{◌≡◌, ◌≤◌, ℕ, IsTrue, IfOk, Ok, Err, Some, None, length};
 ghost use Rattle.mir_syntax.specs.Crate.{Crate, crate_of};
+ghost use Rattle.mir_syntax.specs.Drops.{KnowsDrops};
 ghost use Rattle.mir_syntax.specs.Ids.{IdsInTable};
 ghost use Rattle.mir_rules.specs.Formed.{is_formed};
 ghost use Rattle.mir_rules.specs.Faults.{lines_fit, first_rule, first_limit};
@@ -40,6 +41,8 @@ pub fn validate(alloc: Global, program: Program, lines: &Lines) -> Result<Valid,
     ensures same_ok { IfOk result (λ v. crate_of v.program ≡ crate_of program) }
     ensures valid { IfOk result (λ v. IsValid (crate_of v.program)) }
     ensures within { IfOk result (λ v. Within (crate_of v.program)) }
+    ensures knows { IfOk result (λ v. KnowsDrops v.program) }
+    ensures ids { IfOk result (λ v. IdsInTable v.program) }
     ensures no_rule { IfOk result (λ v. first_rule lines.now (crate_of program) ≡ None) }
     ensures no_limit { IfOk result (λ v. first_limit lines.now (crate_of program) ≡ None) }
     ensures rule { (r : Refused) (code line : ℕ) → result ≡ Err r → r.fault ≡ Fault.Rule code line → first_rule lines.now (crate_of program) ≡ Some (line, code) }

@@ -1,4 +1,1 @@
-pub mod Cleaning
-pub mod FirstForms
-pub mod Answering
-pub mod Refined
+

@@ -1,10 +1,16 @@
 -- What the program answers where no object fails and memory suffices.
-use Rattle.std.specs.Prelude.{ℕ, ◌≡◌, ◌≤◌, ◌⊎◌, List, [], ◌∷◌, ◌++◌, length, map, codes, decimal, Option, Some, None, if◌then◌else◌}
-use Rattle.std.specs.Str.{bytes_eq}
-use Rattle.mir_syntax.specs.Crate.{TypedFunction, Crate}
+use Rattle.std.specs.Prelude.{ℕ, ◌≡◌, ◌⊎◌, List, [], ◌++◌, length, codes, decimal, None, Result, Ok, Err, ⊤}
+use Rattle.mir_syntax.specs.declared.lines.Lines.{Lines}
+use Rattle.mir_syntax.specs.Crate.{Crate}
 use Rattle.mir_text.specs.Text.{text}
-use Rattle.mir_reader.specs.Form.{FirstForm}
-use Rattle.cfg_simplify.specs.Simple.{simple}
+use Rattle.mir_rules.specs.Accepted.{Accepted}
+use Rattle.mir_semantics.specs.Refines.{Refines}
+use Rattle.mirpipe_cli.specs.declared.words.Command.{Command}
+use Rattle.mirpipe_cli.specs.declared.words.Command.TheVariants.{Check, Seq}
+use Rattle.mirpipe_cli.specs.declared.fault.InputFault.{InputFault}
+use Rattle.mirpipe_cli.specs.Words.{asked}
+use Rattle.mirpipe_cli.specs.Passed.{IsPassed, first_drop}
+use Rattle.mirpipe_cli.specs.Refused.{IsAccepted, IsFaulty, IsNoDrop, fault_line}
 
 -- a status, what is written out, and the notes
 pub record Told : Type 0 where
@@ -12,47 +18,53 @@ pub record Told : Type 0 where
   pub out : List ℕ
   pub notes : List ℕ
 
--- ---- words
+-- done, with bytes
+abbrev pub done : List ℕ → Told
+done bytes = record { status = 0; out = bytes; notes = [] }
 
--- the place of the first word that doesn't fit, from 1; the place after the last where one is missing
-abbrev pub misfit : List (List ℕ) → Option ℕ
-misfit [] = Some 1
-misfit (w ∷ []) = if bytes_eq w (codes "seq") then None else Some 1
-misfit (w ∷ v ∷ ws) = if bytes_eq w (codes "seq") then Some 2 else Some 1
-
--- ---- the command `seq`
-
-abbrev pub cleaned_function : TypedFunction → TypedFunction
-cleaned_function f = record { path = f.path; inlining = f.inlining; is_drop = f.is_drop; body = simple f.body }
-
--- a crate with the control flow of each body cleaned
-abbrev pub cleaned : Crate → Crate
-cleaned c = record { defs = c.defs; outsides = c.outsides; functions = map cleaned_function c.functions }
-
-abbrev pub printed : Crate → Told
-printed c = record { status = 0; out = text (cleaned c); notes = [] }
-
-abbrev pub not_first : Told
-not_first = record { status = 1; out = []; notes = codes "S16\n" }
-
--- an input of at most 67,108,864 bytes that is a text of the first form, and the crate that it names
-pub record IsRead (input : List ℕ) (C : Crate) : Type 0 where
-  pub small : length input ≤ 67108864
-  pub first : FirstForm input C
-
--- the cleaned crate of such a text; of every other input that it is none
-abbrev pub Seq : List ℕ → Told → Type 0
-Seq input told = ((C : Crate) × IsRead input C × (told ≡ printed C)) ⊎ (((C : Crate) → IsRead input C → ⊥) × (told ≡ not_first))
-
--- ---- all commands
+abbrev pub refused : InputFault → Told
+refused fault = record { status = 1; out = []; notes = fault_line fault }
 
 abbrev pub word_fault : ℕ → Told
 word_fault k = record { status = 2; out = []; notes = codes "word " ++ (decimal k ++ codes "\n") }
 
-abbrev pub OfWords : Option ℕ → List ℕ → Told → Type 0
-OfWords (Some k) input told = told ≡ word_fault k
-OfWords None input told = Seq input told
+-- ---- commands
+
+-- the faults for which a command refuses an input: a `drop` is one of `seq` alone
+abbrev pub Refuses : Command → InputFault → Type 0
+Refuses Check fault = IsNoDrop fault
+Refuses Seq fault = ⊤
+
+-- `check` counts the functions of an accepted crate
+abbrev pub counted : Crate → List ℕ
+counted C = codes "ok " ++ (decimal (length C.functions) ++ codes "\n")
+
+-- what a command writes of an accepted input: `seq` the text of the crate after the passes, where no body has a `drop`
+abbrev pub Writes : Command → List ℕ → List ℕ → Type 0
+Writes Check input bytes = (C : Crate) × (lines : Lines) × IsAccepted input C lines × (bytes ≡ counted C)
+Writes Seq input bytes = (C : Crate) × (lines : Lines) × IsAccepted input C lines × (first_drop lines C ≡ None) × (D : Crate) × IsPassed C D × (bytes ≡ text D)
+
+-- what is told of a command and an input
+abbrev pub OfCommand : Command → List ℕ → Told → Type 0
+OfCommand command input told = ((bytes : List ℕ) × Writes command input bytes × (told ≡ done bytes)) ⊎ ((fault : InputFault) × Refuses command fault × IsFaulty input fault × (told ≡ refused fault))
+
+-- ---- all words
+
+abbrev pub OfWords : Result Command ℕ → List ℕ → Told → Type 0
+OfWords (Err k) input told = told ≡ word_fault k
+OfWords (Ok command) input told = OfCommand command input told
 
 -- what is told of words and an input
 abbrev pub Answers : List (List ℕ) → List ℕ → Told → Type 0
-Answers words input told = OfWords (misfit words) input told
+Answers words input told = OfWords (asked words) input told
+
+-- ---- what the command `seq` is for
+
+-- bytes are the text of a crate that the passes make of an accepted one, and that refines it
+pub record IsOptimised (input bytes : List ℕ) : Type 0 where
+  pub C : Crate
+  pub D : Crate
+  pub accepted : Accepted input C
+  pub passed : IsPassed C D
+  pub written : bytes ≡ text D
+  pub refines : Refines D C

@@ -1,2 +1,6 @@
-pub mod Sound
+pub mod Words
+pub mod Passed
+pub mod Found
+pub mod Refused
 pub mod Answer
+pub mod Output

@@ -1,13 +1,20 @@
 //! The program as a call: words and bytes in, bytes, a line of notes and a status out.
 //!
-//! `run_quiet` does what the words ask for. What it answers is `Answers` (`specs/Answer.antt`): a relation of words and input to a status,
-//! the bytes that are written and the notes. Its contract says that this is told where no object fails and memory suffices, which
-//! statuses a failure may give, and that what is written is then a front of the answer or nothing. At status 0 it is the text of a crate that
-//! refines the one that was read (`Refines` of `mir_semantics`).
+//! `run_quiet` does what the words ask for (`specs/Words.antt`). What it answers is `Answers` (`specs/Answer.antt`): a relation of words and
+//! input to a status, the bytes that are written and the notes; which inputs are accepted and for what the others are refused is said in
+//! `specs/Refused.antt`. Its contract says that this is told where no object fails and memory suffices, which statuses a failure may give,
+//! and that what is written is then a front of the answer or nothing. What the command `seq` writes is the text of a crate that the passes
+//! (`specs/Passed.antt`) make of the accepted one and that refines it (`Refines` of `mir_semantics`).
 #![tactic(auto)]
 
+mod command;
+mod drops;
+mod fault;
 mod load;
+mod notes;
+mod passes;
 mod run;
+mod words;
 
 pub use run::run_quiet;
 

@@ -1,49 +1,48 @@
-ghost use Rattle.std.specs.Prelude.{◌≡◌, ◌≤◌, List, ℕ, Some, IfOk, OnOk, IsErrOf};
+ghost use Rattle.std.specs.Prelude.{◌≡◌, ◌≤◌, List, ℕ, Some, IfOk, IfErr, OnOk, IsErrOf, IsTrue, length};
 ghost use Rattle.std.specs.Io.KnownBytes.{IsAtEnd};
 ghost use Rattle.pipe_io.specs.Causes.{Rose};
-ghost use Rattle.mir_syntax.specs.Crate.{Crate, crate_of};
-ghost use Rattle.mir_syntax.specs.declared.program.Program.{Program};
-ghost use Rattle.mir_reader.specs.FirstForm.{ReadsFirst};
-ghost use Rattle.mir_print.specs.Plain.{IsPlain};
-ghost use Rattle.mirpipe_cli.specs.Answer.{cleaned, IsRead};
-ghost use Rattle.mirpipe_cli.specs.Sound.{IsSound};
+ghost use Rattle.mir_syntax.specs.Crate.{crate_of};
+ghost use Rattle.mir_syntax.specs.Drops.{KnowsDrops};
+ghost use Rattle.mir_syntax.specs.Ids.{IdsInTable};
+ghost use Rattle.mir_rules.specs.Accepted.{most_bytes};
+ghost use Rattle.mir_rules.specs.Formed.{is_formed};
+ghost use Rattle.mir_rules.specs.Faults.{lines_fit};
+ghost use Rattle.mir_rules.specs.Valid.{Valid, Within};
+ghost use Rattle.mirpipe_cli.specs.Refused.{IsRead, IsAccepted, IsFaulty, OfInput, IsNoDrop};
 
-use cfg_simplify::simple;
-use mir_reader::{FirstRefused, read_first};
-use mir_syntax::{Function, OutOfMemory, Program};
+use crate::fault::{InputFault, Refusal};
+use mir_reader::{Read, ReadRefused, read_program};
+use mir_syntax::{Lines, List, Program};
+use mir_validate::{Fault, validate};
 use pipe_io::{ReadFault, Source, read_all};
 use std::alloc::Global;
 
 const MOST_BYTES: usize = 67_108_864;
 
-/// Why there is nothing to print.
-#[derive(Clone, Copy, Debug, Drop, PartialEq, Eq)]
-pub enum Refusal {
-    ReadFault,
-    OutOfMemory,
-    NotFirst,
+/// The program of an accepted input, and the lines of its parts.
+#[derive(Drop)]
+pub struct Accepted {
+    pub program: Program,
+    pub lines: Lines,
 }
 
-// The program that a source tells.
-fn read_input<S: Source>(alloc: Global, source: &mut S) -> Result<Program, Refusal>
-    ensures read { (input : List ℕ) → S.left source.old ≡ Some input → IfOk result (λ p. IsRead input (crate_of p)) }
-    ensures form { IfOk result (λ p. (bytes : List ℕ) × ReadsFirst bytes p) }
-    ensures not_first { (input : List ℕ) → S.left source.old ≡ Some input → IsErrOf result Refusal.NotFirst → (C : Crate) → IsRead input C → ⊥ }
+// The bytes of an input that is not too long.
+fn read_input<S: Source>(alloc: Global, source: &mut S) -> Result<List<u8>, Refusal>
+    ensures whole { (input : List ℕ) → S.left source.old ≡ Some input → IfOk result (λ bytes. input ≡ bytes) }
+    ensures short { IfOk result (λ bytes. length bytes ≤ most_bytes) }
+    ensures refused { (input : List ℕ) → S.left source.old ≡ Some input → IfErr result (OfInput (λ fault. IsFaulty input fault × IsNoDrop fault)) }
     ensures at_end { OnOk result (IsAtEnd (S.left source.new)) }
     ensures later { S.faults source.old ≤ S.faults source.new }
     ensures fault { IsErrOf result Refusal.ReadFault → Rose (S.faults source.old) (S.faults source.new) }
     ensures kept { OnOk result (S.faults source.new ≡ S.faults source.old) }
-    ensures kept_refused { IsErrOf result Refusal.NotFirst → S.faults source.new ≡ S.faults source.old }
+    ensures kept_refused { IfErr result (OfInput (λ _. S.faults source.new ≡ S.faults source.old)) }
 {
     match read_all(alloc, source, MOST_BYTES) {
         Ok(input) => {
             if input.over {
-                return Err(Refusal::NotFirst);
-            }
-            match read_first(alloc, input.bytes.as_slice()) {
-                Ok(program) => Ok(program),
-                Err(FirstRefused::NotFirst) => Err(Refusal::NotFirst),
-                Err(FirstRefused::OutOfMemory) => Err(Refusal::OutOfMemory),
+                Err(Refusal::Input(InputFault::Long))
+            } else {
+                Ok(input.bytes)
             }
         }
         Err(ReadFault::Failed) => Err(Refusal::ReadFault),
@@ -51,40 +50,67 @@ fn read_input<S: Source>(alloc: Global, source: &mut S) -> Result<Program, Refus
     }
 }
 
-// The program with the control flow of its one function cleaned.
-fn clean(alloc: Global, mut program: Program) -> Result<Program, OutOfMemory>
-    requires { IsSound (crate_of program) }
-    ensures { IfOk result (λ p. crate_of p ≡ cleaned (crate_of program)) }
+// A program that was read, judged by all rules and limits.
+fn judged(alloc: Global, read: Read) -> Result<Accepted, Refusal>
+    requires ids { IdsInTable read.program }
+    requires formed { IsTrue (is_formed (crate_of read.program)) }
+    requires fit { IsTrue (lines_fit read.lines (crate_of read.program)) }
+    ensures accepted { (input : List ℕ) → IsRead input (crate_of read.program) read.lines → IfOk result (λ accepted. IsAccepted input (crate_of accepted.program) accepted.lines) }
+    ensures refused { (input : List ℕ) → IsRead input (crate_of read.program) read.lines → IfErr result (OfInput (λ fault. IsFaulty input fault × IsNoDrop fault)) }
+    ensures valid { IfOk result (λ accepted. Valid (crate_of accepted.program)) }
+    ensures within { IfOk result (λ accepted. Within (crate_of accepted.program)) }
+    ensures knows { IfOk result (λ accepted. KnowsDrops accepted.program) }
+    ensures ids { IfOk result (λ accepted. IdsInTable accepted.program) }
+    ensures no_source { IsErrOf result Refusal.ReadFault → ⊥ }
 {
-    match program.functions.pop() {
-        Some(function) => {
-            let body = simple(alloc, &program, function.body)?;
-            program.functions.push(Function {
-                path: function.path,
-                inline: function.inline,
-                is_drop: function.is_drop,
-                body,
-            })?;
-            Ok(program)
-        }
-        None => unreachable!(),
+    let lines = read.lines;
+    match validate(alloc, read.program, &lines) {
+        Ok(valid) => Ok(Accepted {
+            program: valid.program,
+            lines,
+        }),
+        Err(refused) => match refused.fault {
+            Fault::Rule { code, line } => Err(Refusal::Input(InputFault::Rule { code, line })),
+            Fault::Limit { code, line } => Err(Refusal::Input(InputFault::Limit { code, line })),
+            Fault::OutOfMemory => Err(Refusal::OutOfMemory),
+        },
     }
 }
 
-/// The program to print: what a source tells, with its control flow cleaned. All memory is taken here.
-pub fn load<S: Source>(alloc: Global, source: &mut S) -> Result<Program, Refusal>
-    ensures read { (input : List ℕ) → S.left source.old ≡ Some input → IfOk result (λ p. (C : Crate) × IsRead input C × (crate_of p ≡ cleaned C)) }
-    ensures plain { IfOk result (λ p. IsPlain (crate_of p)) }
-    ensures not_first { (input : List ℕ) → S.left source.old ≡ Some input → IsErrOf result Refusal.NotFirst → (C : Crate) → IsRead input C → ⊥ }
+// The accepted crate of a text.
+fn accept(alloc: Global, bytes: &[u8]) -> Result<Accepted, Refusal>
+    requires { length bytes.now ≤ most_bytes }
+    ensures accepted { IfOk result (λ accepted. IsAccepted bytes.now (crate_of accepted.program) accepted.lines) }
+    ensures refused { IfErr result (OfInput (λ fault. IsFaulty bytes.now fault × IsNoDrop fault)) }
+    ensures valid { IfOk result (λ accepted. Valid (crate_of accepted.program)) }
+    ensures within { IfOk result (λ accepted. Within (crate_of accepted.program)) }
+    ensures knows { IfOk result (λ accepted. KnowsDrops accepted.program) }
+    ensures ids { IfOk result (λ accepted. IdsInTable accepted.program) }
+    ensures no_source { IsErrOf result Refusal.ReadFault → ⊥ }
+{
+    match read_program(alloc, bytes) {
+        Ok(read) => judged(alloc, read),
+        Err(ReadRefused::Fault { code, line }) => {
+            Err(Refusal::Input(InputFault::Text { code, line }))
+        }
+        Err(ReadRefused::OutOfMemory) => Err(Refusal::OutOfMemory),
+    }
+}
+
+/// The accepted crate that a source tells, or why there is none.
+pub fn load<S: Source>(alloc: Global, source: &mut S) -> Result<Accepted, Refusal>
+    ensures accepted { (input : List ℕ) → S.left source.old ≡ Some input → IfOk result (λ accepted. IsAccepted input (crate_of accepted.program) accepted.lines) }
+    ensures refused { (input : List ℕ) → S.left source.old ≡ Some input → IfErr result (OfInput (λ fault. IsFaulty input fault × IsNoDrop fault)) }
+    ensures valid { IfOk result (λ accepted. Valid (crate_of accepted.program)) }
+    ensures within { IfOk result (λ accepted. Within (crate_of accepted.program)) }
+    ensures knows { IfOk result (λ accepted. KnowsDrops accepted.program) }
+    ensures ids { IfOk result (λ accepted. IdsInTable accepted.program) }
     ensures at_end { OnOk result (IsAtEnd (S.left source.new)) }
     ensures later { S.faults source.old ≤ S.faults source.new }
     ensures fault { IsErrOf result Refusal.ReadFault → Rose (S.faults source.old) (S.faults source.new) }
     ensures kept { OnOk result (S.faults source.new ≡ S.faults source.old) }
-    ensures kept_refused { IsErrOf result Refusal.NotFirst → S.faults source.new ≡ S.faults source.old }
+    ensures kept_refused { IfErr result (OfInput (λ _. S.faults source.new ≡ S.faults source.old)) }
 {
-    let program = read_input(alloc, source)?;
-    match clean(alloc, program) {
-        Ok(program) => Ok(program),
-        Err(OutOfMemory) => Err(Refusal::OutOfMemory),
-    }
+    let bytes = read_input(alloc, source)?;
+    accept(alloc, bytes.as_slice())
 }

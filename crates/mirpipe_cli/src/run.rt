@@ -1,59 +1,28 @@
-ghost use Rattle.std.specs.Prelude.{◌≡◌, ◌≢◌, ◌<◌, ◌≤◌, ◌⊎◌, ◌++◌, [], List, ℕ, Some, None, IsSome, map, string_bytes, codes, decimal};
+ghost use Rattle.std.specs.Prelude.{◌≡◌, ◌≢◌, ◌<◌, ◌≤◌, ◌⊎◌, [], List, ℕ, Some, Ok, IsErr, map, string_bytes, codes};
 ghost use Rattle.std.specs.Io.KnownBytes.{Appends, IsAtEnd};
-ghost use Rattle.std.specs.Str.{bytes_eq};
 ghost use Rattle.pipe_io.specs.Causes.{Rose, AppendsFront};
-ghost use Rattle.mir_syntax.specs.Crate.{Crate};
-ghost use Rattle.mir_text.specs.Text.{text};
-ghost use Rattle.mir_semantics.specs.Refines.{Refines};
-ghost use Rattle.mirpipe_cli.specs.Answer.{misfit, cleaned, IsRead, Told, Answers};
+ghost use Rattle.mirpipe_cli.specs.declared.words.Command.TheVariants.{Seq};
+ghost use Rattle.mirpipe_cli.specs.Words.{asked};
+ghost use Rattle.mirpipe_cli.specs.Answer.{Told, Answers, IsOptimised};
 
-use crate::load::{Refusal, load};
-use itoa::Buffer;
-use mir_print::print_program;
-use pipe_io::{Failed, Sink, Source, write_all};
+use crate::command::{work, write};
+use crate::fault::Refusal;
+use crate::notes::{note, note_fault, note_word};
+use crate::words::asked;
+use pipe_io::{Failed, Sink, Source};
 use std::alloc::Global;
 
-fn is_seq(word: &String) -> bool
-    ensures { result ≡ bytes_eq (string_bytes word.now) (codes "seq") }
-{
-    let name = b"seq";
-    word.as_bytes() == name.as_slice()
-}
-
-// The place of the first word that doesn't fit.
-fn misfit(words: &[String]) -> Option<u32>
-    ensures { result ≡ misfit (map string_bytes words.now) }
-{
-    match words {
-        [] => Some(1),
-        [only] => { if is_seq(only) { None } else { Some(1) } }
-        [first, _, ..] => { if is_seq(first) { Some(2) } else { Some(1) } }
-    }
-}
-
-/// Writes a line of notes, or what a fault leaves of it.
-fn note<N: Sink>(notes: &mut N, line: &[u8])
-    ensures later { N.faults notes.old ≤ N.faults notes.new }
-    ensures line { (Rose (N.faults notes.old) (N.faults notes.new) → ⊥) → Appends (N.written notes.old) (N.written notes.new) line.now }
-{
-    let _ = write_all(notes, line);
-}
-
-fn note_word<N: Sink>(notes: &mut N, place: u32)
-    ensures later { N.faults notes.old ≤ N.faults notes.new }
-    ensures line { (Rose (N.faults notes.old) (N.faults notes.new) → ⊥) → Appends (N.written notes.old) (N.written notes.new) (codes "word " ++ (decimal place ++ codes "\n")) }
-{
-    note(notes, b"word ");
-    note(notes, Buffer::new().format(place).as_bytes());
-    note(notes, b"\n");
-}
-
 /// Does what the words ask for, and answers the status.
+///
+/// | Words | What is written at status 0 |
+/// |---|---|
+/// | `check` | `ok F`, F the number of functions |
+/// | `seq` | the text of the crate after the passes |
 ///
 /// | Status | Meaning | Notes |
 /// |---|---|---|
 /// | 0 | done, and the input was read to its end | none |
-/// | 1 | the input is refused | `S16` |
+/// | 1 | the input is refused | code and line, as `S04 line 8`, `V05 line 9`, `L02 line 260000`; or `L01 67108865` |
 /// | 2 | the words fit no command | `word K`, the place of the first that doesn't fit |
 /// | 3 | the source failed | `read fault` |
 /// | 4 | `out` failed, and a front of the answer is written | `write fault` |
@@ -70,8 +39,8 @@ pub fn run_quiet<S: Source, K: Sink, N: Sink>(
     ensures bound { result ≤ 5 }
 
     // When each status comes, whether or not source and sinks tell their bytes.
-    ensures words { IsSome (misfit (map string_bytes words.now)) → (result ≡ 2) ⊎ (result ≡ 5) }
-    ensures words_only { result ≡ 2 → IsSome (misfit (map string_bytes words.now)) }
+    ensures words { IsErr (asked (map string_bytes words.now)) → (result ≡ 2) ⊎ (result ≡ 5) }
+    ensures words_only { result ≡ 2 → IsErr (asked (map string_bytes words.now)) }
     ensures read { result ≡ 3 → Rose (S.faults source.old) (S.faults source.new) }
     ensures read_grew { S.faults source.old < S.faults source.new → (result ≡ 3) ⊎ (result ≡ 5) }
     ensures write { result ≡ 4 → Rose (K.faults out.old) (K.faults out.new) }
@@ -84,11 +53,11 @@ pub fn run_quiet<S: Source, K: Sink, N: Sink>(
         → (told : Told) × Answers (map string_bytes words.now) input told × (result ≡ told.status) × Appends (K.written out.old) (K.written out.new) told.out
         × ((Rose (N.faults notes.old) (N.faults notes.new) → ⊥) → Appends (N.written notes.old) (N.written notes.new) told.notes) }
 
-    // What is written: the text of a crate that refines the one that was read.
-    ensures printed { (input : List ℕ) → S.left source.old ≡ Some input → result ≡ 0
-        → (C : Crate) × IsRead input C × Appends (K.written out.old) (K.written out.new) (text (cleaned C)) × Refines (cleaned C) C }
+    // What `seq` writes: the text of a crate that refines the accepted one.
+    ensures printed { (input : List ℕ) → S.left source.old ≡ Some input → asked (map string_bytes words.now) ≡ Ok Seq → result ≡ 0
+        → (bytes : List ℕ) × IsOptimised input bytes × Appends (K.written out.old) (K.written out.new) bytes }
     ensures front { (input : List ℕ) → S.left source.old ≡ Some input → result ≡ 4
-        → (C : Crate) × IsRead input C × AppendsFront (K.written out.old) (K.written out.new) (text (cleaned C)) }
+        → (told : Told) × Answers (map string_bytes words.now) input told × AppendsFront (K.written out.old) (K.written out.new) told.out }
     ensures nothing { result ≢ 0 → result ≢ 4 → Appends (K.written out.old) (K.written out.new) [] }
 
     // The notes on a failure.
@@ -96,20 +65,23 @@ pub fn run_quiet<S: Source, K: Sink, N: Sink>(
     ensures write_line { result ≡ 4 → (Rose (N.faults notes.old) (N.faults notes.new) → ⊥) → Appends (N.written notes.old) (N.written notes.new) (codes "write fault\n") }
     ensures memory_line { result ≡ 5 → (Rose (N.faults notes.old) (N.faults notes.new) → ⊥) → Appends (N.written notes.old) (N.written notes.new) (codes "out of memory\n") }
 {
-    if let Some(place) = misfit(words) {
-        note_word(notes, place);
-        return 2;
-    }
-    match load(alloc, source) {
-        Ok(program) => match print_program(&program, out) {
+    let command = match asked(words) {
+        Ok(command) => command,
+        Err(place) => {
+            note_word(notes, place);
+            return 2;
+        }
+    };
+    match work(alloc, command, source) {
+        Ok(output) => match write(&output, out) {
             Ok(()) => 0,
             Err(Failed) => {
                 note(notes, b"write fault\n");
                 4
             }
         },
-        Err(Refusal::NotFirst) => {
-            note(notes, b"S16\n");
+        Err(Refusal::Input(fault)) => {
+            note_fault(notes, fault);
             1
         }
         Err(Refusal::ReadFault) => {

@@ -1,0 +1,10 @@
+-- The bytes of what a command writes; no public promise rests on it.
+use Rattle.std.specs.Prelude.{ℕ, List}
+use Rattle.mir_syntax.specs.Crate.{crate_of}
+use Rattle.mir_text.specs.Text.{text}
+use Rattle.mirpipe_cli.specs.declared.command.Output.{Output}
+use Rattle.mirpipe_cli.specs.declared.command.Output.TheVariants.{Line, Crate}
+
+unfoldable pub bytes_of : Output → List ℕ
+bytes_of (Line line) = line
+bytes_of (Crate program) = text (crate_of program)

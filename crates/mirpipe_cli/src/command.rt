@@ -1,0 +1,103 @@
+ghost use Rattle.std.specs.Prelude.{◌≡◌, ◌≤◌, List, ℕ, Some, IfOk, IfErr, OnOk, IsErrOf};
+ghost use Rattle.std.specs.Io.KnownBytes.{IsAtEnd};
+ghost use Rattle.pipe_io.specs.Causes.{Rose};
+ghost use Rattle.mir_syntax.specs.Crate.{Crate, crate_of};
+ghost use Rattle.mir_text.specs.Text.{text};
+ghost use Rattle.mir_rules.specs.Accepted.{Accepted as IsAcceptedText};
+ghost use Rattle.mir_rules.specs.Valid.{Valid, Within};
+ghost use Rattle.mir_semantics.specs.Refines.{Refines};
+ghost use Rattle.mir_print.specs.Prints.{Prints};
+ghost use Rattle.mirpipe_cli.specs.declared.words.Command.TheVariants as command;
+ghost use Rattle.mirpipe_cli.specs.Passed.{IsPassed};
+ghost use Rattle.mirpipe_cli.specs.Refused.{IsAccepted, IsFaulty, OfInput, IsNoDrop};
+ghost use Rattle.mirpipe_cli.specs.Answer.{counted, Writes, Refuses, IsOptimised};
+ghost use Rattle.mirpipe_cli.specs.Output.{bytes_of};
+
+use crate::drops::first_drop;
+use crate::fault::{InputFault, Refusal};
+use crate::load::{Accepted, load};
+use crate::passes::passed;
+use crate::words::Command;
+use itoa::Buffer;
+use mir_print::print_program;
+use mir_syntax::{List, OutOfMemory, Program};
+use pipe_io::{Failed, Sink, Source, write_all};
+use std::alloc::Global;
+
+/// What a command writes.
+#[derive(Drop)]
+pub enum Output {
+    Line(List<u8>),
+    Crate(Program),
+}
+
+// The line of the command `check`.
+fn counted(alloc: Global, program: &Program) -> Result<List<u8>, OutOfMemory>
+    ensures { IfOk result (λ line. line ≡ counted (crate_of program.now)) }
+{
+    let mut line = List::new(alloc);
+    line.extend(b"ok ")?;
+    line.extend(Buffer::new().format(program.functions.len()).as_bytes())?;
+    line.extend(b"\n")?;
+    Ok(line)
+}
+
+fn check(alloc: Global, accepted: Accepted) -> Result<Output, Refusal>
+    ensures writes { (input : List ℕ) → IsAccepted input (crate_of accepted.program) accepted.lines → IfOk result (λ output. Writes command.Check input (bytes_of output)) }
+    ensures refused { IfErr result (OfInput (λ _. ⊥)) }
+    ensures no_source { IsErrOf result Refusal.ReadFault → ⊥ }
+{
+    match counted(alloc, &accepted.program) {
+        Ok(line) => Ok(Output::Line(line)),
+        Err(OutOfMemory) => Err(Refusal::OutOfMemory),
+    }
+}
+
+fn seq(alloc: Global, accepted: Accepted) -> Result<Output, Refusal>
+    requires valid { Valid (crate_of accepted.program) }
+    requires within { Within (crate_of accepted.program) }
+    ensures writes { (input : List ℕ) → IsAccepted input (crate_of accepted.program) accepted.lines → IfOk result (λ output. Writes command.Seq input (bytes_of output)) }
+    ensures refines { (input : List ℕ) → IsAccepted input (crate_of accepted.program) accepted.lines → IfOk result (λ output. IsOptimised input (bytes_of output)) }
+    ensures refused { (input : List ℕ) → IsAccepted input (crate_of accepted.program) accepted.lines → IfErr result (OfInput (IsFaulty input)) }
+    ensures no_source { IsErrOf result Refusal.ReadFault → ⊥ }
+{
+    if let Some(line) = first_drop(&accepted.program, &accepted.lines) {
+        return Err(Refusal::Input(InputFault::Drops { line }));
+    }
+    match passed(alloc, accepted.program) {
+        Ok(program) => Ok(Output::Crate(program)),
+        Err(OutOfMemory) => Err(Refusal::OutOfMemory),
+    }
+}
+
+/// Does the work of a command: what it writes, or why there is nothing to write. All memory is taken here.
+pub fn work<S: Source>(
+    alloc: Global,
+    command: Command,
+    source: &mut S,
+) -> Result<Output, Refusal>
+    ensures writes { (input : List ℕ) → S.left source.old ≡ Some input → IfOk result (λ output. Writes command input (bytes_of output)) }
+    ensures refines { (input : List ℕ) → S.left source.old ≡ Some input → command ≡ command.Seq → IfOk result (λ output. IsOptimised input (bytes_of output)) }
+    ensures refused { (input : List ℕ) → S.left source.old ≡ Some input → IfErr result (OfInput (λ fault. Refuses command fault × IsFaulty input fault)) }
+    ensures at_end { OnOk result (IsAtEnd (S.left source.new)) }
+    ensures later { S.faults source.old ≤ S.faults source.new }
+    ensures fault { IsErrOf result Refusal.ReadFault → Rose (S.faults source.old) (S.faults source.new) }
+    ensures kept { OnOk result (S.faults source.new ≡ S.faults source.old) }
+    ensures kept_refused { IfErr result (OfInput (λ _. S.faults source.new ≡ S.faults source.old)) }
+{
+    let accepted = load(alloc, source)?;
+    match command {
+        Command::Check => check(alloc, accepted),
+        Command::Seq => seq(alloc, accepted),
+    }
+}
+
+/// Writes it. `Failed` comes only where the sink's count of faults rose, and then a front is written. No memory is taken.
+pub fn write<K: Sink>(output: &Output, out: &mut K) -> Result<(), Failed>
+    ensures { Prints (K.written out.old) (K.written out.new) (K.faults out.old) (K.faults out.new) (bytes_of output.now) result }
+{
+    match output {
+        Output::Line(line) => write_all(out, line.as_slice()),
+        Output::Crate(program) => print_program(program, out),
+    }
+}
