@@ -1,1 +1,5 @@
-
+pub mod Bodies
+pub mod Refined
+pub mod Dropping
+pub mod Judging
+pub mod Answering

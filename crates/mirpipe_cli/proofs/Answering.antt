@@ -1,0 +1,36 @@
+-- What is told, from what was read and written.
+use Rattle.std.proofs.Common.{◌≡◌, ℕ, List, [], ◌++◌, Option, Some, None, Result, Ok, Err, inl, inr, refl, sym, subst, ◌∙◌}
+use Rattle.std.proofs.lemmas.List.{append-nil}
+use Rattle.std.specs.Io.KnownBytes.{Consumes, Appends, IsAtEnd}
+use Rattle.mirpipe_cli.specs.declared.words.Command.{Command}
+use Rattle.mirpipe_cli.specs.declared.words.Command.TheVariants.{Check, Seq}
+use Rattle.mirpipe_cli.specs.declared.fault.InputFault.{InputFault}
+use Rattle.mirpipe_cli.specs.Words.{asked}
+use Rattle.mirpipe_cli.specs.Refused.{IsFaulty, IsNoDrop}
+use Rattle.mirpipe_cli.specs.Answer.{done, refused, word_fault, Refuses, Writes, OfWords, Answers}
+
+pub appends_none : (known : Option (List ℕ)) → Appends known known []
+appends_none None = tt
+appends_none (Some xs) = sym (append-nil xs)
+
+-- bytes that were read to the end are the input
+pub whole_input : (old new : Option (List ℕ)) (input bytes : List ℕ) → old ≡ Some input → Consumes old new bytes → IsAtEnd new → input ≡ bytes
+whole_input None new input bytes told taken end = absurd cc
+whole_input (Some xs) None input bytes told taken end = absurd taken
+whole_input (Some xs) (Some ys) input bytes told taken end =
+    let e : xs ≡ input = cc in
+    sym e ∙ taken ∙ (rw end (append-nil bytes))
+
+-- a fault that is no `drop` is one for which each command refuses
+pub refuses_it : (command : Command) (fault : InputFault) → IsNoDrop fault → Refuses command fault
+refuses_it Check fault h = h
+refuses_it Seq fault h = tt
+
+pub answers_word : (words : List (List ℕ)) (input : List ℕ) (k : ℕ) → asked words ≡ Err k → Answers words input (word_fault k)
+answers_word words input k e = subst (λ r. OfWords r input (word_fault k)) (sym e) refl
+
+pub answers_done : (words : List (List ℕ)) (input bytes : List ℕ) (command : Command) → asked words ≡ Ok command → Writes command input bytes → Answers words input (done bytes)
+answers_done words input bytes command e writes = subst (λ r. OfWords r input (done bytes)) (sym e) (inl (bytes, writes, refl))
+
+pub answers_refused : (words : List (List ℕ)) (input : List ℕ) (command : Command) (fault : InputFault) → asked words ≡ Ok command → Refuses command fault → IsFaulty input fault → Answers words input (refused fault)
+answers_refused words input command fault e refuses faulty = subst (λ r. OfWords r input (refused fault)) (sym e) (inr (fault, refuses, faulty, refl))
