@@ -1,12 +1,11 @@
-//! Stand-in: the contract of the reader, over a body that refuses. `formed` and `fit` are laws of the crate `read_formed` in the real ones.
+//! Stand-in: the contract of the reader, over a body that refuses.
 #![tactic(auto)]
 
-ghost use Rattle.std.specs.Prelude.{◌≡◌, ◌≤◌, ℕ, IsTrue, IfOk, Err, length};
+ghost use Rattle.std.specs.Prelude.{◌≡◌, ◌≤◌, ℕ, IfOk, Err, length};
 ghost use Rattle.mir_syntax.specs.Crate.{Crate, crate_of};
 ghost use Rattle.mir_syntax.specs.Ids.{IdsInTable};
 ghost use Rattle.mir_text.specs.Reads.{Reads, ReadsWith};
-ghost use Rattle.mir_rules.specs.Formed.{is_formed};
-ghost use Rattle.mir_rules.specs.Faults.{lines_fit};
+ghost use Rattle.mir_reader.specs.Refusals.{IsRefusedWith};
 
 use mir_syntax::{Lines, Program};
 use std::alloc::Global;
@@ -27,12 +26,11 @@ pub enum ReadRefused {
 
 /// The program that a text names.
 pub fn read_program(alloc: Global, bytes: &[u8]) -> Result<Read, ReadRefused>
-    requires { length bytes.now ≤ 67108864 }
+    requires { length bytes.now ≤ 67_108_864 }
     ensures reads { IfOk result (λ read. ReadsWith bytes.now (crate_of read.program) read.lines) }
     ensures refuses { (code line : ℕ) → result ≡ Err (ReadRefused.Fault code line) → (C : Crate) → Reads bytes.now C → ⊥ }
+    ensures first { (code line : ℕ) → result ≡ Err (ReadRefused.Fault code line) → IsRefusedWith bytes.now code line }
     ensures in_table { IfOk result (λ read. IdsInTable read.program) }
-    ensures formed { IfOk result (λ read. IsTrue (is_formed (crate_of read.program))) }
-    ensures fit { IfOk result (λ read. IsTrue (lines_fit read.lines (crate_of read.program))) }
 {
     Err(ReadRefused::OutOfMemory)
 }

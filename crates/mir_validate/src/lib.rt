@@ -1,13 +1,14 @@
 //! Stand-in: the contract of validation, over a body that refuses.
 #![tactic(auto)]
 
-ghost use Rattle.std.specs.Prelude.{◌≡◌, ◌≤◌, ℕ, IsTrue, IfOk, Ok, Err, Some, None, length};
-ghost use Rattle.mir_syntax.specs.Crate.{Crate, crate_of};
+ghost use Rattle.std.specs.Prelude.{◌≡◌, ℕ, IsTrue, IfOk, IfErr, Some, None};
+ghost use Rattle.mir_syntax.specs.Crate.{crate_of};
 ghost use Rattle.mir_syntax.specs.Drops.{KnowsDrops};
 ghost use Rattle.mir_syntax.specs.Ids.{IdsInTable};
 ghost use Rattle.mir_rules.specs.Formed.{is_formed};
 ghost use Rattle.mir_rules.specs.Faults.{lines_fit, first_rule, first_limit};
-ghost use Rattle.mir_rules.specs.Valid.{Valid as IsValid, Within};
+ghost use Rattle.mir_rules.specs.Valid as rules;
+ghost use Rattle.mir_validate.specs.declared.Fault.TheVariants as fault;
 
 use mir_syntax::{Lines, Program};
 use std::alloc::Global;
@@ -26,7 +27,7 @@ pub struct Refused {
 }
 
 /// Why a program is refused.
-#[derive(Debug, Drop)]
+#[derive(Clone, Copy, Debug, Drop)]
 pub enum Fault {
     Rule { code: u8, line: u32 },
     Limit { code: u8, line: u32 },
@@ -38,15 +39,20 @@ pub fn validate(alloc: Global, program: Program, lines: &Lines) -> Result<Valid,
     requires ids { IdsInTable program }
     requires formed { IsTrue (is_formed (crate_of program)) }
     requires fit { IsTrue (lines_fit lines.now (crate_of program)) }
-    ensures same_ok { IfOk result (λ v. crate_of v.program ≡ crate_of program) }
-    ensures valid { IfOk result (λ v. IsValid (crate_of v.program)) }
-    ensures within { IfOk result (λ v. Within (crate_of v.program)) }
-    ensures knows { IfOk result (λ v. KnowsDrops v.program) }
-    ensures ids { IfOk result (λ v. IdsInTable v.program) }
-    ensures no_rule { IfOk result (λ v. first_rule lines.now (crate_of program) ≡ None) }
-    ensures no_limit { IfOk result (λ v. first_limit lines.now (crate_of program) ≡ None) }
-    ensures rule { (r : Refused) (code line : ℕ) → result ≡ Err r → r.fault ≡ Fault.Rule code line → first_rule lines.now (crate_of program) ≡ Some (line, code) }
-    ensures limit { (r : Refused) (code line : ℕ) → result ≡ Err r → r.fault ≡ Fault.Limit code line → (first_rule lines.now (crate_of program) ≡ None) × (first_limit lines.now (crate_of program) ≡ Some (code, line)) }
+    ensures same_ok { IfOk result (λ valid. crate_of valid.program ≡ crate_of program) }
+    ensures same_err { IfErr result (λ refused. crate_of refused.program ≡ crate_of program) }
+    ensures valid { IfOk result (λ valid. rules.Valid (crate_of valid.program)) }
+    ensures within { IfOk result (λ valid. rules.Within (crate_of valid.program)) }
+    ensures no_rule { IfOk result (λ _. first_rule lines.now (crate_of program) ≡ None) }
+    ensures no_limit { IfOk result (λ _. first_limit lines.now (crate_of program) ≡ None) }
+    ensures rule { IfErr result (λ refused. (code line : ℕ) → refused.fault ≡ fault.Rule code line → first_rule lines.now (crate_of program) ≡ Some (line, code)) }
+    ensures limit { IfErr result (λ refused. (code line : ℕ) → refused.fault ≡ fault.Limit code line → (first_rule lines.now (crate_of program) ≡ None) × (first_limit lines.now (crate_of program) ≡ Some (code, line))) }
+    ensures drops { IfOk result (λ valid. KnowsDrops valid.program) }
+    ensures ids_ok { IfOk result (λ valid. IdsInTable valid.program) }
+    ensures ids_err { IfErr result (λ refused. IdsInTable refused.program) }
 {
-    Err(Refused { program, fault: Fault::OutOfMemory })
+    Err(Refused {
+        program,
+        fault: Fault::OutOfMemory,
+    })
 }

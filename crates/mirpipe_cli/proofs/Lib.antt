@@ -1,4 +1,5 @@
 pub mod Bodies
+pub mod Cleaning
 pub mod Refined
 pub mod Dropping
 pub mod Judging

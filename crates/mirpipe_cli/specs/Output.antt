@@ -5,6 +5,6 @@ use Rattle.mir_text.specs.Text.{text}
 use Rattle.mirpipe_cli.specs.declared.command.Output.{Output}
 use Rattle.mirpipe_cli.specs.declared.command.Output.TheVariants.{Line, Crate}
 
-unfoldable pub bytes_of : Output → List ℕ
+abbrev pub bytes_of : Output → List ℕ
 bytes_of (Line line) = line
 bytes_of (Crate program) = text (crate_of program)

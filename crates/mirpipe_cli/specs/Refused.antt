@@ -3,6 +3,7 @@ use Rattle.std.specs.Prelude.{◌≡◌, ◌≤◌, ◌<◌, ℕ, nat_lt, List, 
 use Rattle.mir_syntax.specs.declared.lines.Lines.{Lines}
 use Rattle.mir_syntax.specs.Crate.{Crate}
 use Rattle.mir_text.specs.Reads.{Reads, ReadsWith}
+use Rattle.mir_reader.specs.Refusals.{IsRefusedWith}
 use Rattle.mir_rules.specs.Accepted.{most_bytes, Accepted}
 use Rattle.mir_rules.specs.Faults.{first_rule, first_limit}
 use Rattle.mirpipe_cli.specs.declared.fault.InputFault.{InputFault}
@@ -25,10 +26,11 @@ pub record IsAccepted (input : List ℕ) (C : Crate) (lines : Lines) : Type 0 wh
 
 -- ---- refused inputs
 
--- a text that names no crate, refused with a code and a line
+-- a text that names no crate; with which code and line it is refused
 pub record IsUnread (input : List ℕ) (code line : ℕ) : Type 0 where
   pub short : length input ≤ most_bytes
   pub none : (C : Crate) → Reads input C → ⊥
+  pub first : IsRefusedWith input code line
 
 pub record BreaksRule (input : List ℕ) (code line : ℕ) : Type 0 where
   pub C : Crate

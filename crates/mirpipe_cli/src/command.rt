@@ -7,7 +7,7 @@ ghost use Rattle.mir_rules.specs.Accepted.{Accepted as IsAcceptedText};
 ghost use Rattle.mir_rules.specs.Valid.{Valid, Within};
 ghost use Rattle.mir_semantics.specs.Refines.{Refines};
 ghost use Rattle.mir_print.specs.Prints.{Prints};
-ghost use Rattle.mirpipe_cli.specs.declared.words.Command.TheVariants as command;
+ghost use Rattle.mirpipe_cli.specs.declared.words.Command.TheVariants.{Check, Seq};
 ghost use Rattle.mirpipe_cli.specs.Passed.{IsPassed};
 ghost use Rattle.mirpipe_cli.specs.Refused.{IsAccepted, IsFaulty, OfInput, IsNoDrop};
 ghost use Rattle.mirpipe_cli.specs.Answer.{counted, Writes, Refuses, IsOptimised};
@@ -43,7 +43,7 @@ fn counted(alloc: Global, program: &Program) -> Result<List<u8>, OutOfMemory>
 }
 
 fn check(alloc: Global, accepted: Accepted) -> Result<Output, Refusal>
-    ensures writes { (input : List ℕ) → IsAccepted input (crate_of accepted.program) accepted.lines → IfOk result (λ output. Writes command.Check input (bytes_of output)) }
+    ensures writes { (input : List ℕ) → IsAccepted input (crate_of accepted.program) accepted.lines → IfOk result (λ output. Writes Check input (bytes_of output)) }
     ensures refused { IfErr result (OfInput (λ _. ⊥)) }
     ensures no_source { IsErrOf result Refusal.ReadFault → ⊥ }
 {
@@ -56,7 +56,7 @@ fn check(alloc: Global, accepted: Accepted) -> Result<Output, Refusal>
 fn seq(alloc: Global, accepted: Accepted) -> Result<Output, Refusal>
     requires valid { Valid (crate_of accepted.program) }
     requires within { Within (crate_of accepted.program) }
-    ensures writes { (input : List ℕ) → IsAccepted input (crate_of accepted.program) accepted.lines → IfOk result (λ output. Writes command.Seq input (bytes_of output)) }
+    ensures writes { (input : List ℕ) → IsAccepted input (crate_of accepted.program) accepted.lines → IfOk result (λ output. Writes Seq input (bytes_of output)) }
     ensures refines { (input : List ℕ) → IsAccepted input (crate_of accepted.program) accepted.lines → IfOk result (λ output. IsOptimised input (bytes_of output)) }
     ensures refused { (input : List ℕ) → IsAccepted input (crate_of accepted.program) accepted.lines → IfErr result (OfInput (IsFaulty input)) }
     ensures no_source { IsErrOf result Refusal.ReadFault → ⊥ }
@@ -77,7 +77,7 @@ pub fn work<S: Source>(
     source: &mut S,
 ) -> Result<Output, Refusal>
     ensures writes { (input : List ℕ) → S.left source.old ≡ Some input → IfOk result (λ output. Writes command input (bytes_of output)) }
-    ensures refines { (input : List ℕ) → S.left source.old ≡ Some input → command ≡ command.Seq → IfOk result (λ output. IsOptimised input (bytes_of output)) }
+    ensures refines { (input : List ℕ) → S.left source.old ≡ Some input → command ≡ Seq → IfOk result (λ output. IsOptimised input (bytes_of output)) }
     ensures refused { (input : List ℕ) → S.left source.old ≡ Some input → IfErr result (OfInput (λ fault. Refuses command fault × IsFaulty input fault)) }
     ensures at_end { OnOk result (IsAtEnd (S.left source.new)) }
     ensures later { S.faults source.old ≤ S.faults source.new }

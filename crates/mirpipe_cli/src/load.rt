@@ -15,6 +15,7 @@ use mir_reader::{Read, ReadRefused, read_program};
 use mir_syntax::{Lines, List, Program};
 use mir_validate::{Fault, validate};
 use pipe_io::{ReadFault, Source, read_all};
+use read_formed::readings_are_formed;
 use std::alloc::Global;
 
 const MOST_BYTES: usize = 67_108_864;
@@ -89,7 +90,10 @@ fn accept(alloc: Global, bytes: &[u8]) -> Result<Accepted, Refusal>
     ensures no_source { IsErrOf result Refusal.ReadFault → ⊥ }
 {
     match read_program(alloc, bytes) {
-        Ok(read) => judged(alloc, read),
+        Ok(read) => {
+            readings_are_formed();
+            judged(alloc, read)
+        }
         Err(ReadRefused::Fault { code, line }) => {
             Err(Refusal::Input(InputFault::Text { code, line }))
         }

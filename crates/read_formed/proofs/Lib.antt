@@ -1,0 +1,13 @@
+pub mod Tests
+pub mod Types
+pub mod Values
+pub mod Places
+pub mod Knows
+pub mod Operands
+pub mod Rvalues
+pub mod Terms
+pub mod Counting
+pub mod Declarations
+pub mod Functions
+pub mod Files
+pub mod Lines
