@@ -2,12 +2,17 @@
 use Rattle.std.proofs.Common.{◌≡◌, ℕ, List, [], ◌++◌, Option, Some, None, Result, Ok, Err, inl, inr, refl, sym, subst, ◌∙◌}
 use Rattle.std.proofs.lemmas.List.{append-nil}
 use Rattle.std.specs.Io.KnownBytes.{Consumes, Appends, IsAtEnd}
+use Rattle.mir_syntax.specs.declared.lines.Lines.{Lines}
+use Rattle.mir_syntax.specs.Crate.{Crate}
+use Rattle.mir_text.specs.Text.{text}
 use Rattle.mirpipe_cli.specs.declared.words.Command.{Command}
 use Rattle.mirpipe_cli.specs.declared.words.Command.TheVariants.{Check, Seq}
 use Rattle.mirpipe_cli.specs.declared.fault.InputFault.{InputFault}
 use Rattle.mirpipe_cli.specs.Words.{asked}
-use Rattle.mirpipe_cli.specs.Refused.{IsFaulty, IsNoDrop}
-use Rattle.mirpipe_cli.specs.Answer.{done, refused, word_fault, Refuses, Writes, OfWords, Answers}
+use Rattle.mirpipe_cli.specs.Passed.{IsPassed}
+use Rattle.mirpipe_cli.specs.Refused.{IsAccepted, IsFaulty, IsNoDrop}
+use Rattle.mirpipe_cli.specs.Answer.{done, refused, word_fault, Refuses, Writes, OfWords, Answers, IsOptimised}
+use Rattle.mirpipe_cli.proofs.Refined.{passed_refines}
 
 pub appends_none : (known : Option (List ℕ)) → Appends known known []
 appends_none None = tt
@@ -34,3 +39,15 @@ answers_done words input bytes command e writes = subst (λ r. OfWords r input (
 
 pub answers_refused : (words : List (List ℕ)) (input : List ℕ) (command : Command) (fault : InputFault) → asked words ≡ Ok command → Refuses command fault → IsFaulty input fault → Answers words input (refused fault)
 answers_refused words input command fault e refuses faulty = subst (λ r. OfWords r input (refused fault)) (sym e) (inr (fault, refuses, faulty, refl))
+
+-- what the passes make of an accepted crate refines it
+pub optimised : (input : List ℕ) (C D : Crate) (lines : Lines) → IsAccepted input C lines → IsPassed C D → IsOptimised input (text D)
+optimised input C D lines accepted passed =
+    record {
+      C = C;
+      D = D;
+      accepted = accepted.accepted;
+      passed = passed;
+      written = refl;
+      refines = passed_refines C D accepted.accepted.valid accepted.accepted.within passed;
+    }
