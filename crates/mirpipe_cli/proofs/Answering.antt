@@ -1,6 +1,7 @@
 -- What is told, from what was read and written.
 use Rattle.std.proofs.Common.{◌≡◌, ℕ, List, [], ◌++◌, Option, Some, None, Result, Ok, Err, inl, inr, refl, sym, subst, ◌∙◌}
 use Rattle.std.proofs.lemmas.List.{append-nil}
+use Rattle.std.specs.Prelude.{IfErr}
 use Rattle.std.specs.Io.KnownBytes.{Consumes, Appends, IsAtEnd}
 use Rattle.mir_syntax.specs.declared.lines.Lines.{Lines}
 use Rattle.mir_syntax.specs.Crate.{Crate}
@@ -8,9 +9,11 @@ use Rattle.mir_text.specs.Text.{text}
 use Rattle.mirpipe_cli.specs.declared.words.Command.{Command}
 use Rattle.mirpipe_cli.specs.declared.words.Command.TheVariants.{Check, Seq}
 use Rattle.mirpipe_cli.specs.declared.fault.InputFault.{InputFault}
+use Rattle.mirpipe_cli.specs.declared.fault.Refusal.{Refusal}
+use Rattle.mirpipe_cli.specs.declared.fault.Refusal.TheVariants.{ReadFault, OutOfMemory, Input}
 use Rattle.mirpipe_cli.specs.Words.{asked}
 use Rattle.mirpipe_cli.specs.Passed.{IsPassed}
-use Rattle.mirpipe_cli.specs.Refused.{IsAccepted, IsFaulty, IsNoDrop}
+use Rattle.mirpipe_cli.specs.Refused.{IsAccepted, IsFaulty, IsNoDrop, OfInput}
 use Rattle.mirpipe_cli.specs.Answer.{done, refused, word_fault, Refuses, Writes, OfWords, Answers, IsOptimised}
 use Rattle.mirpipe_cli.proofs.Refined.{passed_refines}
 
@@ -51,3 +54,10 @@ optimised input C D lines accepted passed =
       written = refl;
       refines = passed_refines C D accepted.accepted.valid accepted.accepted.within passed;
     }
+
+-- each fault is one for which `seq` refuses
+pub refused_seq : {A : Type 0} (r : Result A Refusal) (input : List ℕ) (command : Command) → command ≡ Seq → IfErr r (OfInput (IsFaulty input)) → IfErr r (OfInput (λ fault. Refuses command fault × IsFaulty input fault))
+refused_seq (Ok a) input command e h = h
+refused_seq (Err ReadFault) input command e h = h
+refused_seq (Err OutOfMemory) input command e h = h
+refused_seq (Err (Input fault)) input command e h = (subst (λ k. Refuses k fault) (sym e) tt, h)

@@ -1,34 +1,35 @@
 -- The first `drop` of a crate, found block by block.
-use Rattle.std.proofs.Common.{◌≡◌, refl, sym, ap, subst, ◌∙◌, ℕ, zero, suc, ◌+◌, ◌<◌, Bool, true, false, List, [], ◌∷◌, ◌++◌, length, map, drop, get_or, Option, Some, None, slice_get, option_map, if◌then◌else◌, arith}
+use Rattle.std.proofs.Common.{◌≡◌, refl, sym, ap, subst, ◌∙◌, ℕ, zero, suc, ◌+◌, ◌<◌, ◌≤◌, Bool, true, false, List, [], ◌∷◌, ◌++◌, length, map, drop, get_or, Option, Some, None, slice_get, option_map, if◌then◌else◌, arith}
 use Rattle.mir_syntax.specs.declared.body.Block.{Block}
 use Rattle.mir_syntax.specs.declared.body.Function.{Function}
 use Rattle.mir_syntax.specs.declared.lines.BlockLines.{BlockLines}
 use Rattle.mir_syntax.specs.declared.lines.FnLines.{FnLines}
 use Rattle.mir_syntax.specs.declared.lines.Lines.{Lines}
 use Rattle.mir_syntax.specs.Shapes.{◌>>=◌}
-use Rattle.mir_syntax.specs.Tree.{Tree}
-use Rattle.mir_syntax.specs.Crate.{block_of, function_of}
+use Rattle.mir_syntax.specs.declared.program.Program.{Program}
+use Rattle.mir_syntax.specs.Tree.{Tree, trees_of}
+use Rattle.mir_syntax.specs.Crate.{block_of, function_of, crate_of}
 use Rattle.mir_rules.specs.Broken.{Spot, terminator, gather}
 use Rattle.mir_rules.specs.Faults.{or_zero, line_at}
-use Rattle.mirpipe_cli.specs.Passed.{is_drop, drop_spot, drop_spots}
+use Rattle.mirpipe_cli.specs.Passed.{is_drop, drop_spot, drop_spots, drops, first_drop}
 use Rattle.mirpipe_cli.specs.Found.{drop_from, drop_block}
 
 -- ---- lines
 
 pub line_there : (lines : Lines) (f j : ℕ) (g : FnLines) (k : BlockLines) → Some g ≡ slice_get lines.functions f → Some k ≡ slice_get g.blocks j → k.term ≡ line_at lines (terminator f j)
-unfolding line_at
+unfolding line_at ◌>>=◌
 line_there lines f j g k e e2 =
     subst (λ (o : Option FnLines). k.term ≡ or_zero ((o >>= λ h. slice_get h.blocks j) >>= λ b. Some b.term)) e
     (subst (λ (o : Option BlockLines). k.term ≡ or_zero (o >>= λ b. Some b.term)) e2 refl)
 
 pub no_block_line : (lines : Lines) (f j : ℕ) (g : FnLines) → Some g ≡ slice_get lines.functions f → None ≡ slice_get g.blocks j → 0 ≡ line_at lines (terminator f j)
-unfolding line_at
+unfolding line_at ◌>>=◌
 no_block_line lines f j g e e2 =
     subst (λ (o : Option FnLines). 0 ≡ or_zero ((o >>= λ h. slice_get h.blocks j) >>= λ b. Some b.term)) e
     (subst (λ (o : Option BlockLines). 0 ≡ or_zero (o >>= λ b. Some b.term)) e2 refl)
 
 pub no_function_line : (lines : Lines) (f j : ℕ) → None ≡ slice_get lines.functions f → 0 ≡ line_at lines (terminator f j)
-unfolding line_at
+unfolding line_at ◌>>=◌
 no_function_line lines f j e = subst (λ (o : Option FnLines). 0 ≡ or_zero ((o >>= λ h. slice_get h.blocks j) >>= λ b. Some b.term)) e refl
 
 -- ---- blocks
@@ -88,14 +89,18 @@ spot_more trees n zero (x ∷ fs) g l e =
 spot_more trees n (suc i) (x ∷ fs) g l e = spot_more trees n i fs g (omega (arith, l)) e
 
 -- past the last one there is none
-pub none_left : (n i : ℕ) (bs : List Block) → length bs ≡ i → drop_from n (drop i bs) ≡ None
-none_left n zero [] e = refl
-none_left n zero (b ∷ bs) e = absurd (omega (arith, e))
-none_left n (suc i) [] e = refl
-none_left n (suc i) (b ∷ bs) e = none_left n i bs (omega (arith, e))
-
-pub no_spot_left : (trees : List Tree) (n i : ℕ) (fs : List Function) → length fs ≡ i → first_spot trees n (drop i fs) ≡ None
+pub no_spot_left : (trees : List Tree) (n i : ℕ) (fs : List Function) → length fs ≤ i → first_spot trees n (drop i fs) ≡ None
 no_spot_left trees n zero [] e = refl
 no_spot_left trees n zero (g ∷ fs) e = absurd (omega (arith, e))
 no_spot_left trees n (suc i) [] e = refl
 no_spot_left trees n (suc i) (g ∷ fs) e = no_spot_left trees n i fs (omega (arith, e))
+
+-- ---- the line
+
+pub first_line : (lines : Lines) (p : Program) (s : Spot) → first_spot (trees_of p.types) 0 p.functions ≡ Some s → first_drop lines (crate_of p) ≡ Some (line_at lines s)
+unfolding first_drop drops
+first_line lines p s e = ap (option_map (line_at lines)) e
+
+pub no_line : (lines : Lines) (p : Program) → first_spot (trees_of p.types) 0 p.functions ≡ None → first_drop lines (crate_of p) ≡ None
+unfolding first_drop drops
+no_line lines p e = ap (option_map (line_at lines)) e

@@ -94,10 +94,12 @@ fn accept(alloc: Global, bytes: &[u8]) -> Result<Accepted, Refusal>
             readings_are_formed();
             judged(alloc, read)
         }
-        Err(ReadRefused::Fault { code, line }) => {
-            Err(Refusal::Input(InputFault::Text { code, line }))
-        }
-        Err(ReadRefused::OutOfMemory) => Err(Refusal::OutOfMemory),
+        Err(refused) => match refused {
+            ReadRefused::Fault { code, line } => {
+                Err(Refusal::Input(InputFault::Text { code, line }))
+            }
+            ReadRefused::OutOfMemory => Err(Refusal::OutOfMemory),
+        },
     }
 }
 
