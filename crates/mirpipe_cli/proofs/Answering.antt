@@ -1,38 +1,25 @@
 -- What is told, from what was read and written.
-use Rattle.std.proofs.Common.{◌≡◌, ℕ, List, [], ◌++◌, Option, Some, None, Result, Ok, Err, inl, inr, refl, sym, subst, ◌∙◌}
+use Rattle.std.proofs.Common.{◌≡◌, ℕ, List, [], Option, Some, None, Result, Ok, Err, inl, inr, refl, sym, subst}
 use Rattle.std.proofs.lemmas.List.{append-nil}
 use Rattle.std.specs.Prelude.{IfErr}
-use Rattle.std.specs.Io.KnownBytes.{Consumes, Appends, IsAtEnd}
+use Rattle.std.specs.Io.KnownBytes.{Appends}
 use Rattle.mir_syntax.specs.declared.lines.Lines.{Lines}
 use Rattle.mir_syntax.specs.Crate.{Crate}
 use Rattle.mir_text.specs.Text.{text}
 use Rattle.mirpipe_cli.specs.declared.words.Command.{Command}
-use Rattle.mirpipe_cli.specs.declared.words.Command.TheVariants.{Check, Seq}
+use Rattle.mirpipe_cli.specs.declared.words.Command.TheVariants.{Seq}
 use Rattle.mirpipe_cli.specs.declared.fault.InputFault.{InputFault}
 use Rattle.mirpipe_cli.specs.declared.fault.Refusal.{Refusal}
 use Rattle.mirpipe_cli.specs.declared.fault.Refusal.TheVariants.{ReadFault, OutOfMemory, Input}
 use Rattle.mirpipe_cli.specs.Words.{asked}
 use Rattle.mirpipe_cli.specs.Passed.{IsPassed}
-use Rattle.mirpipe_cli.specs.Refused.{IsAccepted, IsFaulty, IsNoDrop, OfInput}
+use Rattle.mirpipe_cli.specs.Refused.{IsAccepted, IsFaulty, OfInput}
 use Rattle.mirpipe_cli.specs.Answer.{done, refused, word_fault, Refuses, Writes, OfWords, Answers, IsOptimised}
 use Rattle.mirpipe_cli.proofs.Refined.{passed_refines}
 
 pub appends_none : (known : Option (List ℕ)) → Appends known known []
 appends_none None = tt
 appends_none (Some xs) = sym (append-nil xs)
-
--- bytes that were read to the end are the input
-pub whole_input : (old new : Option (List ℕ)) (input bytes : List ℕ) → old ≡ Some input → Consumes old new bytes → IsAtEnd new → input ≡ bytes
-whole_input None new input bytes told taken end = absurd cc
-whole_input (Some xs) None input bytes told taken end = absurd taken
-whole_input (Some xs) (Some ys) input bytes told taken end =
-    let e : xs ≡ input = cc in
-    sym e ∙ taken ∙ (rw end (append-nil bytes))
-
--- a fault that is no `drop` is one for which each command refuses
-pub refuses_it : (command : Command) (fault : InputFault) → IsNoDrop fault → Refuses command fault
-refuses_it Check fault h = h
-refuses_it Seq fault h = tt
 
 pub answers_word : (words : List (List ℕ)) (input : List ℕ) (k : ℕ) → asked words ≡ Err k → Answers words input (word_fault k)
 answers_word words input k e = subst (λ r. OfWords r input (word_fault k)) (sym e) refl

@@ -1,5 +1,5 @@
 -- What a valid crate within the limits gives of each body: its size, and what cleaning asks of it.
-use Rattle.std.proofs.Common.{◌≡◌, refl, sym, ap, ◌∙◌, subst, ℕ, ◌+◌, ◌<◌, ◌≤◌, ◌^◌, false, nat_lt, List, [], ◌∷◌, ◌++◌, length, map, Some, slice_get, arith}
+use Rattle.std.proofs.Common.{◌≡◌, refl, ap, subst, ℕ, ◌+◌, ◌<◌, ◌≤◌, ◌^◌, nat_lt, List, [], ◌∷◌, ◌++◌, length, map, Some, slice_get, arith}
 use Rattle.std.proofs.Common.{ltb-false}
 use Rattle.std.proofs.lemmas.List.{length-map}
 use Rattle.mir_syntax.specs.declared.body.Block.{Block}

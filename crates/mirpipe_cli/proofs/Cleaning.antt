@@ -1,5 +1,5 @@
 -- Functions that are cleaned one after another, in place.
-use Rattle.std.proofs.Common.{◌≡◌, refl, sym, ap, ap₂, ◌∙◌, ℕ, ◌+◌, ◌<◌, ◌≤◌, List, [], ◌++◌, length, get_or, set, map, take, drop, Some, slice_get, arith}
+use Rattle.std.proofs.Common.{◌≡◌, sym, ap, ap₂, ◌∙◌, ℕ, ◌+◌, ◌<◌, ◌≤◌, List, ◌++◌, length, get_or, set, map, take, drop, Some, slice_get, arith}
 use Rattle.std.proofs.lemmas.List.{length-map, get_or-map, map-set, take_all, drop_all, append-nil}
 use Rattle.std.proofs.lemmas.Option.{slice_get-get_or}
 use Rattle.mir_syntax.specs.declared.body.Function.{Function}

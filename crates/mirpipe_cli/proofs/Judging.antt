@@ -1,11 +1,8 @@
--- Inputs that are accepted and inputs that are too long.
-use Rattle.std.proofs.Common.{◌≡◌, refl, sym, ap, ◌∙◌, ℕ, ◌+◌, ◌<◌, ◌≤◌, List, [], ◌++◌, length, map, Option, Some, None, arith}
-use Rattle.std.specs.Io.KnownBytes.{Consumes}
-use Rattle.std.proofs.lemmas.List.{length-append}
+-- Inputs that are accepted.
+use Rattle.std.proofs.Common.{◌≡◌, refl, ap, ◌∙◌, ℕ, ◌+◌, List, ◌++◌, map, Option, Some, None}
 use Rattle.mir_syntax.specs.declared.lines.Lines.{Lines}
 use Rattle.mir_syntax.specs.Crate.{Crate}
 use Rattle.mir_text.specs.NameFaults.{first_fault}
-use Rattle.mir_rules.specs.Accepted.{most_bytes}
 use Rattle.mir_rules.specs.Broken.{broken}
 use Rattle.mir_rules.specs.Faults.{wrong_field_fault, by_line, first_rule}
 use Rattle.mir_rules.specs.Valid.{Valid, Within}
@@ -32,12 +29,3 @@ is_accepted input C lines read rules valid within =
         short = read.short;
       };
     }
-
--- an input of which too many bytes were read
-pub is_long : (old new : Option (List ℕ)) (input bytes : List ℕ) → old ≡ Some input → Consumes old new bytes → length bytes ≡ most_bytes + 1 → most_bytes < length input
-is_long None new input bytes told taken long = absurd cc
-is_long (Some xs) None input bytes told taken long = absurd taken
-is_long (Some xs) (Some ys) input bytes told taken long =
-    let e : xs ≡ input = cc in
-    let same : input ≡ bytes ++ ys = sym e ∙ taken in
-    omega (arith, ap length same, length-append bytes ys, long)

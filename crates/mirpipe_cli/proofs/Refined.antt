@@ -1,5 +1,5 @@
 -- A crate with all its bodies cleaned refines the crate: one body is cleaned after another.
-use Rattle.std.proofs.Common.{◌≡◌, refl, sym, ap, ◌∙◌, subst, ℕ, zero, suc, List, [], ◌∷◌, ◌++◌, length, map, set, Some, slice_get, append_assoc}
+use Rattle.std.proofs.Common.{◌≡◌, refl, sym, ap, ◌∙◌, subst, ℕ, suc, List, [], ◌∷◌, ◌++◌, length, map, set, Some, slice_get, append_assoc}
 use Rattle.mir_syntax.specs.Crate.{TypedFunction, Crate}
 use Rattle.mir_rules.specs.Valid.{Valid, Within, at_function, ValidAt}
 use Rattle.mir_semantics.specs.Refines.{Refines}

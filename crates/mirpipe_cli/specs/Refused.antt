@@ -1,5 +1,5 @@
 -- Inputs that are accepted, and inputs that are refused: by which code, on which line.
-use Rattle.std.specs.Prelude.{◌≡◌, ◌≤◌, ◌<◌, ℕ, nat_lt, List, [], ◌++◌, length, codes, decimal, Option, Some, None, if◌then◌else◌, ⊤}
+use Rattle.std.specs.Prelude.{◌≡◌, ◌≤◌, ◌<◌, ℕ, nat_lt, List, [], ◌++◌, length, codes, decimal, Some, None, if◌then◌else◌, ⊤}
 use Rattle.mir_syntax.specs.declared.lines.Lines.{Lines}
 use Rattle.mir_syntax.specs.Crate.{Crate}
 use Rattle.mir_text.specs.Reads.{Reads, ReadsWith}

@@ -2,14 +2,10 @@ ghost use Rattle.std.specs.Prelude.{◌≡◌, ◌≤◌, List, ℕ, Some, IfOk,
 ghost use Rattle.std.specs.Io.KnownBytes.{IsAtEnd};
 ghost use Rattle.pipe_io.specs.Causes.{Rose};
 ghost use Rattle.mir_syntax.specs.Crate.{Crate, crate_of};
-ghost use Rattle.mir_text.specs.Text.{text};
-ghost use Rattle.mir_rules.specs.Accepted.{Accepted as IsAcceptedText};
 ghost use Rattle.mir_rules.specs.Valid.{Valid, Within};
-ghost use Rattle.mir_semantics.specs.Refines.{Refines};
 ghost use Rattle.mir_print.specs.Prints.{Prints};
 ghost use Rattle.mirpipe_cli.specs.declared.words.Command.TheVariants.{Check, Seq};
-ghost use Rattle.mirpipe_cli.specs.Passed.{IsPassed};
-ghost use Rattle.mirpipe_cli.specs.Refused.{IsAccepted, IsFaulty, OfInput, IsNoDrop};
+ghost use Rattle.mirpipe_cli.specs.Refused.{IsAccepted, IsFaulty, OfInput};
 ghost use Rattle.mirpipe_cli.specs.Answer.{counted, Writes, Refuses, IsOptimised};
 ghost use Rattle.mirpipe_cli.specs.Output.{bytes_of};
 
@@ -71,11 +67,7 @@ fn seq(alloc: Global, accepted: Accepted) -> Result<Output, Refusal>
 }
 
 /// Does the work of a command: what it writes, or why there is nothing to write. All memory is taken here.
-pub fn work<S: Source>(
-    alloc: Global,
-    command: Command,
-    source: &mut S,
-) -> Result<Output, Refusal>
+pub fn work<S: Source>(alloc: Global, command: Command, source: &mut S) -> Result<Output, Refusal>
     ensures writes { (input : List ℕ) → S.left source.old ≡ Some input → IfOk result (λ output. Writes command input (bytes_of output)) }
     ensures refines { (input : List ℕ) → S.left source.old ≡ Some input → command ≡ Seq → IfOk result (λ output. IsOptimised input (bytes_of output)) }
     ensures refused { (input : List ℕ) → S.left source.old ≡ Some input → IfErr result (OfInput (λ fault. Refuses command fault × IsFaulty input fault)) }

@@ -1,6 +1,5 @@
-ghost use Rattle.std.specs.Prelude.{◌≡◌, map};
-ghost use Rattle.mir_syntax.specs.Tree.{trees_of};
-ghost use Rattle.mir_syntax.specs.Crate.{block_of, crate_of};
+ghost use Rattle.std.specs.Prelude.{◌≡◌};
+ghost use Rattle.mir_syntax.specs.Crate.{crate_of};
 ghost use Rattle.mir_rules.specs.Broken.{terminator};
 ghost use Rattle.mir_rules.specs.Faults.{line_at};
 ghost use Rattle.mirpipe_cli.specs.Passed.{is_drop, first_drop};

@@ -67,7 +67,14 @@ fn answers_by_words_and_input(rt: HostRuntime) -> Result<(), Fail> {
 #[test]
 fn refuses_by_code_and_line(rt: HostRuntime) -> Result<(), Fail> {
     expect(&rt, &["check"], b"fn f() -> () {", 1, b"", b"S05 line 1\n")?;
-    expect(&rt, &["check"], b"struct S { a: S }", 1, b"", b"V01 line 1\n")?;
+    expect(
+        &rt,
+        &["check"],
+        b"struct S { a: S }",
+        1,
+        b"",
+        b"V01 line 1\n",
+    )?;
     expect(&rt, &["seq"], BACK_TO_START, 1, b"", b"V05 line 9\n")?;
     expect(&rt, &["seq"], DROPS, 1, b"", b"S16 line 21\n")
 }

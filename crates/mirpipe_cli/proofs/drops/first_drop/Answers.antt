@@ -1,4 +1,4 @@
-use Rattle.std.proofs.Common.{◌≡◌, ℕ, suc, ◌+◌, ◌<◌, ◌≤◌, List, length, get_or, drop, Some, None, sym, ap, subst, ◌∙◌, arith}
+use Rattle.std.proofs.Common.{◌≡◌, suc, ◌+◌, ◌<◌, ◌≤◌, List, length, get_or, drop, Some, None, sym, ap, subst, ◌∙◌, arith}
 use Rattle.mir_syntax.specs.declared.body.Function.{Function}
 use Rattle.mir_syntax.specs.Tree.{trees_of}
 use Rattle.mir_rules.specs.Broken.{terminator}

@@ -1,4 +1,3 @@
-use Rattle.std.proofs.Common.{sym}
 use Rattle.mirpipe_cli.proofs.Dropping.{line_there, no_block_line, no_function_line}
 use Rattle.mirpipe_cli.proofs.drops.terminator_line.Goals as goal
 

@@ -15,14 +15,14 @@ returns-in-Ok-clause-accepted c = λ input read.
 
 pub returns-in-Rule-clause-refused : goal.returns-in-Rule-clause-refused
 returns-in-Rule-clause-refused c = λ input read. (
-    record {
-      C = crate_of c.args.read.program;
-      lines = c.args.read.lines;
-      read = read;
-      rule = c.in-Err.ensures.rule c.in-Rule.code c.in-Rule.line c.in-Rule.is;
-    },
-    tt,
-  )
+  record {
+    C = crate_of c.args.read.program;
+    lines = c.args.read.lines;
+    read = read;
+    rule = c.in-Err.ensures.rule c.in-Rule.code c.in-Rule.line c.in-Rule.is;
+  },
+  tt,
+)
 
 pub returns-in-Limit-clause-refused : goal.returns-in-Limit-clause-refused
 returns-in-Limit-clause-refused c = λ input read.

@@ -1,4 +1,4 @@
-use Rattle.std.proofs.Common.{rules, ◌≡◌, Ok, map, string_bytes, Global, refl, sym, subst, ◌∙◌}
+use Rattle.std.proofs.Common.{rules, map, string_bytes, Global, refl, sym, subst, ◌∙◌}
 use Rattle.std.specs.Io.KnownBytes.{Appends}
 use Rattle.mirpipe_cli.specs.Words.{asked}
 use Rattle.mirpipe_cli.specs.Refused.{IsFaulty, OfInput}
