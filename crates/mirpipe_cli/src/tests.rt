@@ -24,65 +24,75 @@ fn list(rt: &HostRuntime, bytes: &[u8]) -> Result<List<u8>, Fail> {
     Ok(list)
 }
 
-// What words and an input give where nothing fails.
-fn expect(
-    rt: &HostRuntime,
-    words: &[&str],
-    input: &[u8],
-    status: u8,
-    out: &[u8],
-    line: &[u8],
-) -> Result<(), Fail> {
-    let mut all = Vec::new(rt.alloc());
-    for word in words {
-        all.push(format!(in rt.alloc(); "{word}")?)?;
+// The words that aren't empty.
+fn words(rt: &HostRuntime, first: &str, second: &str) -> Result<Vec<String>, Fail> {
+    let mut words = Vec::new(rt.alloc());
+    for word in [first, second] {
+        if !word.is_empty() {
+            words.push(format!(in rt.alloc(); "{word}")?)?;
+        }
     }
-    let mut source = PlainSource::new(list(rt, input)?);
-    let mut sink = PlainSink::new(rt.alloc());
-    let mut notes = PlainSink::new(rt.alloc());
-    let told = run_quiet(
-        rt.alloc(),
-        all.as_slice(),
-        &mut source,
-        &mut sink,
-        &mut notes,
-    );
-    assert_eq!(rt; told, status);
-    assert!(rt; sink.bytes() == out);
-    assert!(rt; notes.bytes() == line);
-    Ok(())
+    Ok(words)
 }
 
 #[test]
 fn answers_by_words_and_input(rt: HostRuntime) -> Result<(), Fail> {
-    expect(&rt, &["check"], b"", 0, b"ok 0\n", b"")?;
-    expect(&rt, &["seq"], b"", 0, b"", b"")?;
-    expect(&rt, &["check"], DROPS, 0, b"ok 2\n", b"")?;
-    expect(&rt, &["seq"], RETURNS, 0, RETURNS, b"")?;
-    expect(&rt, &["seq"], SKIPS, 0, SKIPPED, b"")?;
-    expect(&rt, &[], RETURNS, 2, b"", b"word 1\n")?;
-    expect(&rt, &["seq", "x"], RETURNS, 2, b"", b"word 2\n")
-}
-
-#[test]
-fn refuses_by_code_and_line(rt: HostRuntime) -> Result<(), Fail> {
-    expect(&rt, &["check"], b"fn f() -> () {", 1, b"", b"S05 line 1\n")?;
-    expect(
-        &rt,
-        &["check"],
-        b"struct S { a: S }",
-        1,
-        b"",
-        b"V01 line 1\n",
-    )?;
-    expect(&rt, &["seq"], BACK_TO_START, 1, b"", b"V05 line 9\n")?;
-    expect(&rt, &["seq"], DROPS, 1, b"", b"S16 line 21\n")
+    let none = b"".as_slice();
+    for (first, second, input, status, out, line) in [
+        ("check", "", none, 0, b"ok 0\n".as_slice(), none),
+        ("seq", "", none, 0, none, none),
+        ("check", "", DROPS, 0, b"ok 2\n".as_slice(), none),
+        ("seq", "", RETURNS, 0, RETURNS, none),
+        ("seq", "", SKIPS, 0, SKIPPED, none),
+        ("", "", RETURNS, 2, none, b"word 1\n".as_slice()),
+        ("seq", "x", RETURNS, 2, none, b"word 2\n".as_slice()),
+        (
+            "check",
+            "",
+            b"fn f() -> () {".as_slice(),
+            1,
+            none,
+            b"S05 line 1\n".as_slice(),
+        ),
+        (
+            "check",
+            "",
+            b"struct S { a: S }".as_slice(),
+            1,
+            none,
+            b"V01 line 1\n".as_slice(),
+        ),
+        (
+            "seq",
+            "",
+            BACK_TO_START,
+            1,
+            none,
+            b"V05 line 9\n".as_slice(),
+        ),
+        ("seq", "", DROPS, 1, none, b"S16 line 21\n".as_slice()),
+    ] {
+        let words = words(&rt, first, second)?;
+        let mut source = PlainSource::new(list(&rt, input)?);
+        let mut sink = PlainSink::new(rt.alloc());
+        let mut notes = PlainSink::new(rt.alloc());
+        let told = run_quiet(
+            rt.alloc(),
+            words.as_slice(),
+            &mut source,
+            &mut sink,
+            &mut notes,
+        );
+        assert_eq!(rt; told, status);
+        assert!(rt; sink.bytes() == out);
+        assert!(rt; notes.bytes() == line);
+    }
+    Ok(())
 }
 
 #[test]
 fn tells_faults(rt: HostRuntime) -> Result<(), Fail> {
-    let mut words = Vec::new(rt.alloc());
-    words.push(format!(in rt.alloc(); "seq")?)?;
+    let words = words(&rt, "seq", "")?;
     let mut fails = List::new(rt.alloc());
     fails.push(2)?;
     let mut source = PlainSource::new(list(&rt, RETURNS)?);
