@@ -7,3 +7,4 @@ pub mod Paths
 pub mod Lists
 pub mod Terms
 pub mod Landings
+mod InTable

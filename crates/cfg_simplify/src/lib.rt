@@ -2,7 +2,8 @@
 //!
 //! Empty gotos are skipped (`gotos`), blocks that no path leads to go (`reach`), a block is joined to the one block that goes to it
 //! (`joins`), and the rest is renumbered (`regroup`). The contract of `simple` is that the result is the one that `specs/Simple.antt`
-//! defines, over a body whose ids are replaced by the types that they stand for. `specs/Edges.antt` has the edges of a terminator.
+//! defines, over a body whose ids are replaced by the types that they stand for, and that ids in the program's table stay there.
+//! `specs/Edges.antt` has the edges of a terminator.
 //! Blocks and statements are moved and never copied; only the walk along empty gotos takes more than one pass over the blocks, as many
 //! as their number has binary digits.
 #![tactic(auto)]
@@ -10,6 +11,7 @@
 ghost use Rattle.std.specs.Prelude.{◌≡◌, ◌<◌, ◌^◌, map, length, IfOk};
 ghost use Rattle.mir_syntax.specs.Tree.{trees_of};
 ghost use Rattle.mir_syntax.specs.Crate.{body_of};
+ghost use Rattle.mir_syntax.specs.Ids.{BodyInTable};
 ghost use Rattle.cfg_simplify.specs.Edges.{Closed};
 ghost use Rattle.cfg_simplify.specs.Code.{block_term};
 ghost use Rattle.cfg_simplify.specs.Simple.{simple as simple_body};
@@ -30,7 +32,8 @@ pub fn simple(alloc: Global, program: &Program, body: Body) -> Result<Body, OutO
     requires some_block { 0 < length body.blocks }
     requires closed { Closed (map block_term body.blocks) }
     requires few { length body.blocks < 2 ^ 30 }
-    ensures { IfOk result (λ simpler. body_of (trees_of program.now.types) simpler ≡ simple_body (body_of (trees_of program.now.types) body)) }
+    ensures simpler { IfOk result (λ simpler. body_of (trees_of program.now.types) simpler ≡ simple_body (body_of (trees_of program.now.types) body)) }
+    ensures in_table { BodyInTable program.now.types body → IfOk result (λ simpler. BodyInTable program.now.types simpler) }
 {
     let hopped = gotos::hopped(alloc, body.blocks)?;
     let blocks = regroup::regrouped(alloc, hopped)?;

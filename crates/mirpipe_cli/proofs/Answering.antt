@@ -12,7 +12,7 @@ use Rattle.mirpipe_cli.specs.declared.fault.InputFault.{InputFault}
 use Rattle.mirpipe_cli.specs.declared.fault.Refusal.{Refusal}
 use Rattle.mirpipe_cli.specs.declared.fault.Refusal.TheVariants.{ReadFault, OutOfMemory, Input}
 use Rattle.mirpipe_cli.specs.Words.{asked}
-use Rattle.mirpipe_cli.specs.Passed.{IsPassed}
+use Rattle.mirpipe_cli.specs.Passed.{IsPassed, first_drop}
 use Rattle.mirpipe_cli.specs.Refused.{IsAccepted, IsFaulty, OfInput}
 use Rattle.mirpipe_cli.specs.Answer.{done, refused, word_fault, Refuses, Writes, OfWords, Answers, IsOptimised}
 use Rattle.mirpipe_cli.proofs.Refined.{passed_refines}
@@ -31,15 +31,15 @@ pub answers_refused : (words : List (List ℕ)) (input : List ℕ) (command : Co
 answers_refused words input command fault e refuses faulty = subst (λ r. OfWords r input (refused fault)) (sym e) (inr (fault, refuses, faulty, refl))
 
 -- what the passes make of an accepted crate refines it
-pub optimised : (input : List ℕ) (C D : Crate) (lines : Lines) → IsAccepted input C lines → IsPassed C D → IsOptimised input (text D)
-optimised input C D lines accepted passed =
+pub optimised : (input : List ℕ) (C D : Crate) (lines : Lines) → IsAccepted input C lines → first_drop lines C ≡ None → IsPassed C D → IsOptimised input (text D)
+optimised input C D lines accepted no_drop passed =
     record {
       C = C;
       D = D;
       accepted = accepted.accepted;
       passed = passed;
       written = refl;
-      refines = passed_refines C D accepted.accepted.valid accepted.accepted.within passed;
+      refines = passed_refines C D lines accepted.accepted.valid accepted.accepted.within no_drop passed;
     }
 
 -- each fault is one for which `seq` refuses

@@ -1,5 +1,3 @@
-pub mod Bodies
-pub mod Cleaning
 pub mod Refined
 pub mod Dropping
 pub mod Judging

@@ -1,31 +1,19 @@
 -- The passes of the command `seq`, and what they are not made for yet: `drop` terminators.
-use Rattle.std.specs.Prelude.{◌≡◌, ℕ, Bool, true, false, List, [], ◌∷◌, map, Option, if◌then◌else◌, option_map, slice_get}
-use Rattle.mir_syntax.specs.declared.body.Term.{Term}
-use Rattle.mir_syntax.specs.declared.body.Term.TheVariants as term
+use Rattle.std.specs.Prelude.{ℕ, List, [], ◌∷◌, Option, if◌then◌else◌, option_map, slice_get}
 use Rattle.mir_syntax.specs.declared.lines.Lines.{Lines}
 use Rattle.mir_syntax.specs.Crate.{TypedBlock, TypedFunction, Crate}
 use Rattle.mir_rules.specs.Broken.{Spot, terminator, gather}
 use Rattle.mir_rules.specs.Faults.{line_at}
-use Rattle.cfg_simplify.specs.Simple.{simple}
+use Rattle.prune_refines.specs.Drops.{is_drop}
+use Rattle.pass_order.specs.Stepped.{AllStepped}
 
 -- ---- the passes
 
-abbrev pub cleaned_function : TypedFunction → TypedFunction
-cleaned_function f = record f { body = simple f.body }
-
--- a crate with the control flow of each body cleaned
-abbrev pub cleaned : Crate → Crate
-cleaned C = record C { functions = map cleaned_function C.functions }
-
--- the passes make the second crate of the first
+-- the passes make the second crate of the first: each body goes through the steps, and all else stays
 abbrev pub IsPassed : Crate → Crate → Type 0
-IsPassed C D = D ≡ cleaned C
+IsPassed C D = AllStepped C D
 
 -- ---- drops
-
-abbrev pub is_drop : Term → Bool
-is_drop (term.Drop p next) = true
-is_drop _ = false
 
 -- the terminator of a block, where it is a `drop`
 abbrev pub drop_spot : ℕ → ℕ → TypedBlock → List Spot

@@ -2,6 +2,8 @@ ghost use Rattle.std.specs.Prelude.{◌≡◌, ◌≤◌, List, ℕ, Some, IfOk,
 ghost use Rattle.std.specs.Io.KnownBytes.{IsAtEnd};
 ghost use Rattle.pipe_io.specs.Causes.{Rose};
 ghost use Rattle.mir_syntax.specs.Crate.{Crate, crate_of};
+ghost use Rattle.mir_syntax.specs.Drops.{KnowsDrops};
+ghost use Rattle.mir_syntax.specs.Ids.{IdsInTable};
 ghost use Rattle.mir_rules.specs.Valid.{Valid, Within};
 ghost use Rattle.mir_print.specs.Prints.{Prints};
 ghost use Rattle.mirpipe_cli.specs.declared.words.Command.TheVariants.{Check, Seq};
@@ -50,6 +52,8 @@ fn check(alloc: Global, accepted: Accepted) -> Result<Output, Refusal>
 }
 
 fn seq(alloc: Global, accepted: Accepted) -> Result<Output, Refusal>
+    requires knows { KnowsDrops accepted.program }
+    requires ids { IdsInTable accepted.program }
     requires valid { Valid (crate_of accepted.program) }
     requires within { Within (crate_of accepted.program) }
     ensures writes { (input : List ℕ) → IsAccepted input (crate_of accepted.program) accepted.lines → IfOk result (λ output. Writes Seq input (bytes_of output)) }

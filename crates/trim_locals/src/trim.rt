@@ -1,6 +1,7 @@
 ghost use Rattle.std.specs.Prelude.{◌≡◌, ◌<◌, ◌^◌, map, length, IfOk};
 ghost use Rattle.mir_syntax.specs.Tree.{trees_of};
 ghost use Rattle.mir_syntax.specs.Crate.{body_of};
+ghost use Rattle.mir_syntax.specs.Ids.{BodyInTable};
 ghost use Rattle.bit_rows.specs.Rows.{row_at, HasSize};
 ghost use Rattle.trim_locals.specs.Trimmed.{new_numbers as all_new_numbers, marked_items, trimmed as trimmed_body};
 
@@ -46,7 +47,8 @@ fn used_types(alloc: Global, used: &BitRows, locals: &[TyId]) -> Result<List<TyI
 /// then.
 pub fn trimmed(alloc: Global, program: &Program, body: Body) -> Result<Body, OutOfMemory>
     requires { length body.locals < 2 ^ 30 }
-    ensures { IfOk result (λ left. body_of (trees_of program.now.types) left ≡ trimmed_body (body_of (trees_of program.now.types) body)) }
+    ensures trimmed { IfOk result (λ left. body_of (trees_of program.now.types) left ≡ trimmed_body (body_of (trees_of program.now.types) body)) }
+    ensures in_table { BodyInTable program.now.types body → IfOk result (λ left. BodyInTable program.now.types left) }
 {
     let used = used_row(alloc, &body)?;
     let numbers = new_numbers(alloc, &used, body.locals.len() as u32)?;

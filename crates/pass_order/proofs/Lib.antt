@@ -1,0 +1,5 @@
+pub mod Fits
+pub mod Ready
+pub mod Alone
+pub mod Going
+pub mod Whole
