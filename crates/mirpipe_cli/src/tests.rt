@@ -12,6 +12,12 @@ const SKIPS: &[u8] =
 const SKIPPED: &[u8] =
     b"fn g() -> i32 {\n    let mut _0: i32;\n\n    bb0: {\n        _0 = const 4_i32;\n        return;\n    }\n}\n";
 
+const UNREAD: &[u8] =
+    b"fn h(_1: u8) -> u8 { let mut _0: u8; let mut _2: u8; bb0: { _2 = const 3_u8; _0 = copy _1; return; } }";
+
+const READ: &[u8] =
+    b"fn h(_1: u8) -> u8 {\n    let mut _0: u8;\n\n    bb0: {\n        _0 = copy _1;\n        return;\n    }\n}\n";
+
 const BACK_TO_START: &[u8] =
     b"fn l() -> () {\n    let mut _0: ();\n\n    bb0: {\n        goto -> bb1;\n    }\n\n    bb1: {\n        goto -> bb0;\n    }\n}\n";
 
@@ -44,6 +50,7 @@ fn answers_by_words_and_input(rt: HostRuntime) -> Result<(), Fail> {
         ("check", "", DROPS, 0, b"ok 2\n".as_slice(), none),
         ("seq", "", RETURNS, 0, RETURNS, none),
         ("seq", "", SKIPS, 0, SKIPPED, none),
+        ("seq", "", UNREAD, 0, READ, none),
         ("", "", RETURNS, 2, none, b"word 1\n".as_slice()),
         ("seq", "x", RETURNS, 2, none, b"word 2\n".as_slice()),
         (
