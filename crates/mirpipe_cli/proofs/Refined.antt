@@ -1,7 +1,7 @@
 -- A crate without `drop` terminators is refined by what the passes make of it.
-use Rattle.std.proofs.Common.{◌≡◌, refl, ℕ, Bool, true, false, List, [], ◌∷◌, Option, Some, None, option_map, slice_get, if◌then◌else◌, ◌+◌}
+use Rattle.std.proofs.Common.{◌≡◌, refl, ℕ, Bool, true, false, List, [], ◌∷◌, Some, None, option_map, slice_get, if◌then◌else◌, ◌+◌}
 use Rattle.mir_syntax.specs.declared.lines.Lines.{Lines}
-use Rattle.mir_syntax.specs.Crate.{TypedBlock, TypedFunction, Crate}
+use Rattle.mir_syntax.specs.Crate.{TypedFunction, Crate}
 use Rattle.mir_rules.specs.Broken.{Spot, terminator, gather}
 use Rattle.mir_rules.specs.Faults.{line_at}
 use Rattle.mir_rules.specs.Valid.{Valid, Within}
