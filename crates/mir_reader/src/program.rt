@@ -8,7 +8,7 @@ ghost use Rattle.mir_reader.specs.declared.refused.ReadRefused.TheVariants as re
 use crate::{ReadRefused, parse};
 use mir_file::{Resolved, resolve_file};
 use mir_symbols::read_symbols;
-use mir_syntax::{Lines, Program};
+use mir_syntax::{Lines, List, Program};
 use std::alloc::Global;
 
 /// The program that a text names, and the lines of its parts.
@@ -33,8 +33,11 @@ pub fn read_program(alloc: Global, bytes: &[u8]) -> Result<Read, ReadRefused>
     ensures first { (code line : ℕ) → result ≡ Err (refused.Fault code line) → IsRefusedWith bytes.now code line }
     ensures in_table { IfOk result (λ read. IdsInTable read.program) }
 {
-    let found = read_symbols(alloc, bytes)?;
+    let mut found = read_symbols(alloc, bytes)?;
     let file = parse(alloc, &found)?;
+    // The symbols take more memory than all else, and are read no more.
+    found.symbols = List::new(alloc);
+    found.lines = List::new(alloc);
     let Resolved { program, lines } = resolve_file(alloc, &found.strings, &file)?;
     Ok(Read { program, lines })
 }
