@@ -64,6 +64,7 @@ more_sound F I G t ts first_sound others_sound is v rest h = by_first (read_by F
         let both_sound = pair_sound I G t ts x.0 y.0 is x.1 y.1 (first_sound is x.0 x.1 e) (others_sound x.1 y.0 y.1 g) in
         let first = subst (λ w. Front (is_by I (more t ts) w) (flat_by G (more t ts) w) is y.1) (ap (λ p. p.0) pair) both_sound in
         subst (λ r. Front (is_by I (more t ts) v) (flat_by G (more t ts) v) is r) (ap (λ p. p.1) pair) first
+
     by_first : (x : Reading) → read_by F t is ≡ x → then_read (read_by F ts) x ≡ Some (v, rest) → Front (is_by I (more t ts) v) (flat_by G (more t ts) v) is rest
     by_first None e g = absurd cc
     by_first (Some x) e g = by_second x e (read_by F ts x.1) refl g
@@ -95,9 +96,11 @@ variant_sound F I G def ts (pos k ∷ is) v rest h = by_size (nat_lt k (2 ^ 32))
         record { front = pos k ∷ inner.front; is_typed = rw e inner.is_typed; is_form = rw (e, inner.is_form) refl; whole = ap (λ x. pos k ∷ x) inner.whole } in
         let first = subst (λ w. Front (is_variant_of I ts w) (flat_variant G ts w) (pos k ∷ is) y.1) (ap (λ p. p.0) pair) whole in
         subst (λ r. Front (is_variant_of I ts v) (flat_variant G ts v) (pos k ∷ is) r) (ap (λ p. p.1) pair) first
+
     by_fields : (o : Option Tree) → slice_get ts k ≡ o → read_fields F is (with_number k o) ≡ Some (v, rest) → Front (is_variant_of I ts v) (flat_variant G ts v) (pos k ∷ is) rest
     by_fields None e g = absurd cc
     by_fields (Some t) e g = by_value t e (read_by F t is) refl g
+
     by_size : (b : Bool) → nat_lt k (2 ^ 32) ≡ b → Front (is_variant_of I ts v) (flat_variant G ts v) (pos k ∷ is) rest
     by_size true e = by_fields (slice_get ts k) refl (rw e at h)
     by_size false e = let no : ◌≡◌ {A = Reading} None (Some (v, rest)) = rw e at h in absurd cc
