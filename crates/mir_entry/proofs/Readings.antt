@@ -1,5 +1,5 @@
 -- What is read from integers is a value of the type in front of the rest, and each such value is read.
-use Rattle.std.proofs.Common.{◌≡◌, ◌∙◌, refl, sym, ap, subst, ℕ, zero, suc, ◌<◌, ◌≤◌, ◌^◌, Bool, true, false, ◌&&◌, nat_lt, nat_eq, if◌then◌else◌, List, [], ◌∷◌, ◌++◌, length, map, slice_get, Option, Some, None, arith, append_assoc, ℤ, pos, negsuc}
+use Rattle.std.proofs.Common.{◌≡◌, ◌∙◌, refl, sym, ap, subst, ℕ, zero, suc, ◌<◌, ◌≤◌, ◌^◌, Bool, true, false, nat_lt, List, [], ◌∷◌, ◌++◌, length, slice_get, Option, Some, None, arith, append_assoc, ℤ, pos, negsuc}
 use Rattle.std.proofs.lemmas.Bool.{and_parts}
 use Rattle.std.proofs.lemmas.Bool.Decides.{nat_tests}
 use Rattle.std.proofs.lemmas.Option.{slice_get_within}
@@ -8,10 +8,10 @@ use Rattle.mir_syntax.specs.Tree.{Tree, scalar, empty, more, ref, ref_mut, named
 use Rattle.mir_syntax.specs.Shapes.{Shape, ◌>>=◌, struct_fields}
 use Rattle.mir_num.specs.Widths.{patterns}
 use Rattle.mir_num.specs.Numbers.{integer_of, exactly}
-use Rattle.mir_semantics.specs.Values.{Value, number, nil, cons, variant, pointer, hole, listed}
-use Rattle.mir_semantics.specs.Entry.{is_by, is_fields, is_variant_of, is_of, is_def, both, flat_by, flat_fields, flat_variant, flat_of, flat_def, has_type, flat}
-use Rattle.mir_entry.specs.Readings.{Reading, read_scalar, scalar_front, then_read, read_by, as_variant, with_number, variant_named, read_fields, read_variant, read_of, read_def, reading}
-use Rattle.mir_entry.proofs.Integers.{Bits, bits_for, exact_of}
+use Rattle.mir_semantics.specs.Values.{Value, number, nil, cons, variant}
+use Rattle.mir_semantics.specs.Entry.{is_by, is_variant_of, is_of, is_def, both, flat_by, flat_fields, flat_variant, flat_of, flat_def, has_type, flat}
+use Rattle.mir_entry.specs.Readings.{Reading, read_scalar, scalar_front, then_read, read_by, as_variant, with_number, read_fields, read_variant, read_of, read_def, reading}
+use Rattle.mir_entry.proofs.Integers.{bits_for, exact_of}
 
 -- a value, by whether it is of a type and its flat form, stands in front of the rest
 pub record Front (typed : Bool) (form : Option (List ℤ)) (is rest : List ℤ) : Type 0 where

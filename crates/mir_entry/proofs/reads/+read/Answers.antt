@@ -4,7 +4,7 @@ use Rattle.mir_syntax.specs.Tree.{trees_of}
 use Rattle.mir_syntax.specs.Crate.{variant_of}
 use Rattle.mir_syntax.specs.Shapes.{fields_tuple, first_variant}
 use Rattle.mir_meaning.specs.Programs.{shapes_in}
-use Rattle.mir_entry.specs.Readings.{read_by, read_def, read_variant, integers_of}
+use Rattle.mir_entry.specs.Readings.{read_by, read_def, integers_of}
 use Rattle.mir_entry.proofs.Variants.{read_past, read_enum, read_struct, fields_pushed, ids_pushed, fields_done, ids_done, below_rest}
 use Rattle.mir_entry.proofs.reads.+read.Goals as goal
 
