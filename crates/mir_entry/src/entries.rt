@@ -142,7 +142,7 @@ fn has_path(function: &Function, path: &[u8]) -> bool
 
 /// The function with a path; the first where several have it.
 pub fn function_at(program: &Program, path: &[u8]) -> Option<FnId>
-    ensures { MatchOption result ((k : ℕ) (g : spec.Function) → k < 2 ^ 32 → slice_get program.now.functions k ≡ Some g → g.path ≡ path.now → ⊥) (λ f. (g : spec.Function) × (slice_get program.now.functions f.0 ≡ Some g) × (g.path ≡ path.now)) }
+    ensures { MatchOption result ((k : ℕ) (g : spec.Function) → k < 2 ^ 32 → slice_get program.now.functions k ≡ Some g → g.path ≡ path.now → ⊥) (λ f. (g : spec.Function) × (slice_get program.now.functions f.0 ≡ Some g) × (g.path ≡ path.now) × ((k : ℕ) (h : spec.Function) → k < f.0 → slice_get program.now.functions k ≡ Some h → h.path ≡ path.now → ⊥)) }
 {
     let mut left = program.functions.as_slice();
     let mut place = 0;
