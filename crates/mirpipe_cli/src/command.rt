@@ -15,11 +15,12 @@ use crate::drops::first_drop;
 use crate::fault::{InputFault, Refusal};
 use crate::load::{Accepted, load};
 use crate::passes::passed;
-use crate::words::Command;
+use crate_run::{RunFault, run_function};
 use itoa::Buffer;
 use mir_print::print_program;
-use mir_syntax::{List, OutOfMemory, Program};
+use mir_syntax::{List, Number, OutOfMemory, Program};
 use pipe_io::{Failed, Sink, Source, write_all};
+use pipe_words::Command;
 use std::alloc::Global;
 
 /// What a command writes.
@@ -70,8 +71,25 @@ fn seq(alloc: Global, accepted: Accepted) -> Result<Output, Refusal>
     }
 }
 
+fn run(
+    alloc: Global,
+    accepted: Accepted,
+    path: &[u8],
+    args: &[Number],
+    answers: &[u128],
+    steps: u64,
+) -> Result<Output, Refusal>
+{
+    match run_function(alloc, &accepted.program, path, args, answers, steps) {
+        Ok(text) => Ok(Output::Line(text)),
+        Err(RunFault::NoFunction) => Err(Refusal::Input(InputFault::NoFunction)),
+        Err(RunFault::NoEntry) => Err(Refusal::Input(InputFault::NoEntry)),
+        Err(RunFault::OutOfMemory) => Err(Refusal::OutOfMemory),
+    }
+}
+
 /// Does the work of a command: what it writes, or why there is nothing to write. All memory is taken here.
-pub fn work<S: Source>(alloc: Global, command: Command, source: &mut S) -> Result<Output, Refusal>
+pub fn work<S: Source>(alloc: Global, command: &Command, source: &mut S) -> Result<Output, Refusal>
     ensures writes { (input : List ℕ) → S.left source.old ≡ Some input → IfOk result (λ output. Writes command input (bytes_of output)) }
     ensures refines { (input : List ℕ) → S.left source.old ≡ Some input → command ≡ Seq → IfOk result (λ output. IsOptimised input (bytes_of output)) }
     ensures refused { (input : List ℕ) → S.left source.old ≡ Some input → IfErr result (OfInput (λ fault. Refuses command fault × IsFaulty input fault)) }
@@ -85,6 +103,14 @@ pub fn work<S: Source>(alloc: Global, command: Command, source: &mut S) -> Resul
     match command {
         Command::Check => check(alloc, accepted),
         Command::Seq => seq(alloc, accepted),
+        Command::Run(path, args, answers, steps) => run(
+            alloc,
+            accepted,
+            path.as_slice(),
+            args.as_slice(),
+            answers.as_slice(),
+            *steps,
+        ),
     }
 }
 

@@ -14,7 +14,6 @@ mod load;
 mod notes;
 mod passes;
 mod run;
-mod words;
 
 pub use run::run_quiet;
 

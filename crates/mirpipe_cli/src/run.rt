@@ -8,8 +8,8 @@ ghost use Rattle.mirpipe_cli.specs.Answer.{Told, Answers, IsOptimised};
 use crate::command::{work, write};
 use crate::fault::Refusal;
 use crate::notes::{note, note_fault, note_word};
-use crate::words::asked;
 use pipe_io::{Failed, Sink, Source};
+use pipe_words::{WordsFault, parse};
 use std::alloc::Global;
 
 /// Does what the words ask for, and answers the status.
@@ -65,14 +65,18 @@ pub fn run_quiet<S: Source, K: Sink, N: Sink>(
     ensures write_line { result ≡ 4 → (Rose (N.faults notes.old) (N.faults notes.new) → ⊥) → Appends (N.written notes.old) (N.written notes.new) (codes "write fault\n") }
     ensures memory_line { result ≡ 5 → (Rose (N.faults notes.old) (N.faults notes.new) → ⊥) → Appends (N.written notes.old) (N.written notes.new) (codes "out of memory\n") }
 {
-    let command = match asked(words) {
+    let command = match parse(alloc, words) {
         Ok(command) => command,
-        Err(place) => {
+        Err(WordsFault::Bad(place)) => {
             note_word(notes, place);
             return 2;
         }
+        Err(WordsFault::OutOfMemory) => {
+            note(notes, b"out of memory\n");
+            return 5;
+        }
     };
-    match work(alloc, command, source) {
+    match work(alloc, &command, source) {
         Ok(output) => match write(&output, out) {
             Ok(()) => 0,
             Err(Failed) => {

@@ -1,0 +1,153 @@
+-- Entries, by what was read of their arguments.
+use Rattle.std.proofs.Common.{◌≡◌, ◌∙◌, refl, sym, ap, subst, ℕ, zero, suc, ◌+◌, Bool, true, false, not, List, [], ◌∷◌, ◌++◌, map, take, drop, slice_get, Option, Some, None, IsTrue, inl, inr, ◌⊎◌, add-one, ℤ, ◌≤◌, ◌^◌, length, arith}
+use Rattle.std.proofs.lemmas.List.{append-nil, length-map}
+use Rattle.std.proofs.lemmas.Bool.Decides.{nat_tests}
+use Rattle.std.specs.Option.{option_map}
+use Rattle.mir_syntax.specs.declared.types.TyId.{TyId}
+use Rattle.mir_syntax.specs.declared.body.Body.{Body}
+use Rattle.mir_syntax.specs.declared.body.Function.{Function}
+use Rattle.mir_syntax.specs.declared.program.Program.{Program}
+use Rattle.mir_syntax.specs.Tree.{Tree, more, tuple_of, at_id, at_ids, trees_of}
+use Rattle.mir_syntax.specs.Crate.{TypedBody, crate_of, body_of, function_of, def_of, variant_of}
+use Rattle.mir_syntax.specs.Shapes.{Shape, shape_of, fields_tuple}
+use Rattle.mir_syntax.proofs.Places.{shape-at, shape-past}
+use Rattle.mir_semantics.specs.Values.{Value, listed}
+use Rattle.mir_semantics.specs.Step.{body_in}
+use Rattle.mir_semantics.specs.Run.{Entry}
+use Rattle.mir_semantics.specs.Entry.{IsEntry, AreFlat, has_type, flat, holds_reference, result_and_args, arg_types}
+use Rattle.mir_meaning.specs.declared.datum.Datum.{Datum}
+use Rattle.mir_meaning.specs.Programs.{shapes_in}
+use Rattle.mir_meaning.specs.Views.{value_of, fields_of}
+use Rattle.mir_machine.specs.declared.state.EntryCall.{EntryCall}
+use Rattle.mir_machine.specs.Seen.{code_in}
+use Rattle.mir_machine.specs.Runs.{entry_in}
+use Rattle.mir_entry.specs.Readings.{reading}
+use Rattle.std.specs.List.{list_all}
+use Rattle.std.specs.Prelude.{Result, Ok, Err, IsErrAnd}
+use Rattle.mir_entry.specs.declared.entries.EntryFault.{EntryFault}
+use Rattle.mir_entry.specs.declared.entries.EntryFault.TheVariants as fault
+use Rattle.mir_syntax.specs.declared.types.Def.{Def}
+use Rattle.mir_entry.specs.Entering.{few_variants, signature, has_references, arguments_read, Enters, Refuses}
+use Rattle.mir_entry.proofs.Readings.{Front, Few, reading_sound, reading_complete}
+
+-- ---- bodies and their types
+
+slice_get-mapped : {A B : Type 0} (g : A → B) (xs : List A) (k : ℕ) → slice_get (map g xs) k ≡ option_map g (slice_get xs k)
+slice_get-mapped g [] k = refl
+slice_get-mapped g (x ∷ xs) zero = refl
+slice_get-mapped g (x ∷ xs) (suc k) = slice_get-mapped g xs k
+
+body_at : (p : Program) (k : ℕ) → slice_get (code_in p).bodies k ≡ option_map (λ g. body_of (trees_of p.types) g.body) (slice_get p.functions k)
+body_at p k =
+    slice_get-mapped body_in (crate_of p).functions k ∙ ap (option_map body_in) (slice_get-mapped (function_of (trees_of p.types)) p.functions k) ∙ twice (slice_get p.functions k)
+  where
+    twice : (o : Option Function) → option_map body_in (option_map (function_of (trees_of p.types)) o) ≡ option_map (λ g. body_of (trees_of p.types) g.body) o
+    twice None = refl
+    twice (Some g) = refl
+
+take-mapped : {A B : Type 0} (g : A → B) (n : ℕ) (xs : List A) → take n (map g xs) ≡ map g (take n xs)
+take-mapped g zero xs = refl
+take-mapped g (suc n) [] = refl
+take-mapped g (suc n) (x ∷ xs) = ap (λ ys. g x ∷ ys) (take-mapped g n xs)
+
+drop_one : {A B : Type 0} (g : A → B) (xs : List A) → drop 1 (map g xs) ≡ map g (drop 1 xs)
+drop_one g [] = refl
+drop_one g (x ∷ xs) = refl
+
+tuple_ids : (trees : List Tree) (ids : List TyId) → at_ids trees ids ≡ tuple_of (map (at_id trees) ids)
+tuple_ids trees [] = refl
+tuple_ids trees (id ∷ ids) = ap (more (at_id trees id)) (tuple_ids trees ids)
+
+signature_types : (trees : List Tree) (b : Body) → result_and_args (body_of trees b) ≡ map (at_id trees) (signature b)
+signature_types trees b = take-mapped (at_id trees) (suc b.args) b.locals ∙ ap (λ n. map (at_id trees) (take n b.locals)) (sym (add-one b.args))
+
+all_types : (trees : List Tree) (b : Body) → at_ids trees (signature b) ≡ tuple_of (result_and_args (body_of trees b))
+all_types trees b = tuple_ids trees (signature b) ∙ ap tuple_of (sym (signature_types trees b))
+
+argument_types : (trees : List Tree) (b : Body) → at_ids trees (drop 1 (signature b)) ≡ tuple_of (arg_types (body_of trees b))
+argument_types trees b = tuple_ids trees (drop 1 (signature b)) ∙ ap tuple_of (sym (ap (drop 1) (signature_types trees b) ∙ drop_one (at_id trees) (signature b)))
+
+-- ---- entries that are made
+
+found_body : (p : Program) (k : ℕ) (g : Function) → slice_get p.functions k ≡ Some g → slice_get (code_in p).bodies k ≡ Some (body_of (trees_of p.types) g.body)
+found_body p k g h = body_at p k ∙ ap (option_map (λ x. body_of (trees_of p.types) x.body)) h
+
+pub entered : (p : Program) (g : Function) (is : List ℤ) (call : EntryCall) → slice_get p.functions call.f.0 ≡ Some g → Enters p g.body is call.args → IsEntry (code_in p) (entry_in call)
+entered p g is call h enters =
+    let trees = trees_of p.types in
+    let front = reading_sound (shapes_in p) (at_ids trees (drop 1 (signature g.body))) is (fields_of call.args) [] enters.read in
+    let no : holds_reference (shapes_in p) (tuple_of (result_and_args (body_of trees g.body))) ≡ false = ap (holds_reference (shapes_in p)) (sym (all_types trees g.body)) ∙ enters.plain in
+    record {
+      body = body_of trees g.body;
+      there = found_body p call.f.0 g h;
+      plain = ap not no;
+      typed = ap (λ t. has_type (shapes_in p) t (fields_of call.args)) (sym (argument_types trees g.body)) ∙ front.is_typed;
+    }
+
+same_body : (a : Option TypedBody) (b c : TypedBody) → a ≡ Some b → a ≡ Some c → b ≡ c
+same_body a b c h k = let both : Some b ≡ Some c = sym h ∙ k in cc
+
+pub entered_flat : (p : Program) (k : ℕ) (g : Function) (is : List ℤ) (args : List Datum) → slice_get p.functions k ≡ Some g → Enters p g.body is args
+    → (body : TypedBody) → slice_get (code_in p).bodies k ≡ Some body → AreFlat (shapes_in p) (arg_types body) is (map value_of args)
+entered_flat p k g is args h enters body there =
+    let trees = trees_of p.types in
+    let front = reading_sound (shapes_in p) (at_ids trees (drop 1 (signature g.body))) is (fields_of args) [] enters.read in
+    let types = argument_types trees g.body in
+    let whole : front.front ≡ is = sym (front.whole ∙ append-nil front.front) in
+    let flats : AreFlat (shapes_in p) (arg_types (body_of trees g.body)) is (map value_of args) = record {
+      typed = ap (λ t. has_type (shapes_in p) t (fields_of args)) (sym types) ∙ front.is_typed;
+      form = ap (λ t. flat (shapes_in p) t (fields_of args)) (sym types) ∙ front.is_form ∙ ap Some whole;
+    } in
+    subst (λ b. AreFlat (shapes_in p) (arg_types b) is (map value_of args)) (same_body (slice_get (code_in p).bodies k) (body_of trees g.body) body (found_body p k g h) there) flats
+
+few_in : (defs : List Def) (d : ℕ) (def : Def) → list_all few_variants defs ≡ true → slice_get defs d ≡ Some def → few_variants def ≡ true
+few_in [] d def h e = absurd cc
+few_in (x ∷ defs) d def h e = by_first (few_variants x) refl
+  where
+    by_place : (j : ℕ) → list_all few_variants defs ≡ true → few_variants x ≡ true → slice_get (x ∷ defs) j ≡ Some def → few_variants def ≡ true
+    by_place zero later own g = let same : x ≡ def = cc in subst (λ y. few_variants y ≡ true) same own
+    by_place (suc j) later own g = few_in defs j def later g
+    by_first : (b : Bool) → few_variants x ≡ b → few_variants def ≡ true
+    by_first true own = by_place d (rw own at h) own e
+    by_first false own = let no : false ≡ true = rw own at h in absurd cc
+
+-- ---- entries that are refused
+
+pub no_function : (p : Program) (k : ℕ) (body : TypedBody) → slice_get p.functions k ≡ None → slice_get (code_in p).bodies k ≡ Some body → ⊥
+no_function p k body h there = let wrong : ◌≡◌ {A = Option TypedBody} None (Some body) = sym (body_at p k ∙ ap (option_map (λ x. body_of (trees_of p.types) x.body)) h) ∙ there in cc
+
+pub not_entered : (p : Program) → Few (shapes_in p) → (k : ℕ) (g : Function) (is : List ℤ) → slice_get p.functions k ≡ Some g → Refuses p g.body is
+    → (body : TypedBody) (e : Entry) → slice_get (code_in p).bodies k ≡ Some body → e.function ≡ k → IsEntry (code_in p) e → AreFlat (shapes_in p) (arg_types body) is e.args → ⊥
+not_entered p few k g is h (inl refers) body e there at entry flats =
+    let trees = trees_of p.types in
+    let own : slice_get (code_in p).bodies k ≡ Some entry.body = ap (slice_get (code_in p).bodies) (sym at) ∙ entry.there in
+    let same = same_body (slice_get (code_in p).bodies k) (body_of trees g.body) entry.body (found_body p k g h) own in
+    let yes : holds_reference (shapes_in p) (tuple_of (result_and_args entry.body)) ≡ true = ap (λ b. holds_reference (shapes_in p) (tuple_of (result_and_args b))) (sym same) ∙ ap (holds_reference (shapes_in p)) (sym (all_types trees g.body)) ∙ refers in
+    let wrong : false ≡ true = sym (ap not yes) ∙ entry.plain in
+    cc
+not_entered p few k g is h (inr none) body e there at entry flats =
+    let trees = trees_of p.types in
+    let same = same_body (slice_get (code_in p).bodies k) (body_of trees g.body) body (found_body p k g h) there in
+    let types : at_ids trees (drop 1 (signature g.body)) ≡ tuple_of (arg_types body) = argument_types trees g.body ∙ ap (λ b. tuple_of (arg_types b)) same in
+    let read = reading_complete (shapes_in p) few (tuple_of (arg_types body)) (listed e.args) is [] flats.typed flats.form in
+    none (listed e.args) (ap (λ t. reading (shapes_in p) t is) types ∙ ap (reading (shapes_in p) (tuple_of (arg_types body))) (sym (append-nil is)) ∙ read)
+
+variants_typed : (p : Program) (d : ℕ) (s : Shape) (o : Option Def) → slice_get p.defs d ≡ o → list_all few_variants p.defs ≡ true → slice_get (shapes_in p) d ≡ Some s → length s.variants ≤ 2 ^ 32
+variants_typed p d s None h all e = let wrong : ◌≡◌ {A = Option Shape} None (Some s) = sym (shape-past p d h) ∙ e in absurd cc
+variants_typed p d s (Some def) h all e =
+    let few = few_in p.defs d def all h in
+    let same : shape_of (crate_of p).functions (0 + d) (def_of (trees_of p.types) def) ≡ s = let both : ◌≡◌ {A = Option Shape} (Some (shape_of (crate_of p).functions (0 + d) (def_of (trees_of p.types) def))) (Some s) = sym (shape-at p d def h) ∙ e in cc in
+    let counts : length (map fields_tuple (map (variant_of (trees_of p.types)) def.variants)) ≡ length def.variants = length-map (map (variant_of (trees_of p.types)) def.variants) fields_tuple ∙ length-map def.variants (variant_of (trees_of p.types)) in
+    let small : length def.variants ≤ 2 ^ 32 = grind (arith, nat_tests) in
+    subst (λ x. length x.variants ≤ 2 ^ 32) same (rw counts small)
+
+pub few_shapes : (p : Program) → list_all few_variants p.defs ≡ true → Few (shapes_in p)
+few_shapes p all = record { few = λ d s e. variants_typed p d s (slice_get p.defs d) refl all e }
+
+pub few_yes : (b c : Bool) → b ≡ c → b ≡ true → c ≡ true
+few_yes b c h e = sym h ∙ e
+
+-- the fault of a call is that of the function that makes it
+pub fault_on : {A B : Type 0} (r : Result A EntryFault) (s : Result B EntryFault) (e : EntryFault) (k : ℕ) → r ≡ Err e → IsErrAnd s (λ x. x ≡ e) → s ≡ Err (fault.NotFit k) → r ≡ Err (fault.NotFit k)
+fault_on r (Ok y) e k h g n = absurd g
+fault_on r (Err x) e k h g n = let same : x ≡ fault.NotFit k = cc in h ∙ ap Err (sym g ∙ same)

@@ -1,0 +1,9 @@
+pub mod Entering
+pub mod Exact
+pub mod FlatDefs
+pub mod FlatParts
+pub mod Finding
+pub mod Integers
+pub mod Readings
+pub mod Referring
+pub mod Variants

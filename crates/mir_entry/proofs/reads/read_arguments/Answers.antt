@@ -1,0 +1,35 @@
+use Rattle.std.proofs.Common.{◌≡◌, ◌∙◌, refl, ap, suc, length, Some, None, arith}
+use Rattle.mir_syntax.specs.Tree.{at_ids, trees_of}
+use Rattle.mir_meaning.specs.Programs.{shapes_in, type_in}
+use Rattle.mir_meaning.specs.Views.{value_of, fields_of}
+use Rattle.mir_entry.specs.Readings.{Reading, read_by, read_def, integers_of}
+use Rattle.mir_entry.proofs.Variants.{ids_pushed, ids_stopped, ids_done, reading_in}
+use Rattle.mir_entry.proofs.reads.read_arguments.Goals as goal
+
+pub arguments-preserved : goal.arguments-preserved
+arguments-preserved c =
+    let p = c.args.program.now in
+    let count : length c.arguments.types.now ≡ suc (length c.in-Some.others.now) = ap length c.in-Some.ensures in
+    let found : ◌≡◌ {A = Reading} (Some (value_of c.in-Some-2.value, integers_of c.in-Some-2.rest.now)) (read_by (read_def (shapes_in p) c.len.result) (type_in p c.in-Some.ty) (integers_of c.arguments.numbers.now)) = rw c.in-Some-2.is at c.in_ok-value.ensures in
+    record {
+      place = omega (arith, count, c.arguments.invariant.place);
+      same =
+        ids_pushed (read_def (shapes_in p) (length p.defs)) (trees_of p.types) c.arguments.types.now c.in-Some.others.now c.in-Some.ty c.arguments.values c.push.new.self c.in-Some-2.value (integers_of c.arguments.numbers.now) (integers_of c.in-Some-2.rest.now)
+        c.in-Some.ensures (found ∙ ap (λ n. read_by (read_def (shapes_in p) n) (type_in p c.in-Some.ty) (integers_of c.arguments.numbers.now)) c.len.ensures) c.in_ok-push-in-Some-2.ensures.ok
+        ∙ c.arguments.invariant.same;
+    }
+
+pub returns-in-None : goal.returns-in-None
+returns-in-None c =
+    let p = c.args.program.now in
+    let none : ◌≡◌ {A = Reading} None (read_by (read_def (shapes_in p) c.len.result) (type_in p c.in-Some.ty) (integers_of c.arguments.numbers.now)) = rw c.in-None.is at c.in_ok-value.ensures in
+    reading_in p (at_ids (trees_of p.types) c.args.types.now) (length p.defs) (integers_of c.args.numbers.now) None refl
+    (ids_stopped (read_def (shapes_in p) (length p.defs)) (trees_of p.types) c.arguments.types.now c.in-Some.others.now c.in-Some.ty c.arguments.values (integers_of c.arguments.numbers.now) _ c.in-Some.ensures
+      (none ∙ ap (λ n. read_by (read_def (shapes_in p) n) (type_in p c.in-Some.ty) (integers_of c.arguments.numbers.now)) c.len.ensures)
+      c.arguments.invariant.same)
+
+pub returns : goal.returns
+returns c =
+    let p = c.args.program.now in
+    reading_in p (at_ids (trees_of p.types) c.args.types.now) (length p.defs) (integers_of c.args.numbers.now) (Some (fields_of c.arguments.values, integers_of c.arguments.numbers.now)) refl
+    (ids_done (read_def (shapes_in p) (length p.defs)) (trees_of p.types) c.arguments.types.now c.arguments.values (integers_of c.arguments.numbers.now) _ c.in_default.ensures c.arguments.invariant.same)

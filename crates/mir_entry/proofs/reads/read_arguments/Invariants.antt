@@ -1,0 +1,15 @@
+use Rattle.std.proofs.Common.{◌≡◌, ◌+◌, map, length}
+use Rattle.mir_syntax.specs.Tree.{at_ids, trees_of}
+use Rattle.mir_meaning.specs.Programs.{shapes_in}
+use Rattle.mir_meaning.specs.Views.{value_of}
+use Rattle.mir_entry.specs.Readings.{read_by, read_def, integers_of, behind}
+use Rattle.mir_entry.proofs.reads.read_arguments.Given as goal
+
+abbrev pub invariant-arguments : goal.invariant-arguments
+invariant-arguments l = record {
+  place : l.place + length l.types ≡ length l.initial.types;
+  same : behind (map value_of l.values) (read_by (read_def (shapes_in l.program) (length l.program.defs)) (at_ids (trees_of l.program.types) l.types) (integers_of l.numbers)) ≡ read_by (read_def (shapes_in l.program) (length l.program.defs)) (at_ids (trees_of l.program.types) l.initial.types) (integers_of l.initial.numbers);
+}
+
+abbrev pub decreases-arguments : goal.decreases-arguments
+decreases-arguments l = length l.types
