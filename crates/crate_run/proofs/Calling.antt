@@ -1,9 +1,11 @@
 -- The functions of a program and of its crate.
-use Rattle.std.proofs.Common.{◌≡◌, ◌≤◌, ◌<◌, ◌^◌, ℕ, zero, suc, List, [], ◌∷◌, length, take, drop, map, ◌++◌, slice_get, Option, Some, None, refl, sym, ap, subst, ◌∙◌, arith}
+use Rattle.std.proofs.Common.{◌≡◌, ◌≤◌, ◌<◌, ◌^◌, ℕ, zero, suc, List, [], ◌∷◌, length, take, drop, map, ◌++◌, slice_get, Option, Some, None, Result, Ok, Err, refl, sym, ap, ◌∙◌, arith}
+use Rattle.std.specs.Prelude.{IsErrAnd}
 use Rattle.std.specs.Option.{option_map}
 use Rattle.std.proofs.lemmas.List.{length-map}
 use Rattle.std.proofs.lemmas.Option.{slice_get-map, slice_get_within}
 use Rattle.mir_syntax.specs.declared.body.Function.{Function}
+use Rattle.mir_syntax.specs.declared.types.TyId.{TyId}
 use Rattle.mir_syntax.specs.declared.program.Program.{Program}
 use Rattle.mir_syntax.specs.Tree.{at_id, trees_of}
 use Rattle.mir_syntax.specs.Crate.{TypedFunction, Crate, function_of, crate_of}
@@ -13,6 +15,8 @@ use Rattle.mir_rules.specs.Valid.{Valid, Within}
 use Rattle.mir_rules.proofs.Lists.{append_empty-left, map_empty-source}
 use Rattle.mir_rules.proofs.ValidCrates.{args_below, body_formed_at}
 use Rattle.mir_semantics.specs.Step.{body_in, code_of}
+use Rattle.mir_meaning.specs.Programs.{type_in}
+use Rattle.crate_run.specs.declared.fault.RunFault.{RunFault}
 use Rattle.crate_run.specs.Ran.{IsAt, HasNoFunction}
 
 -- ---- one function
@@ -68,3 +72,12 @@ none_has_path p path within none k f at =
 
 pub has_path : (p : Program) (path : List ℕ) (k : ℕ) (g : Function) → slice_get p.functions k ≡ Some g → g.path ≡ path → IsAt (crate_of p) path k (function_of (trees_of p.types) g)
 has_path p path k g e named = record { there = function_there p k g e; named = named }
+
+-- the type of `_0` as the crate has it
+pub result_typed : (p : Program) (g : Function) (ty : TyId) → slice_get g.body.locals 0 ≡ Some ty → slice_get (function_of (trees_of p.types) g).body.locals 0 ≡ Some (type_in p ty)
+result_typed p g ty e = slice_get-map (at_id (trees_of p.types)) g.body.locals 0 ∙ ap (option_map (at_id (trees_of p.types))) e
+
+-- the fault of a call is that of the function that makes it
+pub fault_on : {A B : Type 0} (r : Result A RunFault) (s : Result B RunFault) (e x : RunFault) → r ≡ Err e → IsErrAnd s (λ y. y ≡ e) → s ≡ Err x → r ≡ Err x
+fault_on r (Ok b) e x is same gives = absurd same
+fault_on r (Err y) e x is same gives = let whole : y ≡ x = cc in is ∙ ap Err (sym same ∙ whole)
