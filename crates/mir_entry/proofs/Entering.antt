@@ -1,6 +1,7 @@
 -- Entries, by what was read of their arguments.
-use Rattle.std.proofs.Common.{◌≡◌, ◌∙◌, refl, sym, ap, subst, ℕ, zero, suc, ◌+◌, Bool, true, false, not, List, [], ◌∷◌, ◌++◌, map, take, drop, slice_get, Option, Some, None, IsTrue, inl, inr, ◌⊎◌, add-one, ℤ, ◌≤◌, ◌^◌, length, arith}
-use Rattle.std.proofs.lemmas.List.{append-nil, length-map}
+use Rattle.std.proofs.Common.{◌≡◌, ◌∙◌, refl, sym, ap, subst, ℕ, suc, ◌+◌, Bool, true, false, not, List, [], ◌∷◌, map, take, drop, slice_get, Option, Some, None, inl, inr, add-one, ℤ, ◌≤◌, ◌^◌, length, arith}
+use Rattle.std.proofs.lemmas.List.{append-nil, length-map, take-map}
+use Rattle.std.proofs.lemmas.Option.{slice_get-map}
 use Rattle.std.proofs.lemmas.Bool.Decides.{nat_tests}
 use Rattle.std.specs.Option.{option_map}
 use Rattle.mir_syntax.specs.declared.types.TyId.{TyId}
@@ -11,7 +12,8 @@ use Rattle.mir_syntax.specs.Tree.{Tree, more, tuple_of, at_id, at_ids, trees_of}
 use Rattle.mir_syntax.specs.Crate.{TypedBody, crate_of, body_of, function_of, def_of, variant_of}
 use Rattle.mir_syntax.specs.Shapes.{Shape, shape_of, fields_tuple}
 use Rattle.mir_syntax.proofs.Places.{shape-at, shape-past}
-use Rattle.mir_semantics.specs.Values.{Value, listed}
+use Rattle.mir_rules.proofs.Lists.{list_all_true-at}
+use Rattle.mir_semantics.specs.Values.{listed}
 use Rattle.mir_semantics.specs.Step.{body_in}
 use Rattle.mir_semantics.specs.Run.{Entry}
 use Rattle.mir_semantics.specs.Entry.{IsEntry, AreFlat, has_type, flat, holds_reference, result_and_args, arg_types}
@@ -27,28 +29,18 @@ use Rattle.std.specs.Prelude.{Result, Ok, Err, IsErrAnd}
 use Rattle.mir_entry.specs.declared.entries.EntryFault.{EntryFault}
 use Rattle.mir_entry.specs.declared.entries.EntryFault.TheVariants as fault
 use Rattle.mir_syntax.specs.declared.types.Def.{Def}
-use Rattle.mir_entry.specs.Entering.{few_variants, signature, has_references, arguments_read, Enters, Refuses}
-use Rattle.mir_entry.proofs.Readings.{Front, Few, reading_sound, reading_complete}
+use Rattle.mir_entry.specs.Entering.{few_variants, signature, Enters, Refuses}
+use Rattle.mir_entry.proofs.Readings.{Few, reading_sound, reading_complete}
 
 -- ---- bodies and their types
 
-slice_get-mapped : {A B : Type 0} (g : A → B) (xs : List A) (k : ℕ) → slice_get (map g xs) k ≡ option_map g (slice_get xs k)
-slice_get-mapped g [] k = refl
-slice_get-mapped g (x ∷ xs) zero = refl
-slice_get-mapped g (x ∷ xs) (suc k) = slice_get-mapped g xs k
-
 body_at : (p : Program) (k : ℕ) → slice_get (code_in p).bodies k ≡ option_map (λ g. body_of (trees_of p.types) g.body) (slice_get p.functions k)
 body_at p k =
-    slice_get-mapped body_in (crate_of p).functions k ∙ ap (option_map body_in) (slice_get-mapped (function_of (trees_of p.types)) p.functions k) ∙ twice (slice_get p.functions k)
+    slice_get-map body_in (crate_of p).functions k ∙ ap (option_map body_in) (slice_get-map (function_of (trees_of p.types)) p.functions k) ∙ twice (slice_get p.functions k)
   where
     twice : (o : Option Function) → option_map body_in (option_map (function_of (trees_of p.types)) o) ≡ option_map (λ g. body_of (trees_of p.types) g.body) o
     twice None = refl
     twice (Some g) = refl
-
-take-mapped : {A B : Type 0} (g : A → B) (n : ℕ) (xs : List A) → take n (map g xs) ≡ map g (take n xs)
-take-mapped g zero xs = refl
-take-mapped g (suc n) [] = refl
-take-mapped g (suc n) (x ∷ xs) = ap (λ ys. g x ∷ ys) (take-mapped g n xs)
 
 drop_one : {A B : Type 0} (g : A → B) (xs : List A) → drop 1 (map g xs) ≡ map g (drop 1 xs)
 drop_one g [] = refl
@@ -59,7 +51,7 @@ tuple_ids trees [] = refl
 tuple_ids trees (id ∷ ids) = ap (more (at_id trees id)) (tuple_ids trees ids)
 
 signature_types : (trees : List Tree) (b : Body) → result_and_args (body_of trees b) ≡ map (at_id trees) (signature b)
-signature_types trees b = take-mapped (at_id trees) (suc b.args) b.locals ∙ ap (λ n. map (at_id trees) (take n b.locals)) (sym (add-one b.args))
+signature_types trees b = take-map (at_id trees) (suc b.args) b.locals ∙ ap (λ n. map (at_id trees) (take n b.locals)) (sym (add-one b.args))
 
 all_types : (trees : List Tree) (b : Body) → at_ids trees (signature b) ≡ tuple_of (result_and_args (body_of trees b))
 all_types trees b = tuple_ids trees (signature b) ∙ ap tuple_of (sym (signature_types trees b))
@@ -100,17 +92,6 @@ entered_flat p k g is args h enters body there =
     } in
     subst (λ b. AreFlat (shapes_in p) (arg_types b) is (map value_of args)) (same_body (slice_get (code_in p).bodies k) (body_of trees g.body) body (found_body p k g h) there) flats
 
-few_in : (defs : List Def) (d : ℕ) (def : Def) → list_all few_variants defs ≡ true → slice_get defs d ≡ Some def → few_variants def ≡ true
-few_in [] d def h e = absurd cc
-few_in (x ∷ defs) d def h e = by_first (few_variants x) refl
-  where
-    by_place : (j : ℕ) → list_all few_variants defs ≡ true → few_variants x ≡ true → slice_get (x ∷ defs) j ≡ Some def → few_variants def ≡ true
-    by_place zero later own g = let same : x ≡ def = cc in subst (λ y. few_variants y ≡ true) same own
-    by_place (suc j) later own g = few_in defs j def later g
-    by_first : (b : Bool) → few_variants x ≡ b → few_variants def ≡ true
-    by_first true own = by_place d (rw own at h) own e
-    by_first false own = let no : false ≡ true = rw own at h in absurd cc
-
 -- ---- entries that are refused
 
 pub no_function : (p : Program) (k : ℕ) (body : TypedBody) → slice_get p.functions k ≡ None → slice_get (code_in p).bodies k ≡ Some body → ⊥
@@ -135,7 +116,7 @@ not_entered p few k g is h (inr none) body e there at entry flats =
 variants_typed : (p : Program) (d : ℕ) (s : Shape) (o : Option Def) → slice_get p.defs d ≡ o → list_all few_variants p.defs ≡ true → slice_get (shapes_in p) d ≡ Some s → length s.variants ≤ 2 ^ 32
 variants_typed p d s None h all e = let wrong : ◌≡◌ {A = Option Shape} None (Some s) = sym (shape-past p d h) ∙ e in absurd cc
 variants_typed p d s (Some def) h all e =
-    let few = few_in p.defs d def all h in
+    let few = list_all_true-at few_variants p.defs d def all h in
     let same : shape_of (crate_of p).functions (0 + d) (def_of (trees_of p.types) def) ≡ s = let both : ◌≡◌ {A = Option Shape} (Some (shape_of (crate_of p).functions (0 + d) (def_of (trees_of p.types) def))) (Some s) = sym (shape-at p d def h) ∙ e in cc in
     let counts : length (map fields_tuple (map (variant_of (trees_of p.types)) def.variants)) ≡ length def.variants = length-map (map (variant_of (trees_of p.types)) def.variants) fields_tuple ∙ length-map def.variants (variant_of (trees_of p.types)) in
     let small : length def.variants ≤ 2 ^ 32 = grind (arith, nat_tests) in

@@ -1,10 +1,10 @@
 -- The bits of integers, where a type has them.
-use Rattle.std.proofs.Common.{◌≡◌, ◌∙◌, refl, sym, ap, ℕ, zero, suc, ◌+◌, ◌-◌, ◌%◌, ◌<◌, ◌≤◌, Bool, true, false, if◌then◌else◌, Option, Some, None, arith, ℤ, pos, negsuc}
+use Rattle.std.proofs.Common.{◌≡◌, ◌∙◌, sym, ap, ℕ, zero, suc, ◌+◌, ◌-◌, ◌<◌, ◌≤◌, Some, None, arith, pos, negsuc}
 use Rattle.std.specs.Prelude.{◌≤ℤ◌, ◌<ℤ◌, neg_ℤ}
 use Rattle.std.proofs.lemmas.Int.{ints}
 use native.Mathlib.Nat.{mod-eq_of_lt}
 use Rattle.mir_syntax.specs.declared.types.ScalarTy.{ScalarTy}
-use Rattle.mir_num.specs.Widths.{is_signed, patterns, negatives}
+use Rattle.mir_num.specs.Widths.{patterns, negatives}
 use Rattle.mir_num.specs.Numbers.{bits_of, exactly}
 use Rattle.mir_num.proofs.Patterns.{exactly_fits, exactly_not, fits_between, fits_not_low, fits_not_high}
 

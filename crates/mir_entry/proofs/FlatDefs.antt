@@ -1,5 +1,5 @@
 -- The flat form of values of definitions, and of a whole value.
-use Rattle.std.proofs.Common.{◌≡◌, ◌∙◌, refl, sym, ap, ℕ, zero, suc, ◌-◌, Bool, true, false, if◌then◌else◌, List, [], ◌∷◌, ◌++◌, map, length, Option, Some, None, slice_get, ℤ, pos, append_assoc, arith}
+use Rattle.std.proofs.Common.{◌≡◌, ◌∙◌, refl, sym, ap, ℕ, zero, suc, ◌-◌, Bool, true, false, List, [], ◌∷◌, ◌++◌, map, length, Option, Some, None, slice_get, ℤ, pos, append_assoc, arith}
 use Rattle.std.proofs.lemmas.List.{map-append}
 use Rattle.mir_syntax.specs.declared.number.Number.{Number}
 use Rattle.mir_syntax.specs.declared.types.Field.{Field}
@@ -9,7 +9,6 @@ use Rattle.mir_syntax.specs.Shapes.{Shape, ◌>>=◌, fields_tree, fields_of_str
 use Rattle.mir_semantics.specs.Values.{Value, number, nil, cons, variant, pointer, hole}
 use Rattle.mir_semantics.specs.Step.{variant_in}
 use Rattle.mir_semantics.specs.Entry.{both, flat_by, flat_fields, flat_variant, flat_of, flat_def, flat}
-use Rattle.mir_meaning.specs.declared.datum.Datum.{Datum}
 use Rattle.mir_meaning.specs.Programs.{shapes_in}
 use Rattle.mir_meaning.proofs.Blanks.{depth_enough}
 use Rattle.mir_machine.specs.Ends.{integer_in}

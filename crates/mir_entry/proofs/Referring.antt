@@ -1,14 +1,12 @@
 -- References in types, part by part.
-use Rattle.std.proofs.Common.{◌≡◌, ◌∙◌, refl, sym, ap, ℕ, zero, suc, ◌+◌, ◌-◌, ◌<◌, ◌≤◌, Bool, true, false, ◌||◌, List, [], ◌∷◌, map, length, drop, get_or, slice_get, Option, Some, None, add-one, arith}
+use Rattle.std.proofs.Common.{◌≡◌, ◌∙◌, refl, sym, ap, ℕ, zero, suc, ◌+◌, ◌-◌, ◌<◌, ◌≤◌, Bool, true, false, ◌||◌, List, [], ◌∷◌, map, length, drop, get_or, slice_get, Some, None, add-one, arith}
 use Rattle.std.proofs.Math.Seq.{drop-cons}
 use Rattle.mir_syntax.specs.declared.types.TyId.{TyId}
-use Rattle.mir_syntax.specs.declared.types.Field.{Field}
-use Rattle.mir_syntax.specs.declared.types.Variant.{Variant}
 use Rattle.mir_syntax.specs.declared.types.Def.{Def}
 use Rattle.mir_syntax.specs.declared.program.Program.{Program}
 use Rattle.mir_syntax.specs.Tree.{Tree, more, at_id, at_ids, trees_of}
-use Rattle.mir_syntax.specs.Crate.{crate_of, variant_of, def_of}
-use Rattle.mir_syntax.specs.Shapes.{Shape, shape_of, fields_tree, fields_tuple}
+use Rattle.mir_syntax.specs.Crate.{variant_of}
+use Rattle.mir_syntax.specs.Shapes.{Shape, fields_tuple}
 use Rattle.mir_syntax.proofs.Places.{shape-at, shape-past}
 use Rattle.mir_semantics.specs.Entry.{refers_by, refers_of, refers_def, any_refers, holds_reference}
 use Rattle.mir_meaning.specs.Programs.{shapes_in}

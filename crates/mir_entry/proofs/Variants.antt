@@ -1,5 +1,5 @@
 -- Variants by their places, and what is read of them.
-use Rattle.std.proofs.Common.{◌≡◌, ◌∙◌, refl, sym, ap, ℕ, zero, suc, ◌-◌, Bool, true, false, List, [], ◌∷◌, ◌++◌, map, slice_get, length, Option, Some, None, arith, rules, subst, IsTrue, ◌<◌, ℤ}
+use Rattle.std.proofs.Common.{◌≡◌, ◌∙◌, refl, sym, ap, ℕ, zero, suc, ◌-◌, true, false, List, [], ◌∷◌, ◌++◌, map, slice_get, length, Some, None, arith, rules, subst, IsTrue, ◌<◌, ℤ}
 use Rattle.std.proofs.lemmas.List.{map-append}
 use Rattle.mir_syntax.specs.Table.{all_below}
 use Rattle.mir_syntax.specs.declared.types.TyId.{TyId}
@@ -11,7 +11,7 @@ use Rattle.mir_syntax.specs.declared.types.Variant.{Variant}
 use Rattle.mir_syntax.specs.declared.types.Def.{Def}
 use Rattle.mir_syntax.specs.declared.program.Program.{Program}
 use Rattle.mir_syntax.specs.Tree.{Tree, more, at_id, at_ids, trees_of}
-use Rattle.mir_syntax.specs.Crate.{crate_of, variant_of}
+use Rattle.mir_syntax.specs.Crate.{variant_of}
 use Rattle.mir_syntax.specs.Shapes.{Shape, ◌>>=◌, fields_tree, fields_tuple, first_variant}
 use Rattle.mir_syntax.proofs.Places.{shape-at, shape-past}
 use Rattle.mir_semantics.specs.Values.{Value, cons, listed}

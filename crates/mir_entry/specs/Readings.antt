@@ -1,10 +1,10 @@
 -- Values that are read from their flat form. No public promise rests on these: those of `mir_semantics` speak of the flat form.
-use Rattle.std.specs.Prelude.{ℕ, zero, suc, ◌^◌, Bool, true, false, nat_lt, if◌then◌else◌, List, [], ◌∷◌, ◌++◌, map, length, Option, Some, None, slice_get, ℤ, pos, negsuc}
+use Rattle.std.specs.Prelude.{ℕ, zero, suc, ◌^◌, nat_lt, if◌then◌else◌, List, [], ◌∷◌, map, length, Option, Some, None, slice_get, ℤ, pos, negsuc}
 use Rattle.mir_syntax.specs.declared.number.Number.{Number}
-use Rattle.mir_syntax.specs.Tree.{Tree, scalar, empty, more, ref, ref_mut, named}
+use Rattle.mir_syntax.specs.Tree.{Tree, scalar, empty, more, named}
 use Rattle.mir_syntax.specs.Shapes.{Shape, ◌>>=◌, struct_fields}
 use Rattle.mir_num.specs.Numbers.{exactly}
-use Rattle.mir_semantics.specs.Values.{Value, number, nil, cons, variant, listed}
+use Rattle.mir_semantics.specs.Values.{Value, number, nil, cons, variant}
 use Rattle.mir_machine.specs.Ends.{integer_in}
 use Rattle.mir_syntax.specs.declared.types.ScalarTy.{ScalarTy}
 use Rattle.mir_entry.specs.declared.reads.Arguments.{Arguments}

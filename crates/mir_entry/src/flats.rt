@@ -19,11 +19,7 @@ use mir_syntax::{Field, List, Number, OutOfMemory, Program, ScalarTy, Ty, TyId};
 use std::alloc::Global;
 
 #[tactic(auto, using(crate::proofs::FlatParts::scalar_pushed, crate::proofs::FlatParts::scalar_none))]
-fn push_scalar(
-    ty: ScalarTy,
-    value: &Datum,
-    out: &mut List<Number>,
-) -> Result<bool, OutOfMemory>
+fn push_scalar(ty: ScalarTy, value: &Datum, out: &mut List<Number>) -> Result<bool, OutOfMemory>
     ensures { (of_def : ℕ → Value → Option (List ℤ)) → IfOk result (λ whole. both (Some (map integer_in out.old)) (flat_by of_def (scalar ty) (value_of value.now)) ≡ pushed whole out.new) }
 {
     match number_of(value) {
@@ -37,7 +33,13 @@ fn push_scalar(
 
 /// Puts the flat form of a value of a type at the end, to a depth of definitions inside one another; false where it has none.
 #[cycle(flat)]
-fn push_value(program: &Program, depth: usize, id: TyId, value: &Datum, out: &mut List<Number>) -> Result<bool, OutOfMemory>
+fn push_value(
+    program: &Program,
+    depth: usize,
+    id: TyId,
+    value: &Datum,
+    out: &mut List<Number>,
+) -> Result<bool, OutOfMemory>
     ensures { IfOk result (λ whole. both (Some (map integer_in out.old)) (flat_by (flat_def (shapes_in program.now) depth) (type_in program.now id) (value_of value.now)) ≡ pushed whole out.new) }
 {
     if let Some(scalar) = scalar_of(program, id) {
@@ -56,7 +58,14 @@ fn push_value(program: &Program, depth: usize, id: TyId, value: &Datum, out: &mu
 }
 
 #[cycle(flat)]
-fn push_tuple(program: &Program, depth: usize, bound: u32, ids: &[TyId], value: &Datum, out: &mut List<Number>) -> Result<bool, OutOfMemory>
+fn push_tuple(
+    program: &Program,
+    depth: usize,
+    bound: u32,
+    ids: &[TyId],
+    value: &Datum,
+    out: &mut List<Number>,
+) -> Result<bool, OutOfMemory>
     requires { IsTrue (all_below bound ids.now) }
     ensures { IfOk result (λ whole. both (Some (map integer_in out.old)) (flat_by (flat_def (shapes_in program.now) depth) (at_ids (trees_of program.now.types) ids.now) (value_of value.now)) ≡ pushed whole out.new) }
 {
@@ -67,7 +76,14 @@ fn push_tuple(program: &Program, depth: usize, bound: u32, ids: &[TyId], value: 
 }
 
 #[cycle(flat)]
-fn push_types(program: &Program, depth: usize, bound: u32, ids: &[TyId], values: &[Datum], out: &mut List<Number>) -> Result<bool, OutOfMemory>
+fn push_types(
+    program: &Program,
+    depth: usize,
+    bound: u32,
+    ids: &[TyId],
+    values: &[Datum],
+    out: &mut List<Number>,
+) -> Result<bool, OutOfMemory>
     requires { IsTrue (all_below bound ids.now) }
     ensures { IfOk result (λ whole. both (Some (map integer_in out.old)) (flat_by (flat_def (shapes_in program.now) depth) (at_ids (trees_of program.now.types) ids.now) (fields_of values.now)) ≡ pushed whole out.new) }
 {
@@ -87,7 +103,14 @@ fn push_types(program: &Program, depth: usize, bound: u32, ids: &[TyId], values:
 }
 
 #[cycle(flat)]
-fn push_def(program: &Program, depth: usize, id: TyId, def: u32, value: &Datum, out: &mut List<Number>) -> Result<bool, OutOfMemory>
+fn push_def(
+    program: &Program,
+    depth: usize,
+    id: TyId,
+    def: u32,
+    value: &Datum,
+    out: &mut List<Number>,
+) -> Result<bool, OutOfMemory>
     requires { type_in program.now id ≡ named def }
     ensures { IfOk result (λ whole. both (Some (map integer_in out.old)) (flat_def (shapes_in program.now) depth def (value_of value.now)) ≡ pushed whole out.new) }
 {
@@ -103,13 +126,22 @@ fn push_def(program: &Program, depth: usize, id: TyId, def: u32, value: &Datum, 
     let Some(fields) = program.variant_fields(id, place) else {
         return Ok(false);
     };
-    let number = Number { negative: false, size: place as u128 };
+    let number = Number {
+        negative: false,
+        size: place as u128,
+    };
     out.push(number)?;
     push_fields(program, depth - 1, fields, values, out)
 }
 
 #[cycle(flat)]
-fn push_struct(program: &Program, depth: usize, fields: &[Field], value: &Datum, out: &mut List<Number>) -> Result<bool, OutOfMemory>
+fn push_struct(
+    program: &Program,
+    depth: usize,
+    fields: &[Field],
+    value: &Datum,
+    out: &mut List<Number>,
+) -> Result<bool, OutOfMemory>
     ensures { IfOk result (λ whole. both (Some (map integer_in out.old)) (flat_by (flat_def (shapes_in program.now) depth) (fields_tree (trees_of program.now.types) fields.now) (value_of value.now)) ≡ pushed whole out.new) }
 {
     let Some(values) = parts(value) else {
@@ -119,7 +151,13 @@ fn push_struct(program: &Program, depth: usize, fields: &[Field], value: &Datum,
 }
 
 #[cycle(flat)]
-fn push_fields(program: &Program, depth: usize, fields: &[Field], values: &[Datum], out: &mut List<Number>) -> Result<bool, OutOfMemory>
+fn push_fields(
+    program: &Program,
+    depth: usize,
+    fields: &[Field],
+    values: &[Datum],
+    out: &mut List<Number>,
+) -> Result<bool, OutOfMemory>
     ensures { IfOk result (λ whole. both (Some (map integer_in out.old)) (flat_by (flat_def (shapes_in program.now) depth) (fields_tree (trees_of program.now.types) fields.now) (fields_of values.now)) ≡ pushed whole out.new) }
 {
     let mut fields = fields;
@@ -139,7 +177,12 @@ fn push_fields(program: &Program, depth: usize, fields: &[Field], values: &[Datu
 
 /// The flat form of a value of a type: a scalar's integer, a tuple's or struct's fields in order, an enum's variant number and then that
 /// variant's fields. `None` where it is no value of the type.
-pub fn flat(alloc: Global, program: &Program, id: TyId, value: &Datum) -> Result<Option<List<Number>>, OutOfMemory>
+pub fn flat(
+    alloc: Global,
+    program: &Program,
+    id: TyId,
+    value: &Datum,
+) -> Result<Option<List<Number>>, OutOfMemory>
     ensures { IfOk result (λ numbers. option_map (map integer_in) numbers ≡ sem.flat (shapes_in program.now) (type_in program.now id) (value_of value.now)) }
 {
     let mut out = List::new(alloc);

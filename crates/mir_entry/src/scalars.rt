@@ -31,7 +31,11 @@ fn lowest(ty: ScalarTy) -> u128
 fn bits_up(ty: ScalarTy, size: u128) -> Option<u128>
     ensures { result ≡ exactly ty (pos size) }
 {
-    if size <= greatest(ty) { Some(size) } else { None }
+    if size <= greatest(ty) {
+        Some(size)
+    } else {
+        None
+    }
 }
 
 /// The bits of a negative number, where it is one of the type's.

@@ -1,4 +1,4 @@
-use Rattle.std.proofs.Common.{◌≡◌, ◌∙◌, sym, ap, not}
+use Rattle.std.proofs.Common.{sym}
 use Rattle.mir_entry.specs.Readings.{integers_of}
 use Rattle.mir_entry.proofs.Entering.{entered, entered_flat, no_function, not_entered, few_shapes, fault_on, few_yes}
 use Rattle.mir_entry.proofs.entries.entry.Goals as goal

@@ -1,4 +1,3 @@
-use Rattle.std.proofs.Common.{◌∙◌}
 use Rattle.mir_entry.proofs.Finding.{found_there, on_behind, none_on, none_at_all, none_numbered}
 use Rattle.mir_entry.proofs.entries.function_at.Goals as goal
 

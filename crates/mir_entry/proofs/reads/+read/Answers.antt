@@ -4,7 +4,7 @@ use Rattle.mir_syntax.specs.Tree.{trees_of}
 use Rattle.mir_syntax.specs.Crate.{variant_of}
 use Rattle.mir_syntax.specs.Shapes.{fields_tuple, first_variant}
 use Rattle.mir_meaning.specs.Programs.{shapes_in}
-use Rattle.mir_entry.specs.Readings.{read_by, read_def, read_variant, integers_of}
+use Rattle.mir_entry.specs.Readings.{read_by, read_def, integers_of}
 use Rattle.mir_entry.proofs.Variants.{read_past, read_enum, read_struct, fields_pushed, ids_pushed, fields_done, ids_done, below_rest}
 use Rattle.mir_entry.proofs.reads.+read.Goals as goal
 
@@ -22,9 +22,9 @@ pub read_types-types-preserved : goal.read_types-types-preserved
 read_types-types-preserved t c = record {
   below = below_rest c.args.bound c.types.ids.now c.in-Some.others.now c.in-Some.id c.in-Some.ensures c.types.invariant.below;
   same =
-    ids_pushed (read_def (shapes_in c.args.program.now) c.args.depth) (trees_of c.args.program.now.types) c.types.ids.now c.in-Some.others.now c.in-Some.id c.types.values c.push.new.self c.in-Some-2.value (integers_of c.types.numbers.now) (integers_of c.in-Some-2.rest.now)
-    c.in-Some.ensures (rw c.in-Some-2.is at c.in_ok-value.ensures) c.in_ok-push-in-Some-2.ensures.ok
-    ∙ c.types.invariant.same;
+      ids_pushed (read_def (shapes_in c.args.program.now) c.args.depth) (trees_of c.args.program.now.types) c.types.ids.now c.in-Some.others.now c.in-Some.id c.types.values c.push.new.self c.in-Some-2.value (integers_of c.types.numbers.now) (integers_of c.in-Some-2.rest.now)
+      c.in-Some.ensures (rw c.in-Some-2.is at c.in_ok-value.ensures) c.in_ok-push-in-Some-2.ensures.ok
+      ∙ c.types.invariant.same;
 }
 
 pub read_types-returns : goal.read_types-returns

@@ -14,9 +14,9 @@ arguments-preserved c =
     record {
       place = omega (arith, count, c.arguments.invariant.place);
       same =
-        ids_pushed (read_def (shapes_in p) (length p.defs)) (trees_of p.types) c.arguments.types.now c.in-Some.others.now c.in-Some.ty c.arguments.values c.push.new.self c.in-Some-2.value (integers_of c.arguments.numbers.now) (integers_of c.in-Some-2.rest.now)
-        c.in-Some.ensures (found ∙ ap (λ n. read_by (read_def (shapes_in p) n) (type_in p c.in-Some.ty) (integers_of c.arguments.numbers.now)) c.len.ensures) c.in_ok-push-in-Some-2.ensures.ok
-        ∙ c.arguments.invariant.same;
+          ids_pushed (read_def (shapes_in p) (length p.defs)) (trees_of p.types) c.arguments.types.now c.in-Some.others.now c.in-Some.ty c.arguments.values c.push.new.self c.in-Some-2.value (integers_of c.arguments.numbers.now) (integers_of c.in-Some-2.rest.now)
+          c.in-Some.ensures (found ∙ ap (λ n. read_by (read_def (shapes_in p) n) (type_in p c.in-Some.ty) (integers_of c.arguments.numbers.now)) c.len.ensures) c.in_ok-push-in-Some-2.ensures.ok
+          ∙ c.arguments.invariant.same;
     }
 
 pub returns-in-None : goal.returns-in-None
@@ -25,8 +25,8 @@ returns-in-None c =
     let none : ◌≡◌ {A = Reading} None (read_by (read_def (shapes_in p) c.len.result) (type_in p c.in-Some.ty) (integers_of c.arguments.numbers.now)) = rw c.in-None.is at c.in_ok-value.ensures in
     reading_in p (at_ids (trees_of p.types) c.args.types.now) (length p.defs) (integers_of c.args.numbers.now) None refl
     (ids_stopped (read_def (shapes_in p) (length p.defs)) (trees_of p.types) c.arguments.types.now c.in-Some.others.now c.in-Some.ty c.arguments.values (integers_of c.arguments.numbers.now) _ c.in-Some.ensures
-      (none ∙ ap (λ n. read_by (read_def (shapes_in p) n) (type_in p c.in-Some.ty) (integers_of c.arguments.numbers.now)) c.len.ensures)
-      c.arguments.invariant.same)
+    (none ∙ ap (λ n. read_by (read_def (shapes_in p) n) (type_in p c.in-Some.ty) (integers_of c.arguments.numbers.now)) c.len.ensures)
+    c.arguments.invariant.same)
 
 pub returns : goal.returns
 returns c =

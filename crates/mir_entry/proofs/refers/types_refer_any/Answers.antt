@@ -1,4 +1,4 @@
-use Rattle.std.proofs.Common.{◌∙◌, sym, arith}
+use Rattle.std.proofs.Common.{◌∙◌, sym}
 use Rattle.mir_syntax.specs.Tree.{trees_of}
 use Rattle.mir_meaning.specs.Programs.{shapes_in}
 use Rattle.mir_entry.proofs.Referring.{any_on, any_stop, any_end}
