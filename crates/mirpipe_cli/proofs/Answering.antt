@@ -1,12 +1,13 @@
 -- What is told, from what was read and written.
 use Rattle.std.proofs.Common.{◌≡◌, ℕ, List, [], Option, Some, None, Result, Ok, Err, inl, inr, refl, sym, subst}
 use Rattle.std.proofs.lemmas.List.{append-nil}
-use Rattle.std.specs.Prelude.{IfErr}
+use Rattle.std.specs.Prelude.{IfErr, IsErrAnd}
 use Rattle.std.specs.Io.KnownBytes.{Appends}
 use Rattle.mir_syntax.specs.declared.lines.Lines.{Lines}
 use Rattle.mir_syntax.specs.declared.number.Number.{Number}
 use Rattle.mir_syntax.specs.Crate.{Crate}
 use Rattle.mir_text.specs.Text.{text}
+use Rattle.crate_run.specs.Ran.{IsRunText, IsNoEntry}
 use Rattle.pipe_words.specs.declared.command.Command.{Command}
 use Rattle.pipe_words.specs.declared.command.Command.TheVariants.{Check, Seq, Run}
 use Rattle.pipe_words.specs.Commands.{Says, IsMisfit}
@@ -61,11 +62,15 @@ refuses_any Check input fault h = h
 refuses_any Seq input fault h = h.0
 refuses_any (Run path args answers steps) input fault h = refuses_run path args input fault h
 
-pub refused_any : {A : Type 0} (r : Result A Refusal) (command : Command) (input : List ℕ) → IfErr r (OfInput (λ fault. IsFaulty input fault × IsNoDrop fault)) → IfErr r (OfInput (Refuses command input))
-refused_any (Ok a) command input h = h
-refused_any (Err ReadFault) command input h = h
-refused_any (Err OutOfMemory) command input h = h
-refused_any (Err (Input fault)) command input h = refuses_any command input fault h
+of_any : (r : Refusal) (command : Command) (input : List ℕ) → OfInput (λ fault. IsFaulty input fault × IsNoDrop fault) r → OfInput (Refuses command input) r
+of_any ReadFault command input h = h
+of_any OutOfMemory command input h = h
+of_any (Input fault) command input h = refuses_any command input fault h
+
+-- what refuses an input refuses it for each command
+pub refused_any : {A : Type 0} (r : Result A Refusal) (e : Refusal) (command : Command) (input : List ℕ) → IsErrAnd r (λ x. x ≡ e) → OfInput (λ fault. IsFaulty input fault × IsNoDrop fault) e → IfErr r (OfInput (Refuses command input))
+refused_any (Ok a) e command input is h = absurd is
+refused_any (Err x) e command input is h = subst (λ r. OfInput (Refuses command input) r) (sym is) (of_any e command input h)
 
 pub refused_none : {A : Type 0} (r : Result A Refusal) (command : Command) (input : List ℕ) → IfErr r (OfInput (λ _. ⊥)) → IfErr r (OfInput (Refuses command input))
 refused_none (Ok a) command input h = h
@@ -76,3 +81,16 @@ refused_none (Err (Input fault)) command input h = absurd h
 -- what is refused for the faults of a command is refused for those of the command that it is
 pub refused_as : {A : Type 0} (r : Result A Refusal) (input : List ℕ) (command other : Command) → command ≡ other → IfErr r (OfInput (Refuses other input)) → IfErr r (OfInput (Refuses command input))
 refused_as r input command other e h = subst (λ k. IfErr r (OfInput (Refuses k input))) (sym e) h
+
+-- ---- runs
+
+-- the same words, read from lists and from slices
+pub run_text_as : (C : Crate) (path path2 : List ℕ) (args args2 : List Number) (answers answers2 : List ℕ) (steps : ℕ) (bytes : List ℕ) → path ≡ path2 → args ≡ args2 → answers ≡ answers2
+    → IsRunText C path args answers steps bytes → IsRunText C path2 args2 answers2 steps bytes
+run_text_as C path path2 args args2 answers answers2 steps bytes e f h run =
+    subst (λ l. IsRunText C path2 args2 l steps bytes) h
+    (subst (λ l. IsRunText C path2 l answers steps bytes) f
+    (subst (λ l. IsRunText C l args answers steps bytes) e run))
+
+pub no_entry_as : (C : Crate) (path path2 : List ℕ) (args args2 : List Number) → path ≡ path2 → args ≡ args2 → IsNoEntry C path args → IsNoEntry C path2 args2
+no_entry_as C path path2 args args2 e f none = subst (λ l. IsNoEntry C path2 l) f (subst (λ l. IsNoEntry C l args) e none)

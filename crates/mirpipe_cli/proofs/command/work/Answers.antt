@@ -7,7 +7,7 @@ use Rattle.mirpipe_cli.proofs.Answering.{refused_any, refused_none, refused_as}
 use Rattle.mirpipe_cli.proofs.command.work.Goals as goal
 
 pub returns-in_err-accepted-clause-refused : goal.returns-in_err-accepted-clause-refused
-returns-in_err-accepted-clause-refused g c = λ input left. refused_any _ c.args.command input (c.in_err-accepted.ensures.refused input left)
+returns-in_err-accepted-clause-refused g c = λ input left. refused_any c.from_residual.result c.in_err-accepted.field-0.0 c.args.command input c.from_residual.ensures.1 (c.in_err-accepted.ensures.refused input left)
 
 pub returns-in-Check-clause-writes : goal.returns-in-Check-clause-writes
 returns-in-Check-clause-writes g c = λ input left.
