@@ -22,13 +22,13 @@ says_fits words (Run name args answers count) (rest, e, run) place misfit =
     let whole : words ≡ codes "run" ∷ name ∷ run.args_word ∷ ws = e ∙ ap (λ l. codes "run" ∷ l) behind in
     let at = subst (λ l. IsMisfit l place) whole misfit in
     fits_on 1 (exactly (codes "run")) run_row (codes "run") (name ∷ run.args_word ∷ ws) place refl
-      (fits_on 2 path (numbers ∷ exactly (codes "--answers") ∷ numbers ∷ exactly (codes "--steps") ∷ steps ∷ []) name (run.args_word ∷ ws) place run.is_path
-      (fits_on 3 numbers (exactly (codes "--answers") ∷ numbers ∷ exactly (codes "--steps") ∷ steps ∷ []) run.args_word ws place (args, run.are_args)
-      (fits_on 4 (exactly (codes "--answers")) (numbers ∷ exactly (codes "--steps") ∷ steps ∷ []) (codes "--answers") (given.answers_word ∷ codes "--steps" ∷ given.steps_word ∷ []) place refl
-      (fits_on 5 numbers (exactly (codes "--steps") ∷ steps ∷ []) given.answers_word (codes "--steps" ∷ given.steps_word ∷ []) place (given.numbers, given.are_numbers)
-      (fits_on 6 (exactly (codes "--steps")) (steps ∷ []) (codes "--steps") (given.steps_word ∷ []) place refl
-      (fits_on 7 steps [] given.steps_word [] place (count, given.are_steps) (λ no. no)))))))
-      at
+    (fits_on 2 path (numbers ∷ exactly (codes "--answers") ∷ numbers ∷ exactly (codes "--steps") ∷ steps ∷ []) name (run.args_word ∷ ws) place run.is_path
+    (fits_on 3 numbers (exactly (codes "--answers") ∷ numbers ∷ exactly (codes "--steps") ∷ steps ∷ []) run.args_word ws place (args, run.are_args)
+    (fits_on 4 (exactly (codes "--answers")) (numbers ∷ exactly (codes "--steps") ∷ steps ∷ []) (codes "--answers") (given.answers_word ∷ codes "--steps" ∷ given.steps_word ∷ []) place refl
+    (fits_on 5 numbers (exactly (codes "--steps") ∷ steps ∷ []) given.answers_word (codes "--steps" ∷ given.steps_word ∷ []) place (given.numbers, given.are_numbers)
+    (fits_on 6 (exactly (codes "--steps")) (steps ∷ []) (codes "--steps") (given.steps_word ∷ []) place refl
+    (fits_on 7 steps [] given.steps_word [] place (count, given.are_steps) (λ no. no)))))))
+    at
 
 -- words that say `seq` say nothing else
 pub says_seq : (words : List (List ℕ)) (command : Command) → Says words Seq → Says words command → command ≡ Seq

@@ -96,9 +96,11 @@ fn run(
     );
     match ran {
         Ok(text) => Ok(Output::Line(text)),
-        Err(RunFault::NoFunction) => Err(Refusal::Input(InputFault::NoFunction)),
-        Err(RunFault::NoEntry) => Err(Refusal::Input(InputFault::NoEntry)),
-        Err(RunFault::OutOfMemory) => Err(Refusal::OutOfMemory),
+        Err(fault) => match fault {
+            RunFault::NoFunction => Err(Refusal::Input(InputFault::NoFunction)),
+            RunFault::NoEntry => Err(Refusal::Input(InputFault::NoEntry)),
+            RunFault::OutOfMemory => Err(Refusal::OutOfMemory),
+        },
     }
 }
 

@@ -69,14 +69,16 @@ pub fn run_quiet<S: Source, K: Sink, N: Sink>(
 {
     let command = match parse(alloc, words) {
         Ok(command) => command,
-        Err(WordsFault::Bad(place)) => {
-            note_word(notes, place);
-            return 2;
-        }
-        Err(WordsFault::OutOfMemory) => {
-            note(notes, b"out of memory\n");
-            return 5;
-        }
+        Err(fault) => match fault {
+            WordsFault::Bad(place) => {
+                note_word(notes, place);
+                return 2;
+            }
+            WordsFault::OutOfMemory => {
+                note(notes, b"out of memory\n");
+                return 5;
+            }
+        },
     };
     match work(alloc, command, source) {
         Ok(output) => match write(&output, out) {

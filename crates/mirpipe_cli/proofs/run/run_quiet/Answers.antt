@@ -8,9 +8,9 @@ use Rattle.mirpipe_cli.proofs.Asking.{says_fits, says_seq}
 use Rattle.mirpipe_cli.proofs.Answering.{appends_none, answers_word, answers_done, answers_refused}
 use Rattle.mirpipe_cli.proofs.run.run_quiet.Goals as goal
 
-pub returns-in-Err-Bad-clause-told : goal.returns-in-Err-Bad-clause-told
-returns-in-Err-Bad-clause-told g c = λ input left calm quiet other.
-    (word_fault c.in-Err-Bad.field-0-0, answers_word (map (string_bytes {Z = Global}) c.args.words.now) input c.in-Err-Bad.field-0-0 (c.in-Err-Bad.ensures.misfit c.in-Err-Bad.field-0-0 (ap Err c.in-Err-Bad.field-0-is)), refl, appends_none _, c.note_word.ensures.line)
+pub returns-in-Bad-clause-told : goal.returns-in-Bad-clause-told
+returns-in-Bad-clause-told g c = λ input left calm quiet other.
+    (word_fault c.in-Bad.place, answers_word (map (string_bytes {Z = Global}) c.args.words.now) input c.in-Bad.place (c.in-Err.ensures.misfit c.in-Bad.place (ap Err c.in-Bad.is)), refl, appends_none _, c.note_word.ensures.line)
 
 pub returns-in-Ok-write-clause-told : goal.returns-in-Ok-write-clause-told
 returns-in-Ok-write-clause-told g c = λ input left calm quiet other.
