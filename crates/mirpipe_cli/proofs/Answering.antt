@@ -1,34 +1,37 @@
 -- What is told, from what was read and written.
 use Rattle.std.proofs.Common.{◌≡◌, ℕ, List, [], Option, Some, None, Result, Ok, Err, inl, inr, refl, sym, subst}
 use Rattle.std.proofs.lemmas.List.{append-nil}
-use Rattle.std.specs.Prelude.{IfErr}
+use Rattle.std.specs.Prelude.{IfErr, IsErrAnd}
 use Rattle.std.specs.Io.KnownBytes.{Appends}
 use Rattle.mir_syntax.specs.declared.lines.Lines.{Lines}
+use Rattle.mir_syntax.specs.declared.number.Number.{Number}
 use Rattle.mir_syntax.specs.Crate.{Crate}
 use Rattle.mir_text.specs.Text.{text}
-use Rattle.mirpipe_cli.specs.declared.words.Command.{Command}
-use Rattle.mirpipe_cli.specs.declared.words.Command.TheVariants.{Seq}
+use Rattle.crate_run.specs.Ran.{IsRunText, IsNoEntry}
+use Rattle.pipe_words.specs.declared.command.Command.{Command}
+use Rattle.pipe_words.specs.declared.command.Command.TheVariants.{Check, Seq, Run}
+use Rattle.pipe_words.specs.Commands.{Says, IsMisfit}
 use Rattle.mirpipe_cli.specs.declared.fault.InputFault.{InputFault}
+use Rattle.mirpipe_cli.specs.declared.fault.InputFault.TheVariants.{Long, Text, Rule, Limit, Drops, NoFunction, NoEntry}
 use Rattle.mirpipe_cli.specs.declared.fault.Refusal.{Refusal}
 use Rattle.mirpipe_cli.specs.declared.fault.Refusal.TheVariants.{ReadFault, OutOfMemory, Input}
-use Rattle.mirpipe_cli.specs.Words.{asked}
 use Rattle.mirpipe_cli.specs.Passed.{IsPassed, first_drop}
-use Rattle.mirpipe_cli.specs.Refused.{IsAccepted, IsFaulty, OfInput}
-use Rattle.mirpipe_cli.specs.Answer.{done, refused, word_fault, Refuses, Writes, OfWords, Answers, IsOptimised}
+use Rattle.mirpipe_cli.specs.Refused.{IsAccepted, IsFaulty, OfInput, IsNoDrop}
+use Rattle.mirpipe_cli.specs.Answer.{done, refused, word_fault, RefusesRun, Refuses, Writes, Answers, IsOptimised}
 use Rattle.mirpipe_cli.proofs.Refined.{passed_refines}
 
 pub appends_none : (known : Option (List ℕ)) → Appends known known []
 appends_none None = tt
 appends_none (Some xs) = sym (append-nil xs)
 
-pub answers_word : (words : List (List ℕ)) (input : List ℕ) (k : ℕ) → asked words ≡ Err k → Answers words input (word_fault k)
-answers_word words input k e = subst (λ r. OfWords r input (word_fault k)) (sym e) refl
+pub answers_word : (words : List (List ℕ)) (input : List ℕ) (k : ℕ) → IsMisfit words k → Answers words input (word_fault k)
+answers_word words input k misfit = inr (k, misfit, refl)
 
-pub answers_done : (words : List (List ℕ)) (input bytes : List ℕ) (command : Command) → asked words ≡ Ok command → Writes command input bytes → Answers words input (done bytes)
-answers_done words input bytes command e writes = subst (λ r. OfWords r input (done bytes)) (sym e) (inl (bytes, writes, refl))
+pub answers_done : (words : List (List ℕ)) (input bytes : List ℕ) (command : Command) → Says words command → Writes command input bytes → Answers words input (done bytes)
+answers_done words input bytes command says writes = inl (command, says, inl (bytes, writes, refl))
 
-pub answers_refused : (words : List (List ℕ)) (input : List ℕ) (command : Command) (fault : InputFault) → asked words ≡ Ok command → Refuses command fault → IsFaulty input fault → Answers words input (refused fault)
-answers_refused words input command fault e refuses faulty = subst (λ r. OfWords r input (refused fault)) (sym e) (inr (fault, refuses, faulty, refl))
+pub answers_refused : (words : List (List ℕ)) (input : List ℕ) (command : Command) (fault : InputFault) → Says words command → Refuses command input fault → Answers words input (refused fault)
+answers_refused words input command fault says refuses = inl (command, says, inr (fault, refuses, refl))
 
 -- what the passes make of an accepted crate refines it
 pub optimised : (input : List ℕ) (C D : Crate) (lines : Lines) → IsAccepted input C lines → first_drop lines C ≡ None → IsPassed C D → IsOptimised input (text D)
@@ -42,9 +45,52 @@ optimised input C D lines accepted no_drop passed =
       refines = passed_refines C D lines accepted.accepted.valid accepted.accepted.within no_drop passed;
     }
 
--- each fault is one for which `seq` refuses
-pub refused_seq : {A : Type 0} (r : Result A Refusal) (input : List ℕ) (command : Command) → command ≡ Seq → IfErr r (OfInput (IsFaulty input)) → IfErr r (OfInput (λ fault. Refuses command fault × IsFaulty input fault))
-refused_seq (Ok a) input command e h = h
-refused_seq (Err ReadFault) input command e h = h
-refused_seq (Err OutOfMemory) input command e h = h
-refused_seq (Err (Input fault)) input command e h = (subst (λ k. Refuses k fault) (sym e) tt, h)
+-- ---- refusals
+
+refuses_run : (path : List ℕ) (args : List Number) (input : List ℕ) (fault : InputFault) → IsFaulty input fault × IsNoDrop fault → RefusesRun path args input fault
+refuses_run path args input Long h = h
+refuses_run path args input (Text code line) h = h
+refuses_run path args input (Rule code line) h = h
+refuses_run path args input (Limit code line) h = h
+refuses_run path args input (Drops line) h = h
+refuses_run path args input NoFunction h = absurd h.0
+refuses_run path args input NoEntry h = absurd h.0
+
+-- a fault of an input other than a `drop` is one for which each command refuses
+refuses_any : (command : Command) (input : List ℕ) (fault : InputFault) → IsFaulty input fault × IsNoDrop fault → Refuses command input fault
+refuses_any Check input fault h = h
+refuses_any Seq input fault h = h.0
+refuses_any (Run path args answers steps) input fault h = refuses_run path args input fault h
+
+of_any : (r : Refusal) (command : Command) (input : List ℕ) → OfInput (λ fault. IsFaulty input fault × IsNoDrop fault) r → OfInput (Refuses command input) r
+of_any ReadFault command input h = h
+of_any OutOfMemory command input h = h
+of_any (Input fault) command input h = refuses_any command input fault h
+
+-- what refuses an input refuses it for each command
+pub refused_any : {A : Type 0} (r : Result A Refusal) (e : Refusal) (command : Command) (input : List ℕ) → IsErrAnd r (λ x. x ≡ e) → OfInput (λ fault. IsFaulty input fault × IsNoDrop fault) e → IfErr r (OfInput (Refuses command input))
+refused_any (Ok a) e command input is h = absurd is
+refused_any (Err x) e command input is h = subst (λ r. OfInput (Refuses command input) r) (sym is) (of_any e command input h)
+
+pub refused_none : {A : Type 0} (r : Result A Refusal) (command : Command) (input : List ℕ) → IfErr r (OfInput (λ _. ⊥)) → IfErr r (OfInput (Refuses command input))
+refused_none (Ok a) command input h = h
+refused_none (Err ReadFault) command input h = h
+refused_none (Err OutOfMemory) command input h = h
+refused_none (Err (Input fault)) command input h = absurd h
+
+-- what is refused for the faults of a command is refused for those of the command that it is
+pub refused_as : {A : Type 0} (r : Result A Refusal) (input : List ℕ) (command other : Command) → command ≡ other → IfErr r (OfInput (Refuses other input)) → IfErr r (OfInput (Refuses command input))
+refused_as r input command other e h = subst (λ k. IfErr r (OfInput (Refuses k input))) (sym e) h
+
+-- ---- runs
+
+-- the same words, read from lists and from slices
+pub run_text_as : (C : Crate) (path path2 : List ℕ) (args args2 : List Number) (answers answers2 : List ℕ) (steps : ℕ) (bytes : List ℕ) → path ≡ path2 → args ≡ args2 → answers ≡ answers2
+    → IsRunText C path args answers steps bytes → IsRunText C path2 args2 answers2 steps bytes
+run_text_as C path path2 args args2 answers answers2 steps bytes e f h run =
+    subst (λ l. IsRunText C path2 args2 l steps bytes) h
+    (subst (λ l. IsRunText C path2 l answers steps bytes) f
+    (subst (λ l. IsRunText C l args answers steps bytes) e run))
+
+pub no_entry_as : (C : Crate) (path path2 : List ℕ) (args args2 : List Number) → path ≡ path2 → args ≡ args2 → IsNoEntry C path args → IsNoEntry C path2 args2
+no_entry_as C path path2 args args2 e f none = subst (λ l. IsNoEntry C path2 l) f (subst (λ l. IsNoEntry C l args) e none)

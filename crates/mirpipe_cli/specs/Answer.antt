@@ -1,16 +1,19 @@
 -- What the program answers where no object fails and memory suffices.
-use Rattle.std.specs.Prelude.{ℕ, ◌≡◌, ◌⊎◌, List, [], ◌++◌, length, codes, decimal, None, Result, Ok, Err, ⊤}
+use Rattle.std.specs.Prelude.{ℕ, ◌≡◌, ◌⊎◌, List, [], ◌++◌, length, codes, decimal, None}
 use Rattle.mir_syntax.specs.declared.lines.Lines.{Lines}
+use Rattle.mir_syntax.specs.declared.number.Number.{Number}
 use Rattle.mir_syntax.specs.Crate.{Crate}
 use Rattle.mir_text.specs.Text.{text}
 use Rattle.mir_rules.specs.Accepted.{Accepted}
 use Rattle.mir_semantics.specs.Refines.{Refines}
-use Rattle.mirpipe_cli.specs.declared.words.Command.{Command}
-use Rattle.mirpipe_cli.specs.declared.words.Command.TheVariants.{Check, Seq}
+use Rattle.pipe_words.specs.declared.command.Command.{Command}
+use Rattle.pipe_words.specs.declared.command.Command.TheVariants.{Check, Seq, Run}
+use Rattle.pipe_words.specs.Commands.{Says, IsMisfit}
+use Rattle.crate_run.specs.Ran.{IsRunText}
 use Rattle.mirpipe_cli.specs.declared.fault.InputFault.{InputFault}
-use Rattle.mirpipe_cli.specs.Words.{asked}
+use Rattle.mirpipe_cli.specs.declared.fault.InputFault.TheVariants.{NoFunction, NoEntry}
 use Rattle.mirpipe_cli.specs.Passed.{IsPassed, first_drop}
-use Rattle.mirpipe_cli.specs.Refused.{IsAccepted, IsFaulty, IsNoDrop, fault_line}
+use Rattle.mirpipe_cli.specs.Refused.{IsAccepted, IsFaulty, IsNoDrop, LacksFunction, LacksEntry, fault_line}
 
 -- a status, what is written out, and the notes
 pub record Told : Type 0 where
@@ -30,33 +33,37 @@ word_fault k = record { status = 2; out = []; notes = codes "word " ++ (decimal 
 
 -- ---- commands
 
--- the faults for which a command refuses an input: a `drop` is one of `seq` alone
-abbrev pub Refuses : Command → InputFault → Type 0
-Refuses Check fault = IsNoDrop fault
-Refuses Seq fault = ⊤
+abbrev pub RefusesRun : List ℕ → List Number → List ℕ → InputFault → Type 0
+RefusesRun path args input NoFunction = LacksFunction input path
+RefusesRun path args input NoEntry = LacksEntry input path args
+RefusesRun path args input fault = IsFaulty input fault × IsNoDrop fault
+
+-- the faults for which a command refuses an input: a `drop` is one of `seq` alone, a run that can't be begun one of `run` alone
+abbrev pub Refuses : Command → List ℕ → InputFault → Type 0
+Refuses Check input fault = IsFaulty input fault × IsNoDrop fault
+Refuses Seq input fault = IsFaulty input fault
+Refuses (Run path args answers steps) input fault = RefusesRun path args input fault
 
 -- `check` counts the functions of an accepted crate
 abbrev pub counted : Crate → List ℕ
 counted C = codes "ok " ++ (decimal (length C.functions) ++ codes "\n")
 
--- what a command writes of an accepted input: `seq` the text of the crate after the passes, where no body has a `drop`
+-- what a command writes of an accepted input: `seq` the text of the crate after the passes, where no body has a `drop`; `run` the text of a
+-- run
 abbrev pub Writes : Command → List ℕ → List ℕ → Type 0
 Writes Check input bytes = (C : Crate) × (lines : Lines) × IsAccepted input C lines × (bytes ≡ counted C)
 Writes Seq input bytes = (C : Crate) × (lines : Lines) × IsAccepted input C lines × (first_drop lines C ≡ None) × (D : Crate) × IsPassed C D × (bytes ≡ text D)
+Writes (Run path args answers steps) input bytes = (C : Crate) × (lines : Lines) × IsAccepted input C lines × IsRunText C path args answers steps bytes
 
 -- what is told of a command and an input
 abbrev pub OfCommand : Command → List ℕ → Told → Type 0
-OfCommand command input told = ((bytes : List ℕ) × Writes command input bytes × (told ≡ done bytes)) ⊎ ((fault : InputFault) × Refuses command fault × IsFaulty input fault × (told ≡ refused fault))
+OfCommand command input told = ((bytes : List ℕ) × Writes command input bytes × (told ≡ done bytes)) ⊎ ((fault : InputFault) × Refuses command input fault × (told ≡ refused fault))
 
 -- ---- all words
 
-abbrev pub OfWords : Result Command ℕ → List ℕ → Told → Type 0
-OfWords (Err k) input told = told ≡ word_fault k
-OfWords (Ok command) input told = OfCommand command input told
-
--- what is told of words and an input
+-- what is told of words and an input: of the command that the words say, or of the first word that doesn't fit
 abbrev pub Answers : List (List ℕ) → List ℕ → Told → Type 0
-Answers words input told = OfWords (asked words) input told
+Answers words input told = ((command : Command) × Says words command × OfCommand command input told) ⊎ ((k : ℕ) × IsMisfit words k × (told ≡ word_fault k))
 
 -- ---- what the command `seq` is for
 

@@ -1,4 +1,3 @@
-pub mod Words
 pub mod Passed
 pub mod Found
 pub mod Refused

@@ -1,13 +1,15 @@
--- Inputs that are accepted, and inputs that are refused: by which code, on which line.
+-- Inputs that are accepted, and inputs that are refused: by which code, on which line, and runs that can't be begun.
 use Rattle.std.specs.Prelude.{◌≡◌, ◌≤◌, ◌<◌, ℕ, nat_lt, List, [], ◌++◌, length, codes, decimal, Some, None, if◌then◌else◌, ⊤}
 use Rattle.mir_syntax.specs.declared.lines.Lines.{Lines}
+use Rattle.mir_syntax.specs.declared.number.Number.{Number}
 use Rattle.mir_syntax.specs.Crate.{Crate}
 use Rattle.mir_text.specs.Reads.{Reads, ReadsWith}
 use Rattle.mir_reader.specs.Refusals.{IsRefusedWith}
 use Rattle.mir_rules.specs.Accepted.{most_bytes, Accepted}
 use Rattle.mir_rules.specs.Faults.{first_rule, first_limit}
+use Rattle.crate_run.specs.Ran.{HasNoFunction, IsNoEntry}
 use Rattle.mirpipe_cli.specs.declared.fault.InputFault.{InputFault}
-use Rattle.mirpipe_cli.specs.declared.fault.InputFault.TheVariants.{Long, Text, Rule, Limit, Drops}
+use Rattle.mirpipe_cli.specs.declared.fault.InputFault.TheVariants.{Long, Text, Rule, Limit, Drops, NoFunction, NoEntry}
 use Rattle.mirpipe_cli.specs.declared.fault.Refusal.{Refusal}
 use Rattle.mirpipe_cli.specs.declared.fault.Refusal.TheVariants.{ReadFault, OutOfMemory, Input}
 use Rattle.mirpipe_cli.specs.Passed.{first_drop}
@@ -52,13 +54,15 @@ pub record HasDrop (input : List ℕ) (line : ℕ) : Type 0 where
   pub accepted : IsAccepted input C lines
   pub first : first_drop lines C ≡ Some line
 
--- an input has a fault
+-- an input has a fault; the two of runs are none of an input alone
 abbrev pub IsFaulty : List ℕ → InputFault → Type 0
 IsFaulty input Long = most_bytes < length input
 IsFaulty input (Text code line) = IsUnread input code line
 IsFaulty input (Rule code line) = BreaksRule input code line
 IsFaulty input (Limit code line) = PassesLimit input code line
 IsFaulty input (Drops line) = HasDrop input line
+IsFaulty input NoFunction = ⊥
+IsFaulty input NoEntry = ⊥
 
 -- the fault of a refusal, where it is one of the input, is such a fault
 abbrev pub OfInput : (InputFault → Type 0) → Refusal → Type 0
@@ -70,6 +74,22 @@ OfInput P OutOfMemory = ⊤
 abbrev pub IsNoDrop : InputFault → Type 0
 IsNoDrop (Drops line) = ⊥
 IsNoDrop fault = ⊤
+
+-- ---- runs that can't be begun
+
+-- an accepted crate in which no function has the path
+pub record LacksFunction (input path : List ℕ) : Type 0 where
+  pub C : Crate
+  pub lines : Lines
+  pub accepted : IsAccepted input C lines
+  pub none : HasNoFunction C path
+
+-- an accepted crate with the function, which can't be called from outside with these arguments
+pub record LacksEntry (input path : List ℕ) (args : List Number) : Type 0 where
+  pub C : Crate
+  pub lines : Lines
+  pub accepted : IsAccepted input C lines
+  pub none : IsNoEntry C path args
 
 -- ---- the line of notes
 
@@ -86,3 +106,5 @@ fault_line (Text code line) = place_line (codes "S") code line
 fault_line (Rule code line) = place_line (codes "V") code line
 fault_line (Limit code line) = place_line (codes "L") code line
 fault_line (Drops line) = place_line (codes "S") 16 line
+fault_line NoFunction = codes "E01\n"
+fault_line NoEntry = codes "E02\n"

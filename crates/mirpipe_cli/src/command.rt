@@ -6,7 +6,7 @@ ghost use Rattle.mir_syntax.specs.Drops.{KnowsDrops};
 ghost use Rattle.mir_syntax.specs.Ids.{IdsInTable};
 ghost use Rattle.mir_rules.specs.Valid.{Valid, Within};
 ghost use Rattle.mir_print.specs.Prints.{Prints};
-ghost use Rattle.mirpipe_cli.specs.declared.words.Command.TheVariants.{Check, Seq};
+ghost use Rattle.pipe_words.specs.declared.command.Command.TheVariants.{Check, Seq, Run};
 ghost use Rattle.mirpipe_cli.specs.Refused.{IsAccepted, IsFaulty, OfInput};
 ghost use Rattle.mirpipe_cli.specs.Answer.{counted, Writes, Refuses, IsOptimised};
 ghost use Rattle.mirpipe_cli.specs.Output.{bytes_of};
@@ -15,11 +15,12 @@ use crate::drops::first_drop;
 use crate::fault::{InputFault, Refusal};
 use crate::load::{Accepted, load};
 use crate::passes::passed;
-use crate::words::Command;
+use crate_run::{RunFault, run_function};
 use itoa::Buffer;
 use mir_print::print_program;
-use mir_syntax::{List, OutOfMemory, Program};
+use mir_syntax::{List, Name, Number, OutOfMemory, Program};
 use pipe_io::{Failed, Sink, Source, write_all};
+use pipe_words::Command;
 use std::alloc::Global;
 
 /// What a command writes.
@@ -70,11 +71,44 @@ fn seq(alloc: Global, accepted: Accepted) -> Result<Output, Refusal>
     }
 }
 
+fn run(
+    alloc: Global,
+    accepted: Accepted,
+    path: Name,
+    args: List<Number>,
+    answers: List<u128>,
+    steps: u64,
+) -> Result<Output, Refusal>
+    requires knows { KnowsDrops accepted.program }
+    requires valid { Valid (crate_of accepted.program) }
+    requires within { Within (crate_of accepted.program) }
+    ensures writes { (input : List ℕ) → IsAccepted input (crate_of accepted.program) accepted.lines → IfOk result (λ output. Writes (Run path args answers steps) input (bytes_of output)) }
+    ensures refused { (input : List ℕ) → IsAccepted input (crate_of accepted.program) accepted.lines → IfErr result (OfInput (Refuses (Run path args answers steps) input)) }
+    ensures no_source { IsErrOf result Refusal.ReadFault → ⊥ }
+{
+    let ran = run_function(
+        alloc,
+        &accepted.program,
+        path.as_slice(),
+        args.as_slice(),
+        answers.as_slice(),
+        steps,
+    );
+    match ran {
+        Ok(text) => Ok(Output::Line(text)),
+        Err(fault) => match fault {
+            RunFault::NoFunction => Err(Refusal::Input(InputFault::NoFunction)),
+            RunFault::NoEntry => Err(Refusal::Input(InputFault::NoEntry)),
+            RunFault::OutOfMemory => Err(Refusal::OutOfMemory),
+        },
+    }
+}
+
 /// Does the work of a command: what it writes, or why there is nothing to write. All memory is taken here.
 pub fn work<S: Source>(alloc: Global, command: Command, source: &mut S) -> Result<Output, Refusal>
     ensures writes { (input : List ℕ) → S.left source.old ≡ Some input → IfOk result (λ output. Writes command input (bytes_of output)) }
     ensures refines { (input : List ℕ) → S.left source.old ≡ Some input → command ≡ Seq → IfOk result (λ output. IsOptimised input (bytes_of output)) }
-    ensures refused { (input : List ℕ) → S.left source.old ≡ Some input → IfErr result (OfInput (λ fault. Refuses command fault × IsFaulty input fault)) }
+    ensures refused { (input : List ℕ) → S.left source.old ≡ Some input → IfErr result (OfInput (Refuses command input)) }
     ensures at_end { OnOk result (IsAtEnd (S.left source.new)) }
     ensures later { S.faults source.old ≤ S.faults source.new }
     ensures fault { IsErrOf result Refusal.ReadFault → Rose (S.faults source.old) (S.faults source.new) }
@@ -85,6 +119,9 @@ pub fn work<S: Source>(alloc: Global, command: Command, source: &mut S) -> Resul
     match command {
         Command::Check => check(alloc, accepted),
         Command::Seq => seq(alloc, accepted),
+        Command::Run(path, args, answers, steps) => {
+            run(alloc, accepted, path, args, answers, steps)
+        }
     }
 }
 

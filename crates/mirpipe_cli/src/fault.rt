@@ -11,6 +11,10 @@ pub enum InputFault {
     Limit { code: u8, line: u32 },
     /// A body has a `drop`, which the passes are not made for yet.
     Drops { line: u32 },
+    /// No function has the path that is to be run.
+    NoFunction,
+    /// The function that is to be run can't be called from outside, or not with these arguments.
+    NoEntry,
 }
 
 /// Why there is nothing to write.

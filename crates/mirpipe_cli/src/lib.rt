@@ -1,10 +1,11 @@
 //! The program as a call: words and bytes in, bytes, a line of notes and a status out.
 //!
-//! `run_quiet` does what the words ask for (`specs/Words.antt`). What it answers is `Answers` (`specs/Answer.antt`): a relation of words and
+//! `run_quiet` does what the words ask for (`Says` of `pipe_words`). What it answers is `Answers` (`specs/Answer.antt`): a relation of words and
 //! input to a status, the bytes that are written and the notes; which inputs are accepted and for what the others are refused is said in
 //! `specs/Refused.antt`. Its contract says that this is told where no object fails and memory suffices, which statuses a failure may give,
 //! and that what is written is then a front of the answer or nothing. What the command `seq` writes is the text of a crate that the passes
-//! (`specs/Passed.antt`) make of the accepted one and that refines it (`Refines` of `mir_semantics`).
+//! (`specs/Passed.antt`) make of the accepted one and that refines it (`Refines` of `mir_semantics`); what `run` writes is the text of a run of
+//! the accepted crate (`IsRunText` of `crate_run`).
 #![tactic(auto)]
 
 mod command;
@@ -14,7 +15,6 @@ mod load;
 mod notes;
 mod passes;
 mod run;
-mod words;
 
 pub use run::run_quiet;
 

@@ -57,5 +57,7 @@ pub fn note_fault<N: Sink>(notes: &mut N, fault: InputFault)
         InputFault::Rule { code, line } => note_place(notes, b"V", code, line),
         InputFault::Limit { code, line } => note_place(notes, b"L", code, line),
         InputFault::Drops { line } => note_place(notes, b"S", 16, line),
+        InputFault::NoFunction => note(notes, b"E01\n"),
+        InputFault::NoEntry => note(notes, b"E02\n"),
     }
 }

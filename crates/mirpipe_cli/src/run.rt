@@ -1,15 +1,15 @@
-ghost use Rattle.std.specs.Prelude.{◌≡◌, ◌≢◌, ◌<◌, ◌≤◌, ◌⊎◌, [], List, ℕ, Some, Ok, IsErr, map, string_bytes, codes};
+ghost use Rattle.std.specs.Prelude.{◌≡◌, ◌≢◌, ◌<◌, ◌≤◌, ◌⊎◌, [], List, ℕ, Some, map, string_bytes, codes};
 ghost use Rattle.std.specs.Io.KnownBytes.{Appends, IsAtEnd};
 ghost use Rattle.pipe_io.specs.Causes.{Rose, AppendsFront};
-ghost use Rattle.mirpipe_cli.specs.declared.words.Command.TheVariants.{Seq};
-ghost use Rattle.mirpipe_cli.specs.Words.{asked};
+ghost use Rattle.pipe_words.specs.declared.command.Command.TheVariants.{Seq};
+ghost use Rattle.pipe_words.specs.Commands.{Says, IsMisfit};
 ghost use Rattle.mirpipe_cli.specs.Answer.{Told, Answers, IsOptimised};
 
 use crate::command::{work, write};
 use crate::fault::Refusal;
 use crate::notes::{note, note_fault, note_word};
-use crate::words::asked;
 use pipe_io::{Failed, Sink, Source};
+use pipe_words::{WordsFault, parse};
 use std::alloc::Global;
 
 /// Does what the words ask for, and answers the status.
@@ -18,11 +18,13 @@ use std::alloc::Global;
 /// |---|---|
 /// | `check` | `ok F`, F the number of functions |
 /// | `seq` | the text of the crate after the passes |
+/// | `run FN ARGS --answers LIST --steps N` | the text of a run of the function with the path FN |
 ///
 /// | Status | Meaning | Notes |
 /// |---|---|---|
 /// | 0 | done, and the input was read to its end | none |
 /// | 1 | the input is refused | code and line, as `S04 line 8`, `V05 line 9`, `L02 line 260000`; or `L01 67108865` |
+/// | 1 | the run can't be begun | `E01` where no function has the path, `E02` where ARGS makes no call of it |
 /// | 2 | the words fit no command | `word K`, the place of the first that doesn't fit |
 /// | 3 | the source failed | `read fault` |
 /// | 4 | `out` failed, and a front of the answer is written | `write fault` |
@@ -39,8 +41,8 @@ pub fn run_quiet<S: Source, K: Sink, N: Sink>(
     ensures bound { result ≤ 5 }
 
     // When each status comes, whether or not source and sinks tell their bytes.
-    ensures words { IsErr (asked (map string_bytes words.now)) → (result ≡ 2) ⊎ (result ≡ 5) }
-    ensures words_only { result ≡ 2 → IsErr (asked (map string_bytes words.now)) }
+    ensures words { (place : ℕ) → IsMisfit (map string_bytes words.now) place → (result ≡ 2) ⊎ (result ≡ 5) }
+    ensures words_only { result ≡ 2 → (place : ℕ) × IsMisfit (map string_bytes words.now) place }
     ensures read { result ≡ 3 → Rose (S.faults source.old) (S.faults source.new) }
     ensures read_grew { S.faults source.old < S.faults source.new → (result ≡ 3) ⊎ (result ≡ 5) }
     ensures write { result ≡ 4 → Rose (K.faults out.old) (K.faults out.new) }
@@ -54,7 +56,7 @@ pub fn run_quiet<S: Source, K: Sink, N: Sink>(
         × ((Rose (N.faults notes.old) (N.faults notes.new) → ⊥) → Appends (N.written notes.old) (N.written notes.new) told.notes) }
 
     // What `seq` writes: the text of a crate that refines the accepted one.
-    ensures printed { (input : List ℕ) → S.left source.old ≡ Some input → asked (map string_bytes words.now) ≡ Ok Seq → result ≡ 0
+    ensures printed { (input : List ℕ) → S.left source.old ≡ Some input → Says (map string_bytes words.now) Seq → result ≡ 0
         → (bytes : List ℕ) × IsOptimised input bytes × Appends (K.written out.old) (K.written out.new) bytes }
     ensures front { (input : List ℕ) → S.left source.old ≡ Some input → result ≡ 4
         → (told : Told) × Answers (map string_bytes words.now) input told × AppendsFront (K.written out.old) (K.written out.new) told.out }
@@ -65,12 +67,18 @@ pub fn run_quiet<S: Source, K: Sink, N: Sink>(
     ensures write_line { result ≡ 4 → (Rose (N.faults notes.old) (N.faults notes.new) → ⊥) → Appends (N.written notes.old) (N.written notes.new) (codes "write fault\n") }
     ensures memory_line { result ≡ 5 → (Rose (N.faults notes.old) (N.faults notes.new) → ⊥) → Appends (N.written notes.old) (N.written notes.new) (codes "out of memory\n") }
 {
-    let command = match asked(words) {
+    let command = match parse(alloc, words) {
         Ok(command) => command,
-        Err(place) => {
-            note_word(notes, place);
-            return 2;
-        }
+        Err(fault) => match fault {
+            WordsFault::Bad(place) => {
+                note_word(notes, place);
+                return 2;
+            }
+            WordsFault::OutOfMemory => {
+                note(notes, b"out of memory\n");
+                return 5;
+            }
+        },
     };
     match work(alloc, command, source) {
         Ok(output) => match write(&output, out) {

@@ -30,13 +30,11 @@ fn list(rt: &HostRuntime, bytes: &[u8]) -> Result<List<u8>, Fail> {
     Ok(list)
 }
 
-// The words that aren't empty.
-fn words(rt: &HostRuntime, first: &str, second: &str) -> Result<Vec<String>, Fail> {
+// The words of a line.
+fn words(rt: &HostRuntime, line: &str) -> Result<Vec<String>, Fail> {
     let mut words = Vec::new(rt.alloc());
-    for word in [first, second] {
-        if !word.is_empty() {
-            words.push(format!(in rt.alloc(); "{word}")?)?;
-        }
+    for word in line.split_whitespace() {
+        words.push(format!(in rt.alloc(); "{word}")?)?;
     }
     Ok(words)
 }
@@ -44,18 +42,17 @@ fn words(rt: &HostRuntime, first: &str, second: &str) -> Result<Vec<String>, Fai
 #[test]
 fn answers_by_words_and_input(rt: HostRuntime) -> Result<(), Fail> {
     let none = b"".as_slice();
-    for (first, second, input, status, out, line) in [
-        ("check", "", none, 0, b"ok 0\n".as_slice(), none),
-        ("seq", "", none, 0, none, none),
-        ("check", "", DROPS, 0, b"ok 2\n".as_slice(), none),
-        ("seq", "", RETURNS, 0, RETURNS, none),
-        ("seq", "", SKIPS, 0, SKIPPED, none),
-        ("seq", "", UNREAD, 0, READ, none),
-        ("", "", RETURNS, 2, none, b"word 1\n".as_slice()),
-        ("seq", "x", RETURNS, 2, none, b"word 2\n".as_slice()),
+    for (asked, input, status, out, line) in [
+        ("check", none, 0, b"ok 0\n".as_slice(), none),
+        ("seq", none, 0, none, none),
+        ("check", DROPS, 0, b"ok 2\n".as_slice(), none),
+        ("seq", RETURNS, 0, RETURNS, none),
+        ("seq", SKIPS, 0, SKIPPED, none),
+        ("seq", UNREAD, 0, READ, none),
+        ("", RETURNS, 2, none, b"word 1\n".as_slice()),
+        ("seq x", RETURNS, 2, none, b"word 2\n".as_slice()),
         (
             "check",
-            "",
             b"fn f() -> () {".as_slice(),
             1,
             none,
@@ -63,23 +60,50 @@ fn answers_by_words_and_input(rt: HostRuntime) -> Result<(), Fail> {
         ),
         (
             "check",
-            "",
             b"struct S { a: S }".as_slice(),
             1,
             none,
             b"V01 line 1\n".as_slice(),
         ),
+        ("seq", BACK_TO_START, 1, none, b"V05 line 9\n".as_slice()),
+        ("seq", DROPS, 1, none, b"S16 line 21\n".as_slice()),
         (
-            "seq",
-            "",
-            BACK_TO_START,
+            "run eat 3 --answers - --steps 9",
+            DROPS,
+            0,
+            b"call note(3) = ()\nreturned\n".as_slice(),
+            none,
+        ),
+        (
+            "run eat 3 --answers - --steps 1",
+            DROPS,
+            0,
+            b"going\n".as_slice(),
+            none,
+        ),
+        (
+            "run eats 3 --answers - --steps 9",
+            DROPS,
             1,
             none,
-            b"V05 line 9\n".as_slice(),
+            b"E01\n".as_slice(),
         ),
-        ("seq", "", DROPS, 1, none, b"S16 line 21\n".as_slice()),
+        (
+            "run eat - --answers - --steps 9",
+            DROPS,
+            1,
+            none,
+            b"E02\n".as_slice(),
+        ),
+        (
+            "run eat 03 --answers - --steps 9",
+            DROPS,
+            2,
+            none,
+            b"word 3\n".as_slice(),
+        ),
     ] {
-        let words = words(&rt, first, second)?;
+        let words = words(&rt, asked)?;
         let mut source = PlainSource::new(list(&rt, input)?);
         let mut sink = PlainSink::new(rt.alloc());
         let mut notes = PlainSink::new(rt.alloc());
@@ -99,7 +123,7 @@ fn answers_by_words_and_input(rt: HostRuntime) -> Result<(), Fail> {
 
 #[test]
 fn tells_faults(rt: HostRuntime) -> Result<(), Fail> {
-    let words = words(&rt, "seq", "")?;
+    let words = words(&rt, "seq")?;
     let mut fails = List::new(rt.alloc());
     fails.push(2)?;
     let mut source = PlainSource::new(list(&rt, RETURNS)?);

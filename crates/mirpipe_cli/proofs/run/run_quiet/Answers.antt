@@ -1,33 +1,41 @@
-use Rattle.std.proofs.Common.{rules, map, string_bytes, Global, refl, sym, subst, ◌∙◌}
+use Rattle.std.proofs.Common.{rules, map, string_bytes, Global, refl, ap, subst}
+use Rattle.std.specs.Prelude.{Err}
 use Rattle.std.specs.Io.KnownBytes.{Appends}
-use Rattle.mirpipe_cli.specs.Words.{asked}
-use Rattle.mirpipe_cli.specs.Refused.{IsFaulty, OfInput}
+use Rattle.mirpipe_cli.specs.Refused.{OfInput}
 use Rattle.mirpipe_cli.specs.Answer.{done, refused, word_fault, Refuses}
 use Rattle.mirpipe_cli.specs.Output.{bytes_of}
+use Rattle.mirpipe_cli.proofs.Asking.{says_fits, says_seq}
 use Rattle.mirpipe_cli.proofs.Answering.{appends_none, answers_word, answers_done, answers_refused}
 use Rattle.mirpipe_cli.proofs.run.run_quiet.Goals as goal
 
-pub returns-in-Err-clause-told : goal.returns-in-Err-clause-told
-returns-in-Err-clause-told g c = λ input left calm quiet other.
-    (word_fault c.in-Err.place, answers_word (map (string_bytes {Z = Global}) c.args.words.now) input c.in-Err.place (sym c.asked.ensures ∙ c.in-Err.is), refl, appends_none _, c.note_word.ensures.line)
+pub returns-in-Bad-clause-told : goal.returns-in-Bad-clause-told
+returns-in-Bad-clause-told g c = λ input left calm quiet other.
+    (word_fault c.in-Bad.place, answers_word (map (string_bytes {Z = Global}) c.args.words.now) input c.in-Bad.place (c.in-Err.ensures.misfit c.in-Bad.place (ap Err c.in-Bad.is)), refl, appends_none _, c.note_word.ensures.line)
 
 pub returns-in-Ok-write-clause-told : goal.returns-in-Ok-write-clause-told
 returns-in-Ok-write-clause-told g c = λ input left calm quiet other.
     let bytes = bytes_of c.in-Ok-work.output in
     let whole : Appends (g.K.Sink.written c.args.out.now) (g.K.Sink.written c.write.new.out) bytes = search rules in (
       done bytes,
-      answers_done (map (string_bytes {Z = Global}) c.args.words.now) input bytes c.in-Ok.command (sym c.asked.ensures ∙ c.in-Ok.is) (c.in-Ok-work.ensures.writes input left),
+      answers_done (map (string_bytes {Z = Global}) c.args.words.now) input bytes c.in-Ok.command c.in-Ok.ensures.says (c.in-Ok-work.ensures.writes input left),
       refl,
       whole,
       λ calm. appends_none _,
     )
 
+pub returns-in-Ok-write-clause-printed : goal.returns-in-Ok-write-clause-printed
+returns-in-Ok-write-clause-printed g c = λ input left says ended.
+    let bytes = bytes_of c.in-Ok-work.output in
+    let whole : Appends (g.K.Sink.written c.args.out.now) (g.K.Sink.written c.write.new.out) bytes = search rules in
+    let is_seq = says_seq (map (string_bytes {Z = Global}) c.args.words.now) c.in-Ok.command says c.in-Ok.ensures.says in
+    (bytes, c.in-Ok-work.ensures.refines input left is_seq, whole)
+
 pub returns-in-Ok-work-clause-front : goal.returns-in-Ok-work-clause-front
 returns-in-Ok-work-clause-front g c = λ input left stopped.
     let bytes = bytes_of c.in-Ok-work.output in
-    (done bytes, answers_done (map (string_bytes {Z = Global}) c.args.words.now) input bytes c.in-Ok.command (sym c.asked.ensures ∙ c.in-Ok.is) (c.in-Ok-work.ensures.writes input left), c.write.ensures.front)
+    (done bytes, answers_done (map (string_bytes {Z = Global}) c.args.words.now) input bytes c.in-Ok.command c.in-Ok.ensures.says (c.in-Ok-work.ensures.writes input left), c.write.ensures.front)
 
 pub returns-in-Err-Input-clause-told : goal.returns-in-Err-Input-clause-told
 returns-in-Err-Input-clause-told g c = λ input left calm quiet other.
-    let faulty = subst (OfInput (λ fault. Refuses c.in-Ok.command fault × IsFaulty input fault)) c.in-Err-Input.field-0-is (c.in-Err-Input.ensures.refused input left) in
-    (refused _, answers_refused (map (string_bytes {Z = Global}) c.args.words.now) input c.in-Ok.command _ (sym c.asked.ensures ∙ c.in-Ok.is) faulty.0 faulty.1, refl, appends_none _, c.note_fault.ensures.line)
+    let refuses = subst (OfInput (Refuses c.in-Ok.command input)) c.in-Err-Input.field-0-is (c.in-Err-Input.ensures.refused input left) in
+    (refused _, answers_refused (map (string_bytes {Z = Global}) c.args.words.now) input c.in-Ok.command _ c.in-Ok.ensures.says refuses, refl, appends_none _, c.note_fault.ensures.line)
