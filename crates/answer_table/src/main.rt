@@ -4,9 +4,10 @@
 //! `@ N TEXT` among them stands for N lines, in which each `@` of the text is the number of the line, from 0: so a short table has long inputs. Of
 //! each case its words are written with the status and the notes, and then its output.
 //!
-//! `stdin` has cases for each of the codes S01 to S16, V01 to V25 and L01 to L06. For each rule there are two programs that break it alone, and some
-//! that break another one too: a rule of greater code on the same line, or one of lesser code further on. For each limit there is an input that just
-//! keeps it, one that passes it by one, and one that passes two limits. The rest is what is done, and words. `stdout` has the answers.
+//! `stdin` has cases for each of the codes S01 to S16, V01 to V25 and L01 to L06. Each rule is broken alone by two programs. For it, and for each of
+//! the codes S10 to S15, there are also texts with two faults: the other one is of greater code and on the same line, or of lesser code and further
+//! on. For each limit there is an input that just keeps it, one that passes it by one, and one that passes two limits. The rest is what is done, and
+//! words. `stdout` has the answers.
 #![tactic(auto)]
 
 use mir_syntax::List;
