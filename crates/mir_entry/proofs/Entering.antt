@@ -21,12 +21,14 @@ use Rattle.mir_meaning.specs.declared.datum.Datum.{Datum}
 use Rattle.mir_meaning.specs.Programs.{shapes_in}
 use Rattle.mir_meaning.specs.Views.{value_of, fields_of}
 use Rattle.mir_machine.specs.declared.state.EntryCall.{EntryCall}
+use Rattle.mir_syntax.specs.declared.number.Number.{Number}
+use Rattle.mir_machine.specs.Ends.{integer_in}
 use Rattle.mir_machine.specs.Seen.{code_in}
 use Rattle.mir_machine.specs.Runs.{entry_in}
-use Rattle.mir_entry.specs.Readings.{Reading, read_by, read_def, then_read, reading, StopsAt}
+use Rattle.mir_entry.specs.Readings.{Reading, read_by, read_def, then_read, reading, integers_of, StopsAt}
 use Rattle.mir_entry.specs.Misfits.{BeginFlat, StopAt, LeaveOver, Misfits}
 use Rattle.std.specs.List.{list_all}
-use Rattle.std.specs.Prelude.{Result, Ok, Err, IsErrAnd}
+use Rattle.std.specs.Prelude.{◌==◌, Result, Ok, Err, IsErrAnd}
 use Rattle.mir_entry.specs.declared.entries.EntryFault.{EntryFault}
 use Rattle.mir_entry.specs.declared.entries.EntryFault.TheVariants as fault
 use Rattle.mir_syntax.specs.declared.types.Def.{Def}
@@ -119,6 +121,15 @@ not_entered p few k g is h (inr none) body e there at entry flats =
 
 -- ---- the argument that isn't given
 
+numbers_left : (ns : List Number) (b : Bool) → b ≡ (length ns == 0) → b ≡ false → map integer_in ns ≡ [] → ⊥
+numbers_left [] b e off h = let wrong : true ≡ false = sym e ∙ off in cc
+numbers_left (n ∷ ns) b e off h = cc
+
+pub strays_over : (p : Program) (b : Body) (is : List ℤ) (k : ℕ) (args : List Datum) (rest : List Number) (types : List TyId) (none : Bool) → types ≡ drop 1 (signature b) → Some (fields_of args, integers_of rest) ≡ reading (shapes_in p) (at_ids (trees_of p.types) types) is
+    → none ≡ (length rest == 0) → none ≡ false → b.args ≡ k → Strays p b is k
+strays_over p b is k args rest types none drops read e off count =
+    inr (sym count, inr (record { values = args; rest = integers_of rest; read = sym (read ∙ ap (λ ids. reading (shapes_in p) (at_ids (trees_of p.types) ids) is) drops); some = numbers_left rest none e off }))
+
 begin_flat : (D : List Shape) (trees : List Tree) (ids : List TyId) (is rest : List ℤ) (values : List Datum) → reading D (at_ids trees ids) is ≡ Some (fields_of values, rest) → BeginFlat D (map (at_id trees) ids) is rest
 begin_flat D trees ids is rest values h =
     let front = reading_sound D (at_ids trees ids) is (fields_of values) rest h in
@@ -160,7 +171,7 @@ leave_over : (p : Program) (b : Body) (is : List ℤ) → LeavesOver p b is → 
 leave_over p b is over = record {
   rest = over.rest;
   all = subst (λ types. BeginFlat (shapes_in p) types is over.rest) (arguments_at (trees_of p.types) b) (begin_flat (shapes_in p) (trees_of p.types) (drop 1 (signature b)) is over.rest over.values over.read);
-  more = over.more;
+  some = over.some;
 }
 
 misfits_in : (p : Program) → Few (shapes_in p) → (b : Body) (is : List ℤ) (k : ℕ) → Strays p b is k → Misfits (shapes_in p) (body_of (trees_of p.types) b) is k

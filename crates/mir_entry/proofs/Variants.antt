@@ -128,10 +128,10 @@ ids_stopped f trees ids others x values is whole e h kept =
     sym (read_stop f (at_id trees x) (at_ids trees others) (map value_of values) is (sym h)) ∙ ap (λ xs. behind (map value_of values) (read_by f (at_ids trees xs) is)) (sym e) ∙ kept
 
 -- the types that were read, and those that are left
-pub ids_read : (ids left others more : List TyId) (n : ℕ) (x : TyId) → left ≡ drop n ids → left ≡ x ∷ others → take n ids ++ x ∷ more ≡ take (n + 1) ids ++ more
-ids_read ids left others more n x h e =
+pub ids_read : (ids left others tail : List TyId) (n : ℕ) (x : TyId) → left ≡ drop n ids → left ≡ x ∷ others → take n ids ++ x ∷ tail ≡ take (n + 1) ids ++ tail
+ids_read ids left others tail n x h e =
     let one = take_at ids n x (sym (found_there ids left others n x h e)) in
-    sym (ap (λ xs. xs ++ more) one ∙ append_assoc (take n ids) (x ∷ []) more)
+    sym (ap (λ xs. xs ++ tail) one ∙ append_assoc (take n ids) (x ∷ []) tail)
 
 pub ids_whole : (ids left : List TyId) (n : ℕ) → left ≡ drop n ids → take n ids ++ left ≡ ids
 ids_whole ids left n h = ap (λ xs. take n ids ++ xs) h ∙ take-append-drop n ids

@@ -40,7 +40,7 @@ pub record LeavesOver (p : Program) (b : Body) (is : List ℤ) : Type 0 where
   pub values : List Datum
   pub rest : List ℤ
   pub read : arguments_read p b is ≡ Some (fields_of values, rest)
-  pub more : rest ≡ [] → ⊥
+  pub some : rest ≡ [] → ⊥
 
 -- the place of the first that isn't given, or their number
 abbrev pub Strays : Program → Body → List ℤ → ℕ → Type 0

@@ -25,7 +25,7 @@ pub record StopAt (D : List Shape) (types : List Tree) (integers : List ℤ) (k 
 pub record LeaveOver (D : List Shape) (types : List Tree) (integers : List ℤ) : Type 0 where
   pub rest : List ℤ
   pub all : BeginFlat D types integers rest
-  pub more : rest ≡ [] → ⊥
+  pub some : rest ≡ [] → ⊥
 
 -- why integers don't call a function: the first argument that they give no value of, counted from 0; or the number of arguments,
 -- where its signature holds a reference or integers are left over

@@ -110,8 +110,9 @@ fn arguments(
 ///
 /// # Errors
 ///
-/// `NotFit` where the function's signature holds a reference, or the numbers are the flat form of no arguments of its types. A program
-/// with a definition of more than 2^32 variants is want of memory.
+/// `NotFit` where the function's signature holds a reference, or the numbers are the flat form of no arguments of its types: with the
+/// first argument that they give no value of, or the number of arguments (`Misfits`). A program with a definition of more than 2^32
+/// variants is want of memory.
 pub fn entry(
     alloc: Global,
     program: &Program,

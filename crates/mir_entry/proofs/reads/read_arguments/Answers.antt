@@ -16,12 +16,12 @@ arguments-preserved c =
     record {
       place = omega (arith, count, c.arguments.invariant.place);
       left = on_behind c.args.types.now c.arguments.types.now c.in-Some.others.now c.arguments.place c.in-Some.ty c.arguments.invariant.left c.in-Some.ensures;
-      same = λ more.
-          ids_pushed (read_def (shapes_in p) (length p.defs)) (trees_of p.types) (c.in-Some.ty ∷ more) more c.in-Some.ty c.arguments.values c.push.new.self c.in-Some-2.value (integers_of c.arguments.numbers.now) (integers_of c.in-Some-2.rest.now)
+      same = λ tail.
+          ids_pushed (read_def (shapes_in p) (length p.defs)) (trees_of p.types) (c.in-Some.ty ∷ tail) tail c.in-Some.ty c.arguments.values c.push.new.self c.in-Some-2.value (integers_of c.arguments.numbers.now) (integers_of c.in-Some-2.rest.now)
           refl (found ∙ ap (λ n. read_by (read_def (shapes_in p) n) (type_in p c.in-Some.ty) (integers_of c.arguments.numbers.now)) c.len.ensures) c.in_ok-push-in-Some-2.ensures.ok
-          ∙ c.arguments.invariant.same (c.in-Some.ty ∷ more)
+          ∙ c.arguments.invariant.same (c.in-Some.ty ∷ tail)
           ∙ ap (λ ids. read_by (read_def (shapes_in p) (length p.defs)) (at_ids (trees_of p.types) ids) (integers_of c.args.numbers.now))
-          (ids_read c.args.types.now c.arguments.types.now c.in-Some.others.now more c.arguments.place c.in-Some.ty c.arguments.invariant.left c.in-Some.ensures);
+          (ids_read c.args.types.now c.arguments.types.now c.in-Some.others.now tail c.arguments.place c.in-Some.ty c.arguments.invariant.left c.in-Some.ensures);
     }
 
 pub returns-in-None-clause-read : goal.returns-in-None-clause-read

@@ -10,7 +10,7 @@ abbrev pub invariant-arguments : goal.invariant-arguments
 invariant-arguments l = record {
   place : l.place + length l.types ≡ length l.initial.types;
   left : l.types ≡ drop l.place l.initial.types;
-  same : (more : List TyId) → behind (map value_of l.values) (read_by (read_def (shapes_in l.program) (length l.program.defs)) (at_ids (trees_of l.program.types) more) (integers_of l.numbers)) ≡ read_by (read_def (shapes_in l.program) (length l.program.defs)) (at_ids (trees_of l.program.types) (take l.place l.initial.types ++ more)) (integers_of l.initial.numbers);
+  same : (tail : List TyId) → behind (map value_of l.values) (read_by (read_def (shapes_in l.program) (length l.program.defs)) (at_ids (trees_of l.program.types) tail) (integers_of l.numbers)) ≡ read_by (read_def (shapes_in l.program) (length l.program.defs)) (at_ids (trees_of l.program.types) (take l.place l.initial.types ++ tail)) (integers_of l.initial.numbers);
 }
 
 abbrev pub decreases-arguments : goal.decreases-arguments
