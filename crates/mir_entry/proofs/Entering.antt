@@ -1,5 +1,5 @@
 -- Entries, by what was read of their arguments.
-use Rattle.std.proofs.Common.{◌≡◌, ◌∙◌, refl, sym, ap, subst, ℕ, suc, ◌+◌, Bool, true, false, not, List, [], ◌∷◌, map, take, drop, slice_get, Option, Some, None, inl, inr, ◌++◌, add-one, ℤ, ◌≤◌, ◌^◌, length, arith}
+use Rattle.std.proofs.Common.{◌≡◌, ◌∙◌, refl, sym, ap, subst, ℕ, suc, ◌+◌, Bool, true, false, not, List, [], ◌∷◌, map, take, drop, slice_get, Option, Some, None, inl, inr, add-one, ℤ, ◌≤◌, ◌^◌, length, arith}
 use Rattle.std.proofs.lemmas.List.{append-nil, length-map, take-map}
 use Rattle.std.proofs.lemmas.Option.{slice_get-map}
 use Rattle.std.proofs.lemmas.Bool.Decides.{nat_tests}
@@ -13,7 +13,7 @@ use Rattle.mir_syntax.specs.Crate.{TypedBody, crate_of, body_of, function_of, de
 use Rattle.mir_syntax.specs.Shapes.{Shape, shape_of, fields_tuple}
 use Rattle.mir_syntax.proofs.Places.{shape-at, shape-past}
 use Rattle.mir_rules.proofs.Lists.{list_all_true-at}
-use Rattle.mir_semantics.specs.Values.{Value, listed}
+use Rattle.mir_semantics.specs.Values.{listed}
 use Rattle.mir_semantics.specs.Step.{body_in}
 use Rattle.mir_semantics.specs.Run.{Entry}
 use Rattle.mir_semantics.specs.Entry.{IsEntry, AreFlat, has_type, flat, holds_reference, result_and_args, arg_types}

@@ -1,4 +1,4 @@
-use Rattle.std.proofs.Common.{◌≡◌, ◌∙◌, refl, sym, ap, suc, List, [], ◌∷◌, take, length, Some, None, arith}
+use Rattle.std.proofs.Common.{◌≡◌, ◌∙◌, refl, sym, ap, suc, [], ◌∷◌, take, length, Some, None, arith}
 use Rattle.std.proofs.lemmas.List.{append-nil}
 use Rattle.mir_syntax.specs.Tree.{at_ids, trees_of}
 use Rattle.mir_meaning.specs.Programs.{shapes_in, type_in}
