@@ -1,5 +1,5 @@
 -- What a problem's facts and flows keep.
-use Rattle.std.proofs.Common.{◌≡◌, ◌≢◌, inl, inr, sym, ap, ◌∙◌, subst, ℕ, ◌+◌, ◌<◌, ◌≤◌, List, Some, slice_get, arith}
+use Rattle.std.proofs.Common.{◌≡◌, ◌≢◌, inl, inr, sym, subst, ℕ, ◌+◌, ◌≤◌, List, Some, slice_get, arith}
 use Rattle.std.proofs.lemmas.Bool.{cases_eq}
 use Rattle.flow_engine.specs.declared.edges.Edge.{Edge}
 use Rattle.flow_engine.specs.Flow.{Arrow, Flow, Lawful, problem}

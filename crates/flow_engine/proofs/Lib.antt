@@ -2,3 +2,4 @@ pub mod Lists
 pub mod Laws
 pub mod Going
 pub mod Least
+pub mod Waiting

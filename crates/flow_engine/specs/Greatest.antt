@@ -1,5 +1,5 @@
 -- Numbers up to 3 by their order: the facts of the tests.
-use Rattle.std.specs.Prelude.{◌≡◌, ℕ, zero, suc, ◌≤◌, max}
+use Rattle.std.specs.Prelude.{ℕ, zero, suc, ◌≤◌, max}
 use Rattle.std.proofs.Common.{arith}
 use Rattle.flow_engine.specs.Flow.{Lawful}
 

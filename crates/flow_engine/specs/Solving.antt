@@ -1,6 +1,7 @@
 -- What holds while a problem is being solved. No promise of a public call rests on these.
-use Rattle.std.specs.Prelude.{◌≡◌, ℕ, ◌<◌, Bool, true, false, List, length, get_or, Option, Some, slice_get, Contains}
+use Rattle.std.specs.Prelude.{◌≡◌, ℕ, ◌<◌, Bool, true, false, List, ◌++◌, length, get_or, Some, slice_get, Contains}
 use Rattle.flow_engine.specs.declared.edges.Edge.{Edge}
+use Rattle.flow_engine.specs.declared.worklist.Worklist.{Worklist}
 use Rattle.flow_engine.specs.Flow.{Flow, Arrow, Solves, AllFacts}
 
 -- facts on the way to the least solution: at least the starts, and under every solution
@@ -9,6 +10,10 @@ pub record IsUnder {A : Type 0} (Ok : A → Type 0) (Below : A → A → Type 0)
   pub facts : AllFacts Ok xs
   pub above : (b : ℕ) (s x : A) → slice_get p.starts b ≡ Some s → slice_get xs b ≡ Some x → Below s x
   pub under : (ys : List A) → AllFacts Ok ys → Solves Below p ys → (b : ℕ) (x y : A) → slice_get xs b ≡ Some x → slice_get ys b ≡ Some y → Below x y
+
+-- the blocks that wait, the next one last
+abbrev pub waiting : Worklist → List ℕ
+waiting w = w.later.items ++ w.sweep.items
 
 -- the marked blocks stand in the queue
 pub record IsWork (blocks : ℕ) (queue : List ℕ) (marks : List Bool) : Type 0 where

@@ -2,7 +2,7 @@ ghost use Rattle.std.specs.Prelude.{◌≡◌, ℕ, ◌+◌, ◌*◌, ◌<◌, �
 ghost use Rattle.std.specs.List.{All};
 ghost use Rattle.flow_engine.specs.Flow.{problem, starts_to, Least};
 ghost use Rattle.flow_engine.specs.declared.edges.Edge.{Edge};
-ghost use Rattle.flow_engine.specs.Solving.{IsGoing, IsLeaving};
+ghost use Rattle.flow_engine.specs.Solving.{IsGoing, IsLeaving, waiting};
 
 use crate::edges::Edge;
 use crate::problem::Analysis;
@@ -61,10 +61,10 @@ fn send_all<A: Analysis>(
     requires inside { All (λ e. (e.from < length facts.old.items) × (e.to < length facts.old.items)) edges.now }
     requires within { block < length facts.old.items }
     requires leaves { (i : ℕ) → Contains leaving.now i → (e : Edge) × (slice_get edges.now i ≡ Some e) × (e.from ≡ block) }
-    requires going { IsGoing (A.is_fact analysis.now) (A.below analysis.now) (problem (A.joined analysis.now) (A.begun analysis.now) (A.sent analysis.now) (length facts.old.items) edges.now) facts.old.items work.old.queue.items work.old.waits.items block [] }
+    requires going { IsGoing (A.is_fact analysis.now) (A.below analysis.now) (problem (A.joined analysis.now) (A.begun analysis.now) (A.sent analysis.now) (length facts.old.items) edges.now) facts.old.items (waiting work.old) work.old.waits.items block [] }
     ensures same { length facts.new.items ≡ length facts.old.items }
-    ensures going { OnOk result (IsGoing (A.is_fact analysis.now) (A.below analysis.now) (problem (A.joined analysis.now) (A.begun analysis.now) (A.sent analysis.now) (length facts.old.items) edges.now) facts.new.items work.new.queue.items work.new.waits.items block leaving.now) }
-    ensures climbs { OnOk result (length work.new.queue.items + 2 * sum_by (A.rank analysis.now) facts.old.items ≤ length work.old.queue.items + 2 * sum_by (A.rank analysis.now) facts.new.items) }
+    ensures going { OnOk result (IsGoing (A.is_fact analysis.now) (A.below analysis.now) (problem (A.joined analysis.now) (A.begun analysis.now) (A.sent analysis.now) (length facts.old.items) edges.now) facts.new.items (waiting work.new) work.new.waits.items block leaving.now) }
+    ensures climbs { OnOk result (length (waiting work.new) + 2 * sum_by (A.rank analysis.now) facts.old.items ≤ length (waiting work.old) + 2 * sum_by (A.rank analysis.now) facts.new.items) }
 {
     for edge in leaving {
         let to = edges[*edge].to;

@@ -1,4 +1,4 @@
-use Rattle.std.proofs.Common.{◌≡◌, ◌<◌, length, get_or, arith}
+use Rattle.std.proofs.Common.{◌<◌, length, arith}
 use Rattle.flow_engine.proofs.Lists.{leaving_more}
 use Rattle.flow_engine.proofs.solver.leaving.Goals as goal
 

@@ -1,12 +1,11 @@
-use Rattle.std.proofs.Common.{◌≡◌, ◌+◌, ◌*◌, ◌<◌, ◌≤◌, refl, ℕ, List, length, get_or, take, set, sym, ap, ◌∙◌, subst, Some, slice_get, sum_by, [], ◌∷◌, ◌++◌, rules, arith}
-use Rattle.std.specs.List.{Contains}
+use Rattle.std.proofs.Common.{◌≡◌, ◌+◌, ◌<◌, refl, length, get_or, take, set, sym, ap, ◌∙◌, subst, Some, slice_get, [], ◌∷◌, ◌++◌, rules, arith}
 use Rattle.std.proofs.lemmas.List.{take_more, length-set}
 use Rattle.std.proofs.lemmas.List.Elements.{Contains-get_or}
-use Rattle.std.proofs.lemmas.Option.{slice_get_read, slice_get-get_or, slice_get_within, get_or_from_slice_get}
+use Rattle.std.proofs.lemmas.Option.{slice_get_read, slice_get_within, get_or_from_slice_get}
 use Rattle.flow_engine.specs.declared.edges.Edge.{Edge}
-use Rattle.flow_engine.specs.Solving.{IsGoing, IsWork}
+use Rattle.flow_engine.specs.Solving.{IsGoing, IsWork, waiting}
 use Rattle.flow_engine.specs.Flow.{problem}
-use Rattle.flow_engine.proofs.Going.{Sent, sent_if, starts_count}
+use Rattle.flow_engine.proofs.Going.{sent_if, starts_count}
 use Rattle.flow_engine.proofs.solver.send_all.Goals as goal
 
 pub bounds-edges-edge : goal.bounds-edges-edge
@@ -43,7 +42,7 @@ join-requires g c =
 pub add_if-requires-clause-work : goal.add_if-requires-clause-work
 add_if-requires-clause-work g c =
     let w = c.loop-edge.invariant.1.work in
-    subst (λ k. IsWork k c.loop-edge.work.queue.items c.loop-edge.work.waits.items) (sym w.long) w
+    subst (λ k. IsWork k (waiting c.loop-edge.work) c.loop-edge.work.waits.items) (sym w.long) w
 
 pub add_if-requires-clause-within : goal.add_if-requires-clause-within
 add_if-requires-clause-within g c =
@@ -84,8 +83,8 @@ loop-edge-preserved g c =
     let is : y2 ≡ m.joined a y (m.sent a i x) = c.in_ok-changed.ensures.joined ∙ ap (m.joined a y) c.in_ok-flown.ensures in
     let sent = take c.loop-edge.edge-index c.args.leaving.now in
     let more : sent ++ i ∷ [] ≡ take (c.loop-edge.edge-index + 1) c.args.leaving.now = sym (take_more c.args.leaving.now c.loop-edge.edge-index 0 (omega arith)) in
-    let r = sent_if (m.is_fact a) (m.below a) (m.rank a) (m.most a) (m.begun a) (m.joined a) (m.sent a) law n es xs c.loop-edge.work.queue.items c.loop-edge.work.waits.items c.args.block sent c.loop-edge.invariant.1 i e at from_is x y y2 at_from at_to is c.add_if.new.self.queue.items c.add_if.new.self.waits.items c.in_ok-changed.changed c.in_ok-changed.ensures.changed c.in_ok-add_if.ensures.marks c.in_ok-add_if.ensures.work c.in_ok-add_if.ensures.longer in (
+    let r = sent_if (m.is_fact a) (m.below a) (m.rank a) (m.most a) (m.begun a) (m.joined a) (m.sent a) law n es xs (waiting c.loop-edge.work) c.loop-edge.work.waits.items c.args.block sent c.loop-edge.invariant.1 i e at from_is x y y2 at_from at_to is (waiting c.add_if.new.self) c.add_if.new.self.waits.items c.in_ok-changed.changed c.in_ok-changed.ensures.changed c.in_ok-add_if.ensures.marks c.in_ok-add_if.ensures.work c.in_ok-add_if.ensures.longer in (
       length-set xs e.to y2 ∙ k,
-      subst (λ sent. IsGoing (m.is_fact a) (m.below a) (problem (m.joined a) (m.begun a) (m.sent a) n es) (set xs e.to y2) c.add_if.new.self.queue.items c.add_if.new.self.waits.items c.args.block sent) more r.going,
+      subst (λ sent. IsGoing (m.is_fact a) (m.below a) (problem (m.joined a) (m.begun a) (m.sent a) n es) (set xs e.to y2) (waiting c.add_if.new.self) c.add_if.new.self.waits.items c.args.block sent) more r.going,
       omega (arith, r.climbs, c.loop-edge.invariant.2),
     )

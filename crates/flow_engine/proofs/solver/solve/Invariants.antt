@@ -1,6 +1,6 @@
-use Rattle.std.proofs.Common.{◌≡◌, ◌+◌, ◌-◌, ◌*◌, ◌≤◌, [], length, take, sum_by}
+use Rattle.std.proofs.Common.{◌≡◌, ◌+◌, ◌-◌, ◌*◌, [], length, sum_by}
 use Rattle.flow_engine.specs.Flow.{problem}
-use Rattle.flow_engine.specs.Solving.{IsGoing}
+use Rattle.flow_engine.specs.Solving.{IsGoing, waiting}
 use Rattle.flow_engine.proofs.solver.solve.Given as goal
 
 abbrev pub invariant-loop-block : goal.invariant-loop-block
@@ -8,7 +8,7 @@ invariant-loop-block g l =
     let a = l.analysis in
     let m = g.A.Analysis in
     (length l.facts.items ≡ l.blocks)
-    × IsGoing (m.is_fact a) (m.below a) (problem (m.joined a) (m.begun a) (m.sent a) l.blocks l.edges) l.facts.items l.work.queue.items l.work.waits.items l.blocks []
+    × IsGoing (m.is_fact a) (m.below a) (problem (m.joined a) (m.begun a) (m.sent a) l.blocks l.edges) l.facts.items (waiting l.work) l.work.waits.items l.blocks []
 
 abbrev pub decreases-loop-block : goal.decreases-loop-block
-decreases-loop-block g l = 2 * (l.blocks * g.A.Analysis.most l.analysis - sum_by (g.A.Analysis.rank l.analysis) l.facts.items) + length l.work.queue.items
+decreases-loop-block g l = 2 * (l.blocks * g.A.Analysis.most l.analysis - sum_by (g.A.Analysis.rank l.analysis) l.facts.items) + length (waiting l.work)

@@ -1,4 +1,4 @@
-use Rattle.std.proofs.Common.{◌≡◌, ℕ, suc, zero, ◌+◌, List, [], ◌∷◌, ◌++◌, sym, ap, ap₂, ◌∙◌, arith}
+use Rattle.std.proofs.Common.{◌≡◌, ℕ, suc, ◌+◌, List, [], ◌∷◌, ◌++◌, sym, ap, ap₂, ◌∙◌, arith}
 use Rattle.flow_engine.specs.Flow.{starts_to}
 use Rattle.flow_engine.proofs.Lists.{starts_more}
 use Rattle.flow_engine.proofs.solver.starts.Goals as goal

@@ -1,5 +1,5 @@
-use Rattle.std.proofs.Common.{◌≡◌, ℕ, ◌+◌, ◌<◌, List, [], ◌∷◌, ◌++◌, true, false, Bool, map, length, get_or, replicate, refl, sym, ap, ap₂, ◌∙◌, inl, inr, arith}
-use Rattle.std.specs.List.{range_with_len, Contains}
+use Rattle.std.proofs.Common.{◌≡◌, ℕ, ◌+◌, ◌<◌, [], ◌∷◌, ◌++◌, true, false, replicate, refl, sym, ap, ◌∙◌, inl, inr, arith}
+use Rattle.std.specs.List.{range_with_len}
 use Rattle.std.proofs.lemmas.List.{length-replicate, replicate_more}
 use Rattle.std.proofs.lemmas.List.FromFn.{length-range_with_len, get_or-range_with_len}
 use Rattle.std.proofs.lemmas.Bool.{cases_lt, both_ways}
@@ -27,4 +27,4 @@ all_work n = record {
 pub returns-clause-work : goal.returns-clause-work
 returns-clause-work c =
     let n : c.loop-block.block ≡ c.args.blocks = omega arith in
-    rw (c.loop-block.invariant.0, c.loop-block.invariant.1, n) (all_work c.args.blocks)
+    rw (c.loop-block.invariant.0, c.loop-block.invariant.1, n, c.new-later.ensures.items) (all_work c.args.blocks)
