@@ -1,5 +1,4 @@
-ghost use Rattle.std.specs.Prelude.{◌≡◌, ◌<◌, ◌^◌, length, IfOk};
-ghost use Rattle.bit_rows.specs.Rows.{HasSize};
+ghost use Rattle.std.specs.Prelude.{◌<◌, length};
 ghost use Rattle.mir_syntax.specs.Drops.{KnowsDrops};
 ghost use Rattle.mir_syntax.specs.Ids.{IdsInTable};
 
@@ -11,6 +10,7 @@ use liveness::live;
 use mir_cfg::preds;
 use mir_syntax::{Body, List, OutOfMemory, Program, Stmt};
 use std::alloc::Global;
+use trim_locals::trimmed;
 
 /// The numbers of the bits that are set in a row.
 fn set_bits(alloc: Global, rows: &BitRows, row: u32, bits: u32) -> Result<Vec<u32>, OutOfMemory>
@@ -87,6 +87,18 @@ pub fn pruned_if_ready(
         return Ok(None);
     }
     Ok(Some(pruned(alloc, program, body)?))
+}
+
+/// The trimmed body, if the body is ready.
+pub fn trimmed_if_ready(
+    alloc: Global,
+    program: &Program,
+    body: Body,
+) -> Result<Option<Body>, OutOfMemory> {
+    if !is_ready(program, &body) {
+        return Ok(None);
+    }
+    Ok(Some(trimmed(alloc, program, body)?))
 }
 
 /// The locals that the assignments of a block write, in their order.

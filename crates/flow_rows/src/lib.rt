@@ -10,6 +10,8 @@ mod ready;
 #[cfg(test)]
 mod tests;
 
-pub use answers::{borrowed_locals, live_starts, pruned_if_ready, sources, written};
+pub use answers::{
+    borrowed_locals, live_starts, pruned_if_ready, sources, trimmed_if_ready, written,
+};
 pub use made::{End, Line, Made, block, body, chain, program};
 pub use ready::is_ready;

@@ -1,11 +1,10 @@
 use crate::{
     End, Line, body, borrowed_locals, chain, live_starts, program, pruned_if_ready, sources,
-    written,
+    trimmed_if_ready, written,
 };
 use mir_syntax::OutOfMemory;
 use std::alloc::Global;
 use std::test::Fail;
-use trim_locals::trimmed;
 
 #[test]
 fn three_rounds_prune_and_unused_locals_go(rt: HostRuntime) -> Result<(), Fail> {
@@ -25,7 +24,10 @@ fn three_rounds_prune_and_unused_locals_go(rt: HostRuntime) -> Result<(), Fail> 
         return Ok(());
     };
     assert_eq!(rt; written(alloc, &left, 0)?.as_slice(), [2, 0].as_slice());
-    let left = trimmed(alloc, &made.program, left)?;
+    let Some(left) = trimmed_if_ready(alloc, &made.program, left)? else {
+        assert!(rt; false);
+        return Ok(());
+    };
     assert_eq!(rt; written(alloc, &left, 0)?.as_slice(), [2, 0].as_slice());
     assert_eq!(rt; left.locals.len(), 3);
     Ok(())
