@@ -1,0 +1,125 @@
+#!/usr/bin/env python3
+"""Times `live` of liveness. Run by hand: bench/live.py.
+
+It copies the crates to a scratch folder, proves and builds a program over them there, and runs it: bodies of 10,000 blocks and as many locals,
+in which each block copies a local of its own to the result. In the chain each block goes to the next one; in the ladder each may go back to the
+one before it, too, so that all blocks but the last lie on loops. It prints a line for each (the time of `live`, how many locals are live at the
+start of bb0) and the program's greatest memory in kilobytes.
+"""
+import os
+import shutil
+import subprocess
+import tempfile
+
+ROOT = os.path.dirname(os.path.dirname(os.path.abspath(__file__)))
+
+# The program's crate stands on this one and its own dependencies.
+BASE = "flow_rows"
+
+# The files of the program's crate.
+FILES = {
+    "src/main.rt": """//! Times `live` on a chain of blocks and on a ladder of loops.
+#![tactic(auto)]
+
+use flow_rows::{End, Line, block, is_ready, program};
+use liveness::live;
+use mir_syntax::{Body, List, OutOfMemory, TyId};
+use std::alloc::Global;
+use std::io;
+use std::time::Instant;
+
+const COUNT: u32 = 10000;
+
+fn end(number: u32, is_ladder: bool) -> End {
+    let next = number.saturating_add(1);
+    if next == COUNT {
+        End::Return
+    } else if is_ladder {
+        End::Choose(number, number.saturating_sub(1), next)
+    } else {
+        End::Goto(next)
+    }
+}
+
+fn body(alloc: Global, ty: TyId, is_ladder: bool) -> Result<Body, OutOfMemory> {
+    let mut locals = List::new(alloc);
+    let mut blocks = List::new(alloc);
+    for number in 0..COUNT {
+        locals.push(ty)?;
+        let lines = [Line::Copy(0, number)];
+        blocks.push(block(alloc, lines.as_slice(), end(number, is_ladder))?)?;
+    }
+    Ok(Body {
+        args: 0,
+        locals,
+        blocks,
+    })
+}
+
+fn main(rt: HostRuntime) -> io::Result<()> {
+    let alloc = rt.alloc();
+    let Ok(made) = program(alloc) else {
+        return println!(rt; "out of memory");
+    };
+    for is_ladder in [false, true] {
+        let Ok(body) = body(alloc, made.byte, is_ladder) else {
+            return println!(rt; "out of memory");
+        };
+        if body.blocks.is_empty() || !is_ready(&made.program, &body) {
+            return println!(rt; "not ready");
+        }
+        let start = Instant::now(&rt)?;
+        let Ok(rows) = live(alloc, &made.program, &body) else {
+            return println!(rt; "out of memory");
+        };
+        let time = start.elapsed(&rt)?;
+        let mut count = 0u32;
+        for local in 0..COUNT {
+            if rows.starts.has(0, local) {
+                count = count.saturating_add(1);
+            }
+        }
+        let name = if is_ladder { "ladder" } else { "chain" };
+        println!(rt; "{name}: {time:?}, {count} locals are live at the start")?;
+    }
+    Ok(())
+}
+""",
+}
+
+
+def dependencies():
+    """The lines of crates.txt for the base crate and all that it stands on."""
+    with open(os.path.join(ROOT, "crates.txt")) as file:
+        lines = {line.split(":")[0].split()[0]: line for line in file if ":" in line}
+    found, left = {}, [BASE]
+    while left:
+        name = left.pop()
+        if name in lines and name not in found:
+            found[name] = lines[name]
+            left += lines[name].split(":")[1].split()
+    return found
+
+
+def main():
+    found = dependencies()
+    with tempfile.TemporaryDirectory() as scratch:
+        crates = os.path.join(scratch, "crates")
+        for name in found:
+            shutil.copytree(os.path.join(ROOT, "crates", name), os.path.join(crates, name), ignore=shutil.ignore_patterns("out"))
+        for name, text in FILES.items():
+            path = os.path.join(crates, "live_bench", name)
+            os.makedirs(os.path.dirname(path), exist_ok=True)
+            with open(path, "w") as file:
+                file.write(text)
+        with open(os.path.join(scratch, "crates.txt"), "w") as file:
+            file.writelines([*found.values(), f"live_bench: mir_syntax liveness bit_rows {BASE}\n"])
+        program = os.path.join(crates, "live_bench")
+        subprocess.run(["rt", "run"], cwd=program, check=True, stdout=subprocess.DEVNULL, stderr=subprocess.DEVNULL)
+        child = subprocess.Popen([os.path.join(program, "out", "live_bench")])
+        _, _, usage = os.wait4(child.pid, 0)
+        print(f"{usage.ru_maxrss} KB")
+
+
+if __name__ == "__main__":
+    main()
