@@ -1,10 +1,11 @@
 #!/usr/bin/env python3
-"""Times `mirpipe check` and `mirpipe seq` on texts of many sizes. Run by hand: bench/run.py [PROGRAM [MEGABYTES]].
+"""Times `mirpipe check` and `mirpipe seq` on texts of many sizes, and `mirpipe run` for many steps. Run by hand: bench/run.py [PROGRAM [MEGABYTES]].
 
 The inputs are made here: one function whose blocks are all empty gotos (each skipped), or are all joined to one; many small functions; and
 functions of one long block. The last two are made as long as so many megabytes (60 where none is said), and a tenth of it. It prints a line for
 each run: the command, the input's name and its bytes, the seconds, bytes per second, and the greatest memory in kilobytes (never less than
-what this script itself had when it began the run).
+what this script itself had when it began the run). Runs are of a loop and of a loop with a call, for a tenth of the steps and for all million, which
+ends in the same memory.
 """
 import os
 import subprocess
@@ -50,17 +51,62 @@ def inputs(size):
         yield "straight", many(part, 400)
 
 
-def run(program, command, text):
-    """The seconds and the greatest memory of a run on a text."""
+LOOP = """fn one(_1: u64) -> u64 {
+    let mut _0: u64;
+
+    bb0: {
+        _0 = Add(copy _1, const 1_u64);
+        return;
+    }
+}
+
+fn count(_1: u64) -> u64 {
+    let mut _0: u64;
+    let mut _2: bool;
+
+    bb0: {
+        _0 = const 0_u64;
+        goto -> bb1;
+    }
+
+    bb1: {
+        %s
+        _2 = Lt(copy _0, copy _1);
+        switchInt(move _2) -> [0: %s, otherwise: bb1];
+    }
+%s
+    bb%d: {
+        return;
+    }
+}
+"""
+CALLS = """
+    bb2: {
+        _2 = Lt(copy _0, copy _1);
+        switchInt(move _2) -> [0: bb3, otherwise: bb1];
+    }
+"""
+
+
+def loops():
+    """Texts with a function `count` that counts up to its argument, by their names."""
+    yield "loop", LOOP % ("_0 = Add(copy _0, const 1_u64);", "bb2", "", 2)
+    call = "_0 = one(copy _0) -> [return: bb2, unwind unreachable];"
+    text = LOOP % (call, "bb3", CALLS, 3)
+    yield "calls", text.replace(f"        {call}\n        _2 = Lt(copy _0, copy _1);\n        switchInt(move _2) -> [0: bb3, otherwise: bb1];\n", f"        {call}\n", 1)
+
+
+def run(program, words, text):
+    """The seconds and the greatest memory of the program with these words on a text."""
     with tempfile.TemporaryFile() as stdin:
         stdin.write(text.encode())
         stdin.seek(0)
         start = time.perf_counter()
-        child = subprocess.Popen([program, command], stdin=stdin, stdout=subprocess.DEVNULL)
+        child = subprocess.Popen([program, *words], stdin=stdin, stdout=subprocess.DEVNULL)
         _, status, usage = os.wait4(child.pid, 0)
         seconds = time.perf_counter() - start
     if status != 0:
-        sys.exit(f"{program} {command}: wait status {status}")
+        sys.exit(f"{program} {' '.join(words)}: wait status {status}")
     return seconds, usage.ru_maxrss
 
 
@@ -69,8 +115,12 @@ def main():
     size = (int(sys.argv[2]) if len(sys.argv) > 2 else 60) * MEGABYTE
     for name, text in inputs(size):
         for command in ("check", "seq"):
-            seconds, memory = run(program, command, text)
+            seconds, memory = run(program, [command], text)
             print(f"{command} {name}: {len(text)} bytes, {seconds:.3f} s, {len(text) / seconds:.0f} bytes/s, {memory} KB")
+    for name, text in loops():
+        for steps in (100_000, 1_000_000):
+            seconds, memory = run(program, ["run", "count", str(2**64 - 1), "--answers", "-", "--steps", str(steps)], text)
+            print(f"run {name}: {steps} steps, {seconds:.3f} s, {steps / seconds:.0f} steps/s, {memory} KB")
 
 
 if __name__ == "__main__":
