@@ -125,10 +125,14 @@ numbers_left : (ns : List Number) (b : Bool) → b ≡ (length ns == 0) → b �
 numbers_left [] b e off h = let wrong : true ≡ false = sym e ∙ off in cc
 numbers_left (n ∷ ns) b e off h = cc
 
-pub strays_over : (p : Program) (b : Body) (is : List ℤ) (k : ℕ) (args : List Datum) (rest : List Number) (types : List TyId) (none : Bool) → types ≡ drop 1 (signature b) → Some (fields_of args, integers_of rest) ≡ reading (shapes_in p) (at_ids (trees_of p.types) types) is
-    → none ≡ (length rest == 0) → none ≡ false → b.args ≡ k → Strays p b is k
-strays_over p b is k args rest types none drops read e off count =
-    inr (sym count, inr (record { values = args; rest = integers_of rest; read = sym (read ∙ ap (λ ids. reading (shapes_in p) (at_ids (trees_of p.types) ids) is) drops); some = numbers_left rest none e off }))
+pub over_read : (p : Program) (b : Body) (is : List ℤ) (args : List Datum) (rest : List Number) (types : List TyId) (none : Bool) → types ≡ drop 1 (signature b) → Some (fields_of args, integers_of rest) ≡ reading (shapes_in p) (at_ids (trees_of p.types) types) is
+    → none ≡ (length rest == 0) → none ≡ false → LeavesOver p b is
+over_read p b is args rest types none drops read e off = record {
+  values = args;
+  rest = integers_of rest;
+  read = sym (read ∙ ap (λ ids. reading (shapes_in p) (at_ids (trees_of p.types) ids) is) drops);
+  some = numbers_left rest none e off;
+}
 
 begin_flat : (D : List Shape) (trees : List Tree) (ids : List TyId) (is rest : List ℤ) (values : List Datum) → reading D (at_ids trees ids) is ≡ Some (fields_of values, rest) → BeginFlat D (map (at_id trees) ids) is rest
 begin_flat D trees ids is rest values h =
@@ -175,9 +179,9 @@ leave_over p b is over = record {
 }
 
 misfits_in : (p : Program) → Few (shapes_in p) → (b : Body) (is : List ℤ) (k : ℕ) → Strays p b is k → Misfits (shapes_in p) (body_of (trees_of p.types) b) is k
-misfits_in p few b is k (inl stop) = inl (stop_at p few b is k stop)
-misfits_in p few b is k (inr (count, inl refers)) = inr (count, inl (ap (holds_reference (shapes_in p)) (sym (all_types (trees_of p.types) b)) ∙ refers))
-misfits_in p few b is k (inr (count, inr over)) = inr (count, inr (leave_over p b is over))
+misfits_in p few b is k (inl (refers, count)) = inl (ap (holds_reference (shapes_in p)) (sym (all_types (trees_of p.types) b)) ∙ refers, count)
+misfits_in p few b is k (inr (plain, inl stop)) = inr (ap not (ap (holds_reference (shapes_in p)) (sym (all_types (trees_of p.types) b)) ∙ plain), inl (stop_at p few b is k stop))
+misfits_in p few b is k (inr (plain, inr (over, count))) = inr (ap not (ap (holds_reference (shapes_in p)) (sym (all_types (trees_of p.types) b)) ∙ plain), inr (leave_over p b is over, count))
 
 pub misfits : (p : Program) → Few (shapes_in p) → (f : ℕ) (g : Function) (is : List ℤ) (k : ℕ) → slice_get p.functions f ≡ Some g → Strays p g.body is k
     → (body : TypedBody) → slice_get (code_in p).bodies f ≡ Some body → Misfits (shapes_in p) body is k

@@ -44,4 +44,4 @@ pub record LeavesOver (p : Program) (b : Body) (is : List ℤ) : Type 0 where
 
 -- the place of the first that isn't given, or their number
 abbrev pub Strays : Program → Body → List ℤ → ℕ → Type 0
-Strays p b is k = StopsAt p (drop 1 (signature b)) is k ⊎ ((k ≡ b.args) × ((has_references p b ≡ true) ⊎ LeavesOver p b is))
+Strays p b is k = ((has_references p b ≡ true) × (k ≡ b.args)) ⊎ ((has_references p b ≡ false) × (StopsAt p (drop 1 (signature b)) is k ⊎ (LeavesOver p b is × (k ≡ b.args))))

@@ -1,5 +1,5 @@
 -- Numbers that call nothing, and the argument that they give no value of.
-use Rattle.std.specs.Prelude.{◌≡◌, ◌⊎◌, ℕ, List, [], ◌∷◌, ◌++◌, take, Some, slice_get, IsTrue, ℤ}
+use Rattle.std.specs.Prelude.{◌≡◌, ◌⊎◌, ℕ, Bool, not, List, [], ◌∷◌, ◌++◌, take, Some, slice_get, IsTrue, ℤ}
 use Rattle.mir_syntax.specs.Tree.{Tree, tuple_of}
 use Rattle.mir_syntax.specs.Crate.{TypedBody}
 use Rattle.mir_syntax.specs.Shapes.{Shape}
@@ -27,7 +27,10 @@ pub record LeaveOver (D : List Shape) (types : List Tree) (integers : List ℤ) 
   pub all : BeginFlat D types integers rest
   pub some : rest ≡ [] → ⊥
 
--- why integers don't call a function: the first argument that they give no value of, counted from 0; or the number of arguments,
--- where its signature holds a reference or integers are left over
+abbrev pub signature_refers : List Shape → TypedBody → Bool
+signature_refers D b = holds_reference D (tuple_of (result_and_args b))
+
+-- why integers don't call a function: where its signature holds a reference, the number of arguments; else the first argument that
+-- they give no value of, counted from 0, or the number of arguments where integers are left over
 abbrev pub Misfits : List Shape → TypedBody → List ℤ → ℕ → Type 0
-Misfits D b is k = StopAt D (arg_types b) is k ⊎ ((k ≡ b.args) × (IsTrue (holds_reference D (tuple_of (result_and_args b))) ⊎ LeaveOver D (arg_types b) is))
+Misfits D b is k = (IsTrue (signature_refers D b) × (k ≡ b.args)) ⊎ (IsTrue (not (signature_refers D b)) × (StopAt D (arg_types b) is k ⊎ (LeaveOver D (arg_types b) is × (k ≡ b.args))))
