@@ -8,7 +8,7 @@ use Rattle.mir_syntax.specs.declared.types.TyId.{TyId}
 use Rattle.mir_syntax.specs.declared.body.Body.{Body}
 use Rattle.mir_syntax.specs.declared.body.Function.{Function}
 use Rattle.mir_syntax.specs.declared.program.Program.{Program}
-use Rattle.mir_syntax.specs.Tree.{Tree, more, tuple_of, at_id, at_ids, trees_of}
+use Rattle.mir_syntax.specs.Tree.{Tree, empty, more, tuple_of, at_id, at_ids, trees_of}
 use Rattle.mir_syntax.specs.Crate.{TypedBody, crate_of, body_of, function_of, def_of, variant_of}
 use Rattle.mir_syntax.specs.Shapes.{Shape, shape_of, fields_tuple}
 use Rattle.mir_syntax.proofs.Places.{shape-at, shape-past}
@@ -21,15 +21,18 @@ use Rattle.mir_meaning.specs.declared.datum.Datum.{Datum}
 use Rattle.mir_meaning.specs.Programs.{shapes_in}
 use Rattle.mir_meaning.specs.Views.{value_of, fields_of}
 use Rattle.mir_machine.specs.declared.state.EntryCall.{EntryCall}
+use Rattle.mir_syntax.specs.declared.number.Number.{Number}
+use Rattle.mir_machine.specs.Ends.{integer_in}
 use Rattle.mir_machine.specs.Seen.{code_in}
 use Rattle.mir_machine.specs.Runs.{entry_in}
-use Rattle.mir_entry.specs.Readings.{reading}
+use Rattle.mir_entry.specs.Readings.{Reading, read_by, read_def, then_read, reading, integers_of, StopsAt}
+use Rattle.mir_entry.specs.Misfits.{BeginFlat, StopAt, LeaveOver, Misfits}
 use Rattle.std.specs.List.{list_all}
-use Rattle.std.specs.Prelude.{Result, Ok, Err, IsErrAnd}
+use Rattle.std.specs.Prelude.{◌==◌, Result, Ok, Err, IsErrAnd}
 use Rattle.mir_entry.specs.declared.entries.EntryFault.{EntryFault}
 use Rattle.mir_entry.specs.declared.entries.EntryFault.TheVariants as fault
 use Rattle.mir_syntax.specs.declared.types.Def.{Def}
-use Rattle.mir_entry.specs.Entering.{few_variants, signature, Enters, Refuses}
+use Rattle.mir_entry.specs.Entering.{few_variants, signature, Enters, Refuses, LeavesOver, Strays}
 use Rattle.mir_entry.proofs.Readings.{Few, reading_sound, reading_complete}
 
 -- ---- bodies and their types
@@ -56,8 +59,11 @@ signature_types trees b = take-map (at_id trees) (suc b.args) b.locals ∙ ap (�
 all_types : (trees : List Tree) (b : Body) → at_ids trees (signature b) ≡ tuple_of (result_and_args (body_of trees b))
 all_types trees b = tuple_ids trees (signature b) ∙ ap tuple_of (sym (signature_types trees b))
 
+arguments_at : (trees : List Tree) (b : Body) → map (at_id trees) (drop 1 (signature b)) ≡ arg_types (body_of trees b)
+arguments_at trees b = sym (ap (drop 1) (signature_types trees b) ∙ drop_one (at_id trees) (signature b))
+
 argument_types : (trees : List Tree) (b : Body) → at_ids trees (drop 1 (signature b)) ≡ tuple_of (arg_types (body_of trees b))
-argument_types trees b = tuple_ids trees (drop 1 (signature b)) ∙ ap tuple_of (sym (ap (drop 1) (signature_types trees b) ∙ drop_one (at_id trees) (signature b)))
+argument_types trees b = tuple_ids trees (drop 1 (signature b)) ∙ ap tuple_of (arguments_at trees b)
 
 -- ---- entries that are made
 
@@ -112,6 +118,73 @@ not_entered p few k g is h (inr none) body e there at entry flats =
     let types : at_ids trees (drop 1 (signature g.body)) ≡ tuple_of (arg_types body) = argument_types trees g.body ∙ ap (λ b. tuple_of (arg_types b)) same in
     let read = reading_complete (shapes_in p) few (tuple_of (arg_types body)) (listed e.args) is [] flats.typed flats.form in
     none (listed e.args) (ap (λ t. reading (shapes_in p) t is) types ∙ ap (reading (shapes_in p) (tuple_of (arg_types body))) (sym (append-nil is)) ∙ read)
+
+-- ---- the argument that isn't given
+
+numbers_left : (ns : List Number) (b : Bool) → b ≡ (length ns == 0) → b ≡ false → map integer_in ns ≡ [] → ⊥
+numbers_left [] b e off h = let wrong : true ≡ false = sym e ∙ off in cc
+numbers_left (n ∷ ns) b e off h = cc
+
+pub strays_over : (p : Program) (b : Body) (is : List ℤ) (k : ℕ) (args : List Datum) (rest : List Number) (types : List TyId) (none : Bool) → types ≡ drop 1 (signature b) → Some (fields_of args, integers_of rest) ≡ reading (shapes_in p) (at_ids (trees_of p.types) types) is
+    → none ≡ (length rest == 0) → none ≡ false → b.args ≡ k → Strays p b is k
+strays_over p b is k args rest types none drops read e off count =
+    inr (sym count, inr (record { values = args; rest = integers_of rest; read = sym (read ∙ ap (λ ids. reading (shapes_in p) (at_ids (trees_of p.types) ids) is) drops); some = numbers_left rest none e off }))
+
+begin_flat : (D : List Shape) (trees : List Tree) (ids : List TyId) (is rest : List ℤ) (values : List Datum) → reading D (at_ids trees ids) is ≡ Some (fields_of values, rest) → BeginFlat D (map (at_id trees) ids) is rest
+begin_flat D trees ids is rest values h =
+    let front = reading_sound D (at_ids trees ids) is (fields_of values) rest h in
+    let types = tuple_ids trees ids in
+    record {
+      front = front.front;
+      values = map value_of values;
+      flats = record {
+        typed = ap (λ t. has_type D t (fields_of values)) (sym types) ∙ front.is_typed;
+        form = ap (λ t. flat D t (fields_of values)) (sym types) ∙ front.is_form;
+      };
+      whole = front.whole;
+    }
+
+not_read : (D : List Shape) (t : Tree) (is : List ℤ) → reading D t is ≡ None → reading D (more t empty) is ≡ None
+unfolding reading
+not_read D t is h = ap (then_read (read_by (read_def D (length D)) empty)) h
+
+none_flat : (D : List Shape) → Few D → (t : Tree) (is behind : List ℤ) → reading D t is ≡ None → BeginFlat D (t ∷ []) is behind → ⊥
+none_flat D few t is behind h begin =
+    let read = reading_complete D few (more t empty) (listed begin.values) begin.front behind begin.flats.typed begin.flats.form in
+    let wrong : ◌≡◌ {A = Reading} None (Some (listed begin.values, behind)) = sym (not_read D t is h) ∙ ap (reading D (more t empty)) begin.whole ∙ read in
+    absurd cc
+
+stop_at : (p : Program) → Few (shapes_in p) → (b : Body) (is : List ℤ) (k : ℕ) → StopsAt p (drop 1 (signature b)) is k → StopAt (shapes_in p) (arg_types (body_of (trees_of p.types) b)) is k
+stop_at p few b is k stop =
+    let trees = trees_of p.types in
+    let ids = drop 1 (signature b) in
+    let at : StopAt (shapes_in p) (map (at_id trees) ids) is k = record {
+      next = at_id trees stop.next;
+      rest = stop.rest;
+      there = slice_get-map (at_id trees) ids k ∙ ap (option_map (at_id trees)) stop.there;
+      before = subst (λ types. BeginFlat (shapes_in p) types is stop.rest) (sym (take-map (at_id trees) k ids)) (begin_flat (shapes_in p) trees (take k ids) is stop.rest stop.values stop.before);
+      none = λ behind begin. none_flat (shapes_in p) few (at_id trees stop.next) stop.rest behind stop.none begin;
+    } in
+    subst (λ types. StopAt (shapes_in p) types is k) (arguments_at trees b) at
+
+leave_over : (p : Program) (b : Body) (is : List ℤ) → LeavesOver p b is → LeaveOver (shapes_in p) (arg_types (body_of (trees_of p.types) b)) is
+leave_over p b is over = record {
+  rest = over.rest;
+  all = subst (λ types. BeginFlat (shapes_in p) types is over.rest) (arguments_at (trees_of p.types) b) (begin_flat (shapes_in p) (trees_of p.types) (drop 1 (signature b)) is over.rest over.values over.read);
+  some = over.some;
+}
+
+misfits_in : (p : Program) → Few (shapes_in p) → (b : Body) (is : List ℤ) (k : ℕ) → Strays p b is k → Misfits (shapes_in p) (body_of (trees_of p.types) b) is k
+misfits_in p few b is k (inl stop) = inl (stop_at p few b is k stop)
+misfits_in p few b is k (inr (count, inl refers)) = inr (count, inl (ap (holds_reference (shapes_in p)) (sym (all_types (trees_of p.types) b)) ∙ refers))
+misfits_in p few b is k (inr (count, inr over)) = inr (count, inr (leave_over p b is over))
+
+pub misfits : (p : Program) → Few (shapes_in p) → (f : ℕ) (g : Function) (is : List ℤ) (k : ℕ) → slice_get p.functions f ≡ Some g → Strays p g.body is k
+    → (body : TypedBody) → slice_get (code_in p).bodies f ≡ Some body → Misfits (shapes_in p) body is k
+misfits p few f g is k h strays body there =
+    subst (λ b. Misfits (shapes_in p) b is k) (same_body (slice_get (code_in p).bodies f) (body_of (trees_of p.types) g.body) body (found_body p f g h) there) (misfits_in p few g.body is k strays)
+
+-- ---- programs whose variants have numbers
 
 variants_typed : (p : Program) (d : ℕ) (s : Shape) (o : Option Def) → slice_get p.defs d ≡ o → list_all few_variants p.defs ≡ true → slice_get (shapes_in p) d ≡ Some s → length s.variants ≤ 2 ^ 32
 variants_typed p d s None h all e = let wrong : ◌≡◌ {A = Option Shape} None (Some s) = sym (shape-past p d h) ∙ e in absurd cc

@@ -1,4 +1,4 @@
--- Functions by their paths.
+-- Loops over the rest of a list, and functions by their paths.
 use Rattle.std.proofs.Common.{◌≡◌, ◌∙◌, refl, sym, ap, ℕ, zero, suc, ◌+◌, ◌-◌, ◌<◌, ◌≤◌, ◌^◌, nat_eq, Bool, true, false, List, [], ◌∷◌, drop, length, slice_get, Option, Some, IsTrue, ◌↔◌, add-one, arith}
 use Rattle.std.proofs.lemmas.Option.{slice_get_within}
 use Rattle.std.proofs.lemmas.Bool.Decides.{nat_tests}
@@ -8,13 +8,13 @@ use Rattle.mir_syntax.specs.declared.body.Function.{Function}
 abbrev pub None_before : List Function → List ℕ → ℕ → Type 0
 None_before fs path n = (k : ℕ) (g : Function) → k < n → slice_get fs k ≡ Some g → g.path ≡ path → ⊥
 
-at_drop : (fs : List Function) (n : ℕ) (x : Function) (rest : List Function) → drop n fs ≡ x ∷ rest → slice_get fs n ≡ Some x
+at_drop : {X : Type 0} (xs : List X) (n : ℕ) (x : X) (rest : List X) → drop n xs ≡ x ∷ rest → slice_get xs n ≡ Some x
 at_drop [] zero x rest h = absurd cc
 at_drop [] (suc n) x rest h = absurd cc
 at_drop (y ∷ ys) zero x rest h = let same : y ≡ x = cc in ap Some same
 at_drop (y ∷ ys) (suc n) x rest h = at_drop ys n x rest h
 
-behind_drop : (fs : List Function) (n : ℕ) (x : Function) (rest : List Function) → drop n fs ≡ x ∷ rest → rest ≡ drop (suc n) fs
+behind_drop : {X : Type 0} (xs : List X) (n : ℕ) (x : X) (rest : List X) → drop n xs ≡ x ∷ rest → rest ≡ drop (suc n) xs
 behind_drop [] zero x rest h = absurd cc
 behind_drop [] (suc n) x rest h = absurd cc
 behind_drop (y ∷ ys) zero x rest h = let same : ys ≡ rest = cc in sym same
@@ -27,10 +27,10 @@ none_behind (y ∷ ys) (suc n) h = let rest = none_behind ys n h in omega (arith
 
 -- ---- what the loop finds
 
-pub found_there : (fs left rest : List Function) (n : ℕ) (x : Function) → left ≡ drop n fs → left ≡ x ∷ rest → slice_get fs n ≡ Some x
+pub found_there : {X : Type 0} (fs left rest : List X) (n : ℕ) (x : X) → left ≡ drop n fs → left ≡ x ∷ rest → slice_get fs n ≡ Some x
 found_there fs left rest n x h e = at_drop fs n x rest (sym h ∙ e)
 
-pub on_behind : (fs left rest : List Function) (n : ℕ) (x : Function) → left ≡ drop n fs → left ≡ x ∷ rest → rest ≡ drop (n + 1) fs
+pub on_behind : {X : Type 0} (fs left rest : List X) (n : ℕ) (x : X) → left ≡ drop n fs → left ≡ x ∷ rest → rest ≡ drop (n + 1) fs
 on_behind fs left rest n x h e = behind_drop fs n x rest (sym h ∙ e) ∙ ap (λ m. drop m fs) (sym (add-one n))
 
 -- one more is not the one

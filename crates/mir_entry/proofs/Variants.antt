@@ -1,6 +1,6 @@
 -- Variants by their places, and what is read of them.
-use Rattle.std.proofs.Common.{◌≡◌, ◌∙◌, refl, sym, ap, ℕ, zero, suc, ◌-◌, true, false, List, [], ◌∷◌, ◌++◌, map, slice_get, length, Some, None, arith, rules, subst, IsTrue, ◌<◌, ℤ}
-use Rattle.std.proofs.lemmas.List.{map-append}
+use Rattle.std.proofs.Common.{◌≡◌, ◌∙◌, refl, sym, ap, ℕ, zero, suc, ◌+◌, ◌-◌, true, false, List, [], ◌∷◌, ◌++◌, map, take, drop, append_assoc, slice_get, length, Some, None, arith, rules, subst, IsTrue, ◌<◌, ℤ}
+use Rattle.std.proofs.lemmas.List.{map-append, take-append-drop}
 use Rattle.mir_syntax.specs.Table.{all_below}
 use Rattle.mir_syntax.specs.declared.types.TyId.{TyId}
 use Rattle.mir_syntax.specs.declared.types.Field.{Field}
@@ -17,7 +17,9 @@ use Rattle.mir_syntax.proofs.Places.{shape-at, shape-past}
 use Rattle.mir_semantics.specs.Values.{Value, cons, listed}
 use Rattle.mir_meaning.specs.Programs.{shapes_in}
 use Rattle.mir_meaning.proofs.Blanks.{depth_enough}
+use Rattle.mir_meaning.proofs.Walks.{take_at}
 use Rattle.mir_entry.specs.Readings.{Reading, read_by, read_of, read_def, read_variant, reading, behind, in_front, small_natural, numbered, with_number, variant_named}
+use Rattle.mir_entry.proofs.Finding.{found_there}
 
 pub variants_at : (trees : List Tree) (variants : List Variant) (k : ℕ)
     → slice_get (map fields_tuple (map (variant_of trees) variants)) k ≡ option_map (λ v. fields_tree trees v.fields) (slice_get variants k)
@@ -124,6 +126,15 @@ pub ids_stopped : (f : ℕ → List ℤ → Reading) (trees : List Tree) (ids ot
     → ids ≡ x ∷ others → None ≡ read_by f (at_id trees x) is → behind (map value_of values) (read_by f (at_ids trees ids) is) ≡ whole → None ≡ whole
 ids_stopped f trees ids others x values is whole e h kept =
     sym (read_stop f (at_id trees x) (at_ids trees others) (map value_of values) is (sym h)) ∙ ap (λ xs. behind (map value_of values) (read_by f (at_ids trees xs) is)) (sym e) ∙ kept
+
+-- the types that were read, and those that are left
+pub ids_read : (ids left others tail : List TyId) (n : ℕ) (x : TyId) → left ≡ drop n ids → left ≡ x ∷ others → take n ids ++ x ∷ tail ≡ take (n + 1) ids ++ tail
+ids_read ids left others tail n x h e =
+    let one = take_at ids n x (sym (found_there ids left others n x h e)) in
+    sym (ap (λ xs. xs ++ tail) one ∙ append_assoc (take n ids) (x ∷ []) tail)
+
+pub ids_whole : (ids left : List TyId) (n : ℕ) → left ≡ drop n ids → take n ids ++ left ≡ ids
+ids_whole ids left n h = ap (λ xs. take n ids ++ xs) h ∙ take-append-drop n ids
 
 pub below_rest : (n : ℕ) (ids others : List TyId) (x : TyId) → ids ≡ x ∷ others → IsTrue (all_below n ids) → IsTrue (all_below n others)
 below_rest n ids others x e h =

@@ -1,3 +1,4 @@
 pub mod Entering
+pub mod Misfits
 pub mod Pushed
 pub mod Readings

@@ -1,7 +1,9 @@
 -- Values that are read from their flat form. No public promise rests on these: those of `mir_semantics` speak of the flat form.
-use Rattle.std.specs.Prelude.{ℕ, zero, suc, ◌^◌, nat_lt, if◌then◌else◌, List, [], ◌∷◌, map, length, Option, Some, None, slice_get, ℤ, pos, negsuc}
+use Rattle.std.specs.Prelude.{◌≡◌, ⊤, take, ℕ, zero, suc, ◌^◌, nat_lt, if◌then◌else◌, List, [], ◌∷◌, map, length, Option, Some, None, slice_get, ℤ, pos, negsuc}
 use Rattle.mir_syntax.specs.declared.number.Number.{Number}
-use Rattle.mir_syntax.specs.Tree.{Tree, scalar, empty, more, named}
+use Rattle.mir_syntax.specs.declared.types.TyId.{TyId}
+use Rattle.mir_syntax.specs.declared.program.Program.{Program}
+use Rattle.mir_syntax.specs.Tree.{Tree, scalar, empty, more, named, at_id, at_ids, trees_of}
 use Rattle.mir_syntax.specs.Shapes.{Shape, ◌>>=◌, struct_fields}
 use Rattle.mir_num.specs.Numbers.{exactly}
 use Rattle.mir_semantics.specs.Values.{Value, number, nil, cons, variant}
@@ -9,6 +11,8 @@ use Rattle.mir_machine.specs.Ends.{integer_in}
 use Rattle.mir_syntax.specs.declared.types.ScalarTy.{ScalarTy}
 use Rattle.mir_entry.specs.declared.reads.Arguments.{Arguments}
 use Rattle.mir_entry.specs.declared.reads.Arguments.TheVariants.{Fit, Stop}
+use Rattle.mir_meaning.specs.declared.datum.Datum.{Datum}
+use Rattle.mir_meaning.specs.Programs.{shapes_in}
 use Rattle.mir_meaning.specs.Views.{fields_of}
 
 -- a value, and the integers behind its flat form
@@ -92,3 +96,17 @@ behind vs (Some x) = Some (in_front vs x.0, x.1)
 abbrev pub arguments_in : Arguments → Reading
 arguments_in (Fit values rest) = Some (fields_of values, integers_of rest.now)
 arguments_in (Stop place) = None
+
+-- values of the first k types are read, and none of the next
+pub record StopsAt (p : Program) (ids : List TyId) (is : List ℤ) (k : ℕ) : Type 0 where
+  pub next : TyId
+  pub values : List Datum
+  pub rest : List ℤ
+  pub there : slice_get ids k ≡ Some next
+  pub before : reading (shapes_in p) (at_ids (trees_of p.types) (take k ids)) is ≡ Some (fields_of values, rest)
+  pub none : reading (shapes_in p) (at_id (trees_of p.types) next) rest ≡ None
+
+-- where reading stopped
+abbrev pub StopsWhere : Program → List TyId → List ℤ → Arguments → Type 0
+StopsWhere p ids is (Fit values rest) = ⊤
+StopsWhere p ids is (Stop place) = StopsAt p ids is place

@@ -9,7 +9,8 @@ ghost use Rattle.mir_machine.specs.Seen.{code_in};
 ghost use Rattle.mir_machine.specs.Runs.{entry_in};
 ghost use Rattle.mir_machine.specs.Ends.{integer_in};
 ghost use Rattle.std.specs.List.{list_all};
-ghost use Rattle.mir_entry.specs.Entering.{few_variants, Enters, Refuses};
+ghost use Rattle.mir_entry.specs.Entering.{few_variants, Enters, Refuses, Strays};
+ghost use Rattle.mir_entry.specs.Misfits.{Misfits};
 ghost use Rattle.mir_entry.specs.Readings.{integers_of};
 ghost use Rattle.mir_entry.specs.declared.entries.EntryFault.TheVariants as fault;
 
@@ -87,6 +88,7 @@ fn arguments(
 ) -> Result<List<Datum>, EntryFault>
     ensures enters { IfOk result (λ args. Enters program.now body.now (integers_of flat.now) args) }
     ensures refuses { (k : ℕ) → result ≡ Err (fault.NotFit k) → Refuses program.now body.now (integers_of flat.now) }
+    ensures strays { (k : ℕ) → result ≡ Err (fault.NotFit k) → Strays program.now body.now (integers_of flat.now) k }
 {
     let signature = signature(body);
     if types_refer_any(program, signature) {
@@ -108,8 +110,9 @@ fn arguments(
 ///
 /// # Errors
 ///
-/// `NotFit` where the function's signature holds a reference, or the numbers are the flat form of no arguments of its types. A program
-/// with a definition of more than 2^32 variants is want of memory.
+/// `NotFit` where the function's signature holds a reference, or the numbers are the flat form of no arguments of its types: with the
+/// first argument that they give no value of, or the number of arguments (`Misfits`). A program with a definition of more than 2^32
+/// variants is want of memory.
 pub fn entry(
     alloc: Global,
     program: &Program,
@@ -120,6 +123,7 @@ pub fn entry(
     ensures function { IfOk result (λ call. call.f ≡ f) }
     ensures fits { IfOk result (λ call. (body : TypedBody) → slice_get (code_in program.now).bodies f.0 ≡ Some body → AreFlat (shapes_in program.now) (arg_types body) (map integer_in flat.now) (map value_of call.args)) }
     ensures refused { (k : ℕ) → result ≡ Err (fault.NotFit k) → (body : TypedBody) (e : Entry) → slice_get (code_in program.now).bodies f.0 ≡ Some body → e.function ≡ f.0 → IsEntry (code_in program.now) e → AreFlat (shapes_in program.now) (arg_types body) (map integer_in flat.now) e.args → ⊥ }
+    ensures place { (k : ℕ) → result ≡ Err (fault.NotFit k) → (body : TypedBody) → slice_get (code_in program.now).bodies f.0 ≡ Some body → Misfits (shapes_in program.now) body (map integer_in flat.now) k }
 {
     if !few_variants(program) {
         return Err(EntryFault::OutOfMemory);
@@ -142,7 +146,7 @@ fn has_path(function: &Function, path: &[u8]) -> bool
 
 /// The function with a path; the first where several have it.
 pub fn function_at(program: &Program, path: &[u8]) -> Option<FnId>
-    ensures { MatchOption result ((k : ℕ) (g : spec.Function) → k < 2 ^ 32 → slice_get program.now.functions k ≡ Some g → g.path ≡ path.now → ⊥) (λ f. (g : spec.Function) × (slice_get program.now.functions f.0 ≡ Some g) × (g.path ≡ path.now)) }
+    ensures { MatchOption result ((k : ℕ) (g : spec.Function) → k < 2 ^ 32 → slice_get program.now.functions k ≡ Some g → g.path ≡ path.now → ⊥) (λ f. (g : spec.Function) × (slice_get program.now.functions f.0 ≡ Some g) × (g.path ≡ path.now) × ((k : ℕ) (h : spec.Function) → k < f.0 → slice_get program.now.functions k ≡ Some h → h.path ≡ path.now → ⊥)) }
 {
     let mut left = program.functions.as_slice();
     let mut place = 0;

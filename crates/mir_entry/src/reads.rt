@@ -245,7 +245,8 @@ pub fn read_arguments<'a>(
     numbers: &'a [Number],
 ) -> Result<Arguments<'a>, OutOfMemory>
     requires { length types.now < 2 ^ 32 }
-    ensures { IfOk result (λ found. spec.arguments_in found ≡ spec.reading (shapes_in program.now) (at_ids (trees_of program.now.types) types.now) (integers_of numbers.now)) }
+    ensures read { IfOk result (λ found. spec.arguments_in found ≡ spec.reading (shapes_in program.now) (at_ids (trees_of program.now.types) types.now) (integers_of numbers.now)) }
+    ensures stops { IfOk result (λ found. spec.StopsWhere program.now types.now (integers_of numbers.now) found) }
 {
     let mut values = List::with_capacity(alloc, types.len())?;
     let mut types = types;

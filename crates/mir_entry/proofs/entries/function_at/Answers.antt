@@ -11,7 +11,7 @@ pub returns : goal.returns
 returns c = none_at_all c.args.program.now.functions c.functions.left.now c.args.path.now c.functions.place c.functions.invariant.behind c.in_default.ensures c.functions.invariant.none
 
 pub returns-then-has_path : goal.returns-then-has_path
-returns-then-has_path c = (c.in-Some.function.now, found_there c.args.program.now.functions c.functions.left.now c.in-Some.rest.now c.functions.place c.in-Some.function.now c.functions.invariant.behind c.in-Some.ensures, c.has_path.ensures.0 c.if-has_path.true)
+returns-then-has_path c = (c.in-Some.function.now, found_there c.args.program.now.functions c.functions.left.now c.in-Some.rest.now c.functions.place c.in-Some.function.now c.functions.invariant.behind c.in-Some.ensures, c.has_path.ensures.0 c.if-has_path.true, c.functions.invariant.none)
 
 pub returns-then-place : goal.returns-then-place
 returns-then-place c =
