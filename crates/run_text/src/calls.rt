@@ -1,5 +1,4 @@
 ghost use Rattle.std.specs.Prelude.{◌≡◌, ◌++◌, map, IfOk, OnOk};
-ghost use Rattle.mir_syntax.specs.Tree.{at_id, trees_of};
 ghost use Rattle.mir_meaning.specs.Programs.{type_in};
 ghost use Rattle.mir_machine.specs.Ends.{integer_in, trace_in};
 ghost use Rattle.mir_machine.specs.Seen.{code_in, called_as};
@@ -26,7 +25,12 @@ fn integer_of(program: &Program, ty: TyId, bits: u128) -> Number
 }
 
 /// The integers of a call's arguments.
-fn arguments(alloc: Global, program: &Program, types: &[TyId], bits: &[u128]) -> Result<List<Number>, OutOfMemory>
+fn arguments(
+    alloc: Global,
+    program: &Program,
+    types: &[TyId],
+    bits: &[u128],
+) -> Result<List<Number>, OutOfMemory>
     ensures { IfOk result (λ numbers. map integer_in numbers ≡ spec.arguments (map (type_in program.now) types.now) bits.now) }
 {
     let mut numbers = List::with_capacity(alloc, bits.len())?;
@@ -37,7 +41,12 @@ fn arguments(alloc: Global, program: &Program, types: &[TyId], bits: &[u128]) ->
 }
 
 /// Puts a call's answer at the end; `()` is none.
-fn put_answer(out: &mut List<u8>, program: &Program, ty: TyId, answer: Option<u128>) -> Result<(), OutOfMemory>
+fn put_answer(
+    out: &mut List<u8>,
+    program: &Program,
+    ty: TyId,
+    answer: Option<u128>,
+) -> Result<(), OutOfMemory>
     ensures { OnOk result (out.new ≡ out.old ++ spec.answer_text (type_in program.now ty) answer) }
 {
     match answer {
@@ -47,7 +56,12 @@ fn put_answer(out: &mut List<u8>, program: &Program, ty: TyId, answer: Option<u1
 }
 
 /// Puts the line of a call at the end.
-fn put_call(alloc: Global, out: &mut List<u8>, program: &Program, call: &Called) -> Result<(), OutOfMemory>
+fn put_call(
+    alloc: Global,
+    out: &mut List<u8>,
+    program: &Program,
+    call: &Called,
+) -> Result<(), OutOfMemory>
     ensures { OnOk result (out.new ≡ out.old ++ spec.call_text (code_in program.now) (called_as call.now)) }
 {
     let Some(outside) = program.outsides.get(call.out.0 as usize) else {
@@ -56,7 +70,12 @@ fn put_call(alloc: Global, out: &mut List<u8>, program: &Program, call: &Called)
     put(out, b"call ")?;
     put(out, outside.path.as_slice())?;
     put(out, b"(")?;
-    let numbers = arguments(alloc, program, outside.args.as_slice(), call.args.as_slice())?;
+    let numbers = arguments(
+        alloc,
+        program,
+        outside.args.as_slice(),
+        call.args.as_slice(),
+    )?;
     put_integers(out, numbers.as_slice())?;
     put(out, b") = ")?;
     put_answer(out, program, outside.result, call.answer)?;
@@ -65,7 +84,12 @@ fn put_call(alloc: Global, out: &mut List<u8>, program: &Program, call: &Called)
 }
 
 /// Puts the lines of calls at the end, of which the oldest comes first.
-pub fn put_calls(alloc: Global, out: &mut List<u8>, program: &Program, calls: &[Called]) -> Result<(), OutOfMemory>
+pub fn put_calls(
+    alloc: Global,
+    out: &mut List<u8>,
+    program: &Program,
+    calls: &[Called],
+) -> Result<(), OutOfMemory>
     ensures { OnOk result (out.new ≡ out.old ++ spec.calls_text (code_in program.now) (trace_in calls.now)) }
 {
     for call in calls {
