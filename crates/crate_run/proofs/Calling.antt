@@ -64,14 +64,20 @@ few_functions C within =
 -- ---- paths
 
 pub none_has_path : (p : Program) (path : List ℕ) → Within (crate_of p) → ((k : ℕ) (g : Function) → k < 2 ^ 32 → slice_get p.functions k ≡ Some g → g.path ≡ path → ⊥) → HasNoFunction (crate_of p) path
-none_has_path p path within none k f at =
-    let from = function_from p k f at.there in
+none_has_path p path within none k f there named =
+    let from = function_from p k f there in
     let small = few_functions (crate_of p) within in
-    let below = slice_get_within (crate_of p).functions k f at.there in
-    none k from.0 (omega (arith, small, below)) from.1 (ap (λ (h : TypedFunction). h.path) from.2 ∙ at.named)
+    let below = slice_get_within (crate_of p).functions k f there in
+    none k from.0 (omega (arith, small, below)) from.1 (ap (λ (h : TypedFunction). h.path) from.2 ∙ named)
 
-pub has_path : (p : Program) (path : List ℕ) (k : ℕ) (g : Function) → slice_get p.functions k ≡ Some g → g.path ≡ path → IsAt (crate_of p) path k (function_of (trees_of p.types) g)
-has_path p path k g e named = record { there = function_there p k g e; named = named }
+pub has_path : (p : Program) (path : List ℕ) (k : ℕ) (g : Function) → slice_get p.functions k ≡ Some g → g.path ≡ path → ((j : ℕ) (h : Function) → j < k → slice_get p.functions j ≡ Some h → h.path ≡ path → ⊥)
+    → IsAt (crate_of p) path k (function_of (trees_of p.types) g)
+has_path p path k g e named first =
+    record {
+      there = function_there p k g e;
+      named = named;
+      first = λ j f below there same. let from = function_from p j f there in first j from.0 below from.1 (ap (λ (h : TypedFunction). h.path) from.2 ∙ same);
+    }
 
 -- the type of `_0` as the crate has it
 pub result_typed : (p : Program) (g : Function) (ty : TyId) → slice_get g.body.locals 0 ≡ Some ty → slice_get (function_of (trees_of p.types) g).body.locals 0 ≡ Some (type_in p ty)

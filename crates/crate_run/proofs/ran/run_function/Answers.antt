@@ -19,7 +19,7 @@ returns-in_err-call-clause-no_entry c = λ is.
     record {
       k = c.in-Some.f.0;
       f = f;
-      at = has_path p c.args.path.now c.in-Some.f.0 at.0 at.1 at.2;
+      at = has_path p c.args.path.now c.in-Some.f.0 at.0 at.1 at.2 at.3;
       none = c.call_of.ensures.none f (function_there p c.in-Some.f.0 at.0 at.1) (fault_on c.call_of.result c.from_residual.result c.in_err-call.field-0.0 _ c.in_err-call.was c.from_residual.ensures.1 is);
     }
 
@@ -37,7 +37,7 @@ returns-clause-text c =
     record {
       k = c.in-Some.f.0;
       f = f;
-      at = has_path p c.args.path.now c.in-Some.f.0 at.0 at.1 at.2;
+      at = has_path p c.args.path.now c.in-Some.f.0 at.0 at.1 at.2 at.3;
       e = entry_in c.in_ok-call.call;
       call = c.in_ok-call.ensures.call f (function_there p c.in-Some.f.0 at.0 at.1);
       result = type_in p ty;
