@@ -1,5 +1,5 @@
 -- What is told, from what was read and written.
-use Rattle.std.proofs.Common.{◌≡◌, ℕ, List, [], Option, Some, None, Result, Ok, Err, inl, inr, refl, sym, subst}
+use Rattle.std.proofs.Common.{◌≡◌, ◌∙◌, ℕ, List, [], ◌∷◌, codes, Option, Some, None, Result, Ok, Err, inl, inr, refl, sym, subst}
 use Rattle.std.proofs.lemmas.List.{append-nil}
 use Rattle.std.specs.Prelude.{IfErr, IsErrAnd}
 use Rattle.std.specs.Io.KnownBytes.{Appends}
@@ -32,6 +32,12 @@ answers_done words input bytes command says writes = inl (command, says, inl (by
 
 pub answers_refused : (words : List (List ℕ)) (input : List ℕ) (command : Command) (fault : InputFault) → Says words command → Refuses command input fault → Answers words input (refused fault)
 answers_refused words input command fault says refuses = inl (command, says, inr (fault, refuses, refl))
+
+-- words that say `seq` say nothing else
+pub says_seq : (words : List (List ℕ)) (command : Command) → Says words Seq → Says words command → command ≡ Seq
+says_seq words Check seq other = let wrong : codes "seq" ∷ [] ≡ codes "check" ∷ [] = sym seq ∙ other in absurd cc
+says_seq words Seq seq other = refl
+says_seq words (Run name args answers count) seq (rest, e, run) = let wrong : codes "seq" ∷ [] ≡ codes "run" ∷ rest = sym seq ∙ e in absurd cc
 
 -- what the passes make of an accepted crate refines it
 pub optimised : (input : List ℕ) (C D : Crate) (lines : Lines) → IsAccepted input C lines → first_drop lines C ≡ None → IsPassed C D → IsOptimised input (text D)

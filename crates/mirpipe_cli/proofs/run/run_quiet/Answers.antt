@@ -4,8 +4,7 @@ use Rattle.std.specs.Io.KnownBytes.{Appends}
 use Rattle.mirpipe_cli.specs.Refused.{OfInput}
 use Rattle.mirpipe_cli.specs.Answer.{done, refused, word_fault, Refuses}
 use Rattle.mirpipe_cli.specs.Output.{bytes_of}
-use Rattle.mirpipe_cli.proofs.Asking.{says_fits, says_seq}
-use Rattle.mirpipe_cli.proofs.Answering.{appends_none, answers_word, answers_done, answers_refused}
+use Rattle.mirpipe_cli.proofs.Answering.{appends_none, answers_word, answers_done, answers_refused, says_seq}
 use Rattle.mirpipe_cli.proofs.run.run_quiet.Goals as goal
 
 pub returns-in-Bad-clause-told : goal.returns-in-Bad-clause-told
