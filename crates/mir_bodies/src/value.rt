@@ -82,7 +82,7 @@ pub fn value_of(text: &ValueText) -> Const
     ensures { result ≡ value_named (value_rule text.now) }
 {
     match text {
-        ValueText::Number(negative, size, ty) => Const::Int(*ty, bits_of(*negative, *size, *ty)),
+        ValueText::Number(negative, ty, size) => Const::Int(*ty, bits_of(*negative, *size, *ty)),
         ValueText::Bool(is) => Const::Bool(*is),
         ValueText::Unit => Const::Unit,
         ValueText::Least(ty) => Const::Int(*ty, least(*ty)),

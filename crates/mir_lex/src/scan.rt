@@ -44,6 +44,7 @@ fn begins_name(bytes: &[u8]) -> bool
 }
 
 /// What begins with `_`: a local or a name.
+#[inline(always)]
 #[tactic(auto, unfolding(crate::specs::Tokens::underscore_at))]
 fn read_underscore<'a>(bytes: &'a [u8], past: &'a [u8]) -> Result<(Kind, &'a [u8]), u8>
     requires { bytes.now ≡ 95 ∷ past.now }
@@ -61,6 +62,7 @@ fn read_underscore<'a>(bytes: &'a [u8], past: &'a [u8]) -> Result<(Kind, &'a [u8
 }
 
 /// The token that begins with a byte.
+#[inline(always)]
 #[tactic(auto, unfolding(crate::specs::Tokens::token_at))]
 fn read_token<'a>(bytes: &'a [u8], first: u8, past: &'a [u8]) -> Result<(Kind, &'a [u8]), u8>
     requires { bytes.now ≡ first ∷ past.now }
@@ -106,25 +108,25 @@ fn read_slash(past: &[u8]) -> Result<(Found, &[u8]), u8>
 }
 
 /// What stands at the front of a text that begins with a byte, and what follows it.
+#[inline(always)]
 #[tactic(auto, unfolding(crate::specs::Tokens::found_at))]
 pub fn read_found<'a>(bytes: &'a [u8], first: u8, past: &'a [u8]) -> Result<(Found, &'a [u8]), u8>
     requires { bytes.now ≡ first ∷ past.now }
     ensures read { Seen (λ f. (f.0, f.1.now)) result (spec.found_at first past.now) }
     ensures shorter { IfOk result (λ f. length f.1.now < length bytes.now) }
 {
-    if first == b' ' || first == b'\t' || first == b'\r' {
-        Ok((Found::Blank, past))
-    } else if first == b'\n' {
-        Ok((Found::Line, past))
-    } else if first == b'/' {
-        let (found, rest) = read_slash(past)?;
-        Ok((found, rest))
-    } else {
-        let (kind, rest) = read_token(bytes, first, past)?;
-        Ok((Found::Token(kind), rest))
+    match first {
+        b' ' | b'\t' | b'\r' => Ok((Found::Blank, past)),
+        b'\n' => Ok((Found::Line, past)),
+        b'/' => read_slash(past),
+        _ => {
+            let (kind, rest) = read_token(bytes, first, past)?;
+            Ok((Found::Token(kind), rest))
+        }
     }
 }
 
+#[inline(always)]
 fn first_found(bytes: &[u8]) -> Result<(Found, &[u8]), u8>
     requires { 0 < length bytes.now }
     ensures read { Seen (λ f. (f.0, f.1.now)) result (spec.found_from bytes.now) }
@@ -141,6 +143,7 @@ fn first_found(bytes: &[u8]) -> Result<(Found, &[u8]), u8>
 /// # Errors
 ///
 /// The code of the fault, where no piece stands there: 1, 2 or 3, as in `LexFault`.
+#[inline(always)]
 #[tactic(auto, using(crate::proofs::PiecesSound::front_sound, crate::proofs::PiecesSound::front_fault))]
 pub fn first_piece(bytes: &[u8]) -> Result<(Found, &[u8]), u8>
     requires { 0 < length bytes.now }

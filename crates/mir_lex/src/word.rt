@@ -115,7 +115,7 @@ fn place(mut table: &[&[u8]], from: u8, text: &[u8]) -> Option<u8>
 {
     let mut k = from;
     while let [word, rest @ ..] = table {
-        if *word == text {
+        if word.first() == text.first() && *word == text {
             return Some(k);
         }
         k += 1;
@@ -168,6 +168,7 @@ fn numbered_block(digits: &[u8]) -> Kind
 }
 
 /// What letters, digits and `_` are together.
+#[inline(always)]
 #[tactic(auto, unfolding(crate::specs::Tokens::kind_of))]
 fn kind_of(text: &[u8]) -> Kind
     ensures { result ≡ spec.kind_of text.now }
@@ -191,6 +192,7 @@ fn name_len(bytes: &[u8]) -> usize
 }
 
 /// The letters, digits and `_` at the front.
+#[inline(always)]
 #[tactic(auto, unfolding(crate::specs::Tokens::word_at))]
 pub fn read_word(bytes: &[u8]) -> (Kind, &[u8])
     requires { text.begins text.is_name_byte bytes.now ≡ true }

@@ -28,6 +28,7 @@ impl<'p> Here<'p> {
     }
 
     /// The spot of a place, if it is there.
+    #[inline(always)]
     pub fn resolve<'m, 'q>(self, memory: &'m Memory, place: &'q Place) -> Option<Spot<'m, 'q>>
         requires { IsTrue (path_formed place.now.proj) }
         ensures place { MatchOption result
@@ -40,6 +41,7 @@ impl<'p> Here<'p> {
     }
 
     /// The spot of a place and what stands there, if anything does.
+    #[inline(always)]
     pub fn find<'m, 'q>(
         self,
         memory: &'m Memory,

@@ -64,6 +64,7 @@ fn pointed<'m, 'p>(pointer: &'m Pointer, target: Part<'m>) -> Spot<'m, 'p>
     }
 }
 
+#[inline(always)]
 fn step_at(path: &[Proj], at: usize) -> Option<Proj>
     ensures found { result ≡ slice_get path.now at }
     ensures within { OnSome result (at < length path.now) }
@@ -72,6 +73,7 @@ fn step_at(path: &[Proj], at: usize) -> Option<Proj>
 }
 
 impl Memory {
+    #[inline(always)]
     fn start<'m, 'p>(&'m self, frame: u64, local: u32) -> Spot<'m, 'p>
         ensures addr { spot_of result ≡ local_addr frame local }
         ensures part { IsSpot (memory_of self.now) result }
@@ -109,6 +111,7 @@ impl Memory {
     }
 
     /// The spot of a place of a frame, resolved from left to right. Nothing is copied.
+    #[inline(always)]
     pub fn resolve<'m, 'p>(&'m self, frame: u64, place: &'p Place) -> Option<Spot<'m, 'p>>
         ensures gone { result ≡ None → along (memory_of self.now) (local_addr frame place.now.local) place.now.proj ≡ None }
         ensures there { IfSome result (λ spot. along (memory_of self.now) (local_addr frame place.now.local) place.now.proj ≡ Some (spot_of spot)) }

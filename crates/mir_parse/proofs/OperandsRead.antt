@@ -27,7 +27,7 @@ use Rattle.mir_parse.proofs.Laws.{in_steps, ok_same, on, IsRead, ItemLaws, items
 -- ---- the trees
 
 abbrev pub value_text : ValueRule → ValueText
-value_text (number negative n t) = v.Number negative n t
+value_text (number negative n t) = v.Number negative t n
 value_text (boolean x) = v.Bool x
 value_text unit = v.Unit
 value_text (least t) = v.Least t
@@ -88,11 +88,11 @@ value-complete (least t) rest h = refl
 value-complete (most t) rest h = refl
 
 pub number-sound : {R : Type 0} (negative : Bool) (ts : List Symbol) (x : ValueText) (rest : List Symbol) → number_at negative ts ≡ Ok (x, rest)
-    → ((n : ℕ) (t : IntTy) → v.Number negative n t ≡ x → ts ≡ s.Typed n t ∷ rest → fits negative n t ≡ true → R) → R
+    → ((n : ℕ) (t : IntTy) → v.Number negative t n ≡ x → ts ≡ s.Typed t n ∷ rest → fits negative n t ≡ true → R) → R
 unfolding number_at
 number-sound negative [] x rest h k = absurd cc
-number-sound negative (s.Typed n t ∷ ts) x rest h k = on (fits negative n t)
-    (λ e. let same = ok_same _ _ (rw e at h) in k n t (ap (λ q. q.0) same) (ap (λ q. s.Typed n t ∷ q.1) same) e)
+number-sound negative (s.Typed t n ∷ ts) x rest h k = on (fits negative n t)
+    (λ e. let same = ok_same _ _ (rw e at h) in k n t (ap (λ q. q.0) same) (ap (λ q. s.Typed t n ∷ q.1) same) e)
     (λ e. let h1 = rw e at h in absurd cc)
 number-sound negative (y ∷ ts) x rest h k = absurd cc
 
@@ -115,7 +115,7 @@ number-first ts x rest h =
     in_steps _ _ (x, rest) h (λ y past found same_h.
     let same = ok_same _ _ same_h in
     number-sound false ts y past found (λ n t is yields fit.
-    record { rule = number false n t; reads = is ∙ ap (λ q. q.0) same; yields = yields ∙ ap (λ q. s.Typed n t ∷ q.1) same; good = fit }))
+    record { rule = number false n t; reads = is ∙ ap (λ q. q.0) same; yields = yields ∙ ap (λ q. s.Typed t n ∷ q.1) same; good = fit }))
 
 pub value-sound : (ts : List Symbol) (x : ValueText) (rest : List Symbol) → value ts ≡ Ok (x, rest) → IsValue ts x rest
 unfolding value bound_end
@@ -124,7 +124,7 @@ value-sound (s.Minus ∷ ts) x rest h =
     in_steps _ _ (x, rest) h (λ y past found same_h.
     let same = ok_same _ _ same_h in
     number-sound true ts y past found (λ n t is yields fit.
-    record { rule = number true n t; reads = is ∙ ap (λ q. q.0) same; yields = ap (λ l. s.Minus ∷ l) (yields ∙ ap (λ q. s.Typed n t ∷ q.1) same); good = fit }))
+    record { rule = number true n t; reads = is ∙ ap (λ q. q.0) same; yields = ap (λ l. s.Minus ∷ l) (yields ∙ ap (λ q. s.Typed t n ∷ q.1) same); good = fit }))
 value-sound (s.True ∷ ts) x rest h = let same = ok_same _ _ h in record { rule = boolean true; reads = ap (λ q. q.0) same; yields = ap (λ q. s.True ∷ q.1) same; good = tt }
 value-sound (s.False ∷ ts) x rest h = let same = ok_same _ _ h in record { rule = boolean false; reads = ap (λ q. q.0) same; yields = ap (λ q. s.False ∷ q.1) same; good = tt }
 value-sound (s.Open ∷ ts) x rest h =

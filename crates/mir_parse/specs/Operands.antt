@@ -17,7 +17,7 @@ use Rattle.mir_parse.specs.Places.{place_at}
 
 -- a number with its type, behind a minus or not
 unfoldable pub number : Bool → Parse ValueText
-number minus (s.Typed n t ∷ ts) = if fits minus n t then Ok (v.Number minus n t, ts) else Err (fault_at 8 (s.Typed n t ∷ ts))
+number minus (s.Typed t n ∷ ts) = if fits minus n t then Ok (v.Number minus t n, ts) else Err (fault_at 8 (s.Typed t n ∷ ts))
 number minus (s.Number n ∷ ts) = Err (fault_at 8 (s.Number n ∷ ts))
 number minus ts = Err (no_reading ts)
 

@@ -57,9 +57,9 @@ fn read_number(negative: bool, symbols: &[Symbol]) -> Result<(ValueText, &[Symbo
     ensures shorter { IfOk result (λ f. length f.1.now < length symbols.now) }
 {
     match symbols {
-        [Symbol::Typed(number, ty), rest @ ..] => {
+        [Symbol::Typed(ty, number), rest @ ..] => {
             if fits(negative, *number, *ty) {
-                Ok((ValueText::Number(negative, *number, *ty), rest))
+                Ok((ValueText::Number(negative, *ty, *number), rest))
             } else {
                 refuse_with(8, symbols)
             }

@@ -269,7 +269,7 @@ module _ (name label x : ℕ) (a : RvalueRule) (others : List StmtRule) (term : 
   spans-open = open-at (length (rvalue_put a (s.Semicolon ∷ []))) _ (long [])
 
 abbrev at : Symbol
-at = s.Typed 256 i.U8
+at = s.Typed i.U8 256
 
 in-statement : (file : FileRule) (more : List Symbol) → file_put file [] ≡ before ++ more → (begins_part (spans_of file) 14 ≡ false) × (is_open (spans_of file) 11 14 ≡ true)
 in-statement file more e =
@@ -316,7 +316,7 @@ the-statement = ((λ reading. (in-reading reading).1), λ start holds. starts-be
 -- ---- what stands before isn't refused
 
 abbrev good_symbols : List Symbol
-good_symbols = before ++ s.Typed 0 i.U8 ∷ end_of_file
+good_symbols = before ++ s.Typed i.U8 0 ∷ end_of_file
 
 goes : (xs : List Symbol) (x : Symbol) (ys : List Symbol) → good_symbols ≡ (xs ++ x ∷ []) ++ ys → GoesOn xs x
 unfolding file_with
@@ -327,7 +327,7 @@ unfolding file_with
 good-file u small = ((tt, small, (omega arith, tt), (((((omega arith, tt), refl), tt), tt), tt)), tt)
 
 abbrev behind_bool : List Symbol
-behind_bool = s.OpenBrace ∷ s.Block 0 ∷ s.Colon ∷ s.OpenBrace ∷ s.Local 0 ∷ s.Equals ∷ s.Const ∷ s.Typed 0 i.U8 ∷ end_of_file
+behind_bool = s.OpenBrace ∷ s.Block 0 ∷ s.Colon ∷ s.OpenBrace ∷ s.Local 0 ∷ s.Equals ∷ s.Const ∷ s.Typed i.U8 0 ∷ end_of_file
 
 puts-bool : (x : Symbol) → x ≡ s.Bool → file_put (file_with t.bool 0) [] ≡ head ++ x ∷ behind_bool
 unfolding file_with
@@ -352,10 +352,10 @@ result-opens h = go h.opens
 
 local-opens : TooDeep (head ++ s.Open ∷ s.Close ∷ s.OpenBrace ∷ s.Block 0 ∷ s.Colon ∷ s.OpenBrace ∷ []) (s.Local 0) → ⊥
 unfolding file_with
-local-opens h = h.none_good (file_with t.unit 0) (s.Equals ∷ s.Const ∷ s.Typed 0 i.U8 ∷ end_of_file) (good-file t.unit (omega arith)) (puts-local h.least h.opens.0)
+local-opens h = h.none_good (file_with t.unit 0) (s.Equals ∷ s.Const ∷ s.Typed i.U8 0 ∷ end_of_file) (good-file t.unit (omega arith)) (puts-local h.least h.opens.0)
   where
     puts-local : (x : Symbol) → x ≡ s.Local 0
-        → file_put (file_with t.unit 0) [] ≡ (head ++ s.Open ∷ s.Close ∷ s.OpenBrace ∷ s.Block 0 ∷ s.Colon ∷ s.OpenBrace ∷ []) ++ x ∷ s.Equals ∷ s.Const ∷ s.Typed 0 i.U8 ∷ end_of_file
+        → file_put (file_with t.unit 0) [] ≡ (head ++ s.Open ∷ s.Close ∷ s.OpenBrace ∷ s.Block 0 ∷ s.Colon ∷ s.OpenBrace ∷ []) ++ x ∷ s.Equals ∷ s.Const ∷ s.Typed i.U8 0 ∷ end_of_file
     puts-local x is = rw is refl
 
 front-stands : AllStand [] before
@@ -412,7 +412,7 @@ viable-here = record { file = file_with t.unit 256; more = end_of_file; derives 
 below-eight : (code : ℕ) → code < 8 → Breaks before at code → ⊥
 below-eight code small (inl (e, h)) = h.1 (inl viable-here)
 below-eight code small (inr (inl (e, h))) = h.opens
-below-eight code small (inr (inr (inl (e, h)))) = let z : s.Typed 256 i.U8 ≡ s.LeftOut = h.0 in absurd cc
+below-eight code small (inr (inr (inl (e, h)))) = let z : s.Typed i.U8 256 ≡ s.LeftOut = h.0 in absurd cc
 below-eight code small (inr (inr (inr (inl (e, h))))) = omega arith
 below-eight code small (inr (inr (inr (inr (e, h))))) = omega arith
 

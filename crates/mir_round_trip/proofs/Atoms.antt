@@ -135,7 +135,7 @@ suffix-text i.U128 = refl
 suffix-text i.Usize = refl
 
 pub typed_spelt : (negative : Bool) (n : ℕ) (t : IntTy) → n < 2 ^ 128
-    → Spelt (minus_text negative ++ (decimal n ++ (codes "_" ++ int_name t))) (λ strings rest. minus_put negative (s.Typed n t ∷ rest)) []
+    → Spelt (minus_text negative ++ (decimal n ++ (codes "_" ++ int_name t))) (λ strings rest. minus_put negative (s.Typed t n ∷ rest)) []
 unfolding minus_text piece
 typed_spelt true n t small =
     let d = digits_of n small in
@@ -145,7 +145,7 @@ typed_spelt true n t small =
       pieces = mark minus ∷ p ∷ [];
       whole = ap (λ l. 45 ∷ l) (append-nil (d.first ∷ d.others ++ suffix_text t) ∙ ap (λ l. (d.first ∷ d.others) ++ l) (suffix-text t) ∙ ap (λ l. l ++ 95 ∷ int_name t) d.whole);
       stands = λ left clear. (tt, subst (Ends (mark minus)) (sym (append_assoc (spelled p) [] left)) (apart-ends (mark minus) p left refl (d.are, below)), ((d.are, below), tt, tt));
-      known = λ strings ground rest. ap (λ k. s.Minus ∷ s.Typed k t ∷ known_symbols strings rest) d.value;
+      known = λ strings ground rest. ap (λ k. s.Minus ∷ s.Typed t k ∷ known_symbols strings rest) d.value;
       holds = tt;
     }
 typed_spelt false n t small =
@@ -155,7 +155,7 @@ typed_spelt false n t small =
       pieces = typed d.first d.others t ∷ [];
       whole = append-nil (d.first ∷ d.others ++ suffix_text t) ∙ ap (λ l. (d.first ∷ d.others) ++ l) (suffix-text t) ∙ ap (λ l. l ++ 95 ∷ int_name t) d.whole;
       stands = λ left clear. ((d.are, below), tt, tt);
-      known = λ strings ground rest. ap (λ k. s.Typed k t ∷ known_symbols strings rest) d.value;
+      known = λ strings ground rest. ap (λ k. s.Typed t k ∷ known_symbols strings rest) d.value;
       holds = tt;
     }
 

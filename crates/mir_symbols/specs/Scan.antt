@@ -30,7 +30,7 @@ unfoldable pub plain_symbol : Kind → List ℕ → Symbol
 plain_symbol (k.Local n) bs = s.Local n
 plain_symbol (k.Block n) bs = s.Block n
 plain_symbol (k.Number n None) bs = s.Number n
-plain_symbol (k.Number n (Some t)) bs = s.Typed n t
+plain_symbol (k.Number n (Some t)) bs = s.Typed t n
 plain_symbol (k.Word place) bs = word_symbol place
 plain_symbol (k.Sign place) bs = sign_symbol place
 plain_symbol kind bs = large_symbol bs

@@ -137,6 +137,7 @@ fn large_symbol(text: &[u8]) -> Symbol
 }
 
 /// The symbol of a token that is no name and no string.
+#[inline(always)]
 #[tactic(auto, unfolding(crate::specs::Scan::plain_symbol))]
 pub fn plain_symbol(kind: Kind, text: &[u8]) -> Symbol
     ensures { result ≡ spec.plain_symbol kind text.now }
@@ -145,7 +146,7 @@ pub fn plain_symbol(kind: Kind, text: &[u8]) -> Symbol
         Kind::Local(number) => Symbol::Local(number),
         Kind::Block(number) => Symbol::Block(number),
         Kind::Number(number, None) => Symbol::Number(number),
-        Kind::Number(number, Some(ty)) => Symbol::Typed(number, ty),
+        Kind::Number(number, Some(ty)) => Symbol::Typed(ty, number),
         Kind::Word(place) => word_symbol(place),
         Kind::Sign(place) => sign_symbol(place),
         _ => large_symbol(text),

@@ -45,6 +45,7 @@ impl Symbols {
         Ok(())
     }
 
+    #[inline(always)]
     fn add(&mut self, kind: Kind, text: &[u8]) -> Result<(), OutOfMemory>
         requires { length self.old.strings < 2 ^ 32 - 1 }
         ensures added { OnOk result (self.new ≡ spec.with_token self.old (spec.kind_token kind text.now)) }
@@ -64,6 +65,7 @@ impl Symbols {
     }
 
     /// Takes a piece with its bytes.
+    #[inline(always)]
     fn take(&mut self, found: Found, text: &[u8]) -> Result<(), OutOfMemory>
         requires strings { length self.old.strings < 2 ^ 32 - 1 }
         requires lines { self.old.end_line < 2 ^ 32 - 1 }

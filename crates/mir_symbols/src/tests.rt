@@ -9,7 +9,7 @@ fn an_assignment(rt: HostRuntime) -> Result<(), OutOfMemory> {
     assert_eq!(rt; found.symbols.len(), 9);
     assert!(rt; found.symbols.get(0) == Some(&Symbol::Local(1)));
     assert!(rt; found.symbols.get(2) == Some(&Symbol::Name(8)));
-    assert!(rt; found.symbols.get(4) == Some(&Symbol::Typed(5, IntTy::U8)));
+    assert!(rt; found.symbols.get(4) == Some(&Symbol::Typed(IntTy::U8, 5)));
     assert!(rt; found.symbols.get(6) == Some(&Symbol::Text(8)));
     assert!(rt; found.lines.get(8) == Some(&2));
     assert!(rt; found.strings.get(8) == Some(b"a".as_slice()));

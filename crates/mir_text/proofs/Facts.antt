@@ -14,7 +14,7 @@ assignment = local 49 [] ∷ blank 32 ∷ mark equals ∷ blank 32 ∷ typed 53 
 assignment-text : text_of assignment ≡ codes "_1 = 5_u8;\n_2"
 assignment-text = refl
 
-assignment-symbols : lined_symbols assignment ≡ (s.Local 1, 1) ∷ (s.Equals, 1) ∷ (s.Typed 5 i.U8, 1) ∷ (s.Semicolon, 1) ∷ (s.Local 2, 2) ∷ []
+assignment-symbols : lined_symbols assignment ≡ (s.Local 1, 1) ∷ (s.Equals, 1) ∷ (s.Typed i.U8 5, 1) ∷ (s.Semicolon, 1) ∷ (s.Local 2, 2) ∷ []
 assignment-symbols = refl
 
 -- ---- blocks, reserved words and names

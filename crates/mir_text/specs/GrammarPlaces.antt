@@ -53,7 +53,7 @@ truth true = s.True
 truth false = s.False
 
 abbrev pub value_put : Put ValueRule
-value_put (number negative n t) rest = minus_put negative (s.Typed n t ∷ rest)
+value_put (number negative n t) rest = minus_put negative (s.Typed t n ∷ rest)
 value_put (boolean x) rest = truth x ∷ rest
 value_put unit rest = s.Open ∷ s.Close ∷ rest
 value_put (least t) rest = s.Int t ∷ s.Colons ∷ min_name ∷ rest

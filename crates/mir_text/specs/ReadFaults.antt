@@ -57,7 +57,7 @@ pub record Viable (front : List Symbol) : Type 0 where
 abbrev pub StandsFor : Symbol → Symbol → Type 0
 StandsFor s.LargeLocal y = y ≡ s.Local 0
 StandsFor s.LargeBlock y = y ≡ s.Block 0
-StandsFor (s.Number n) y = y ≡ s.Typed 0 i.U8
+StandsFor (s.Number n) y = y ≡ s.Typed i.U8 0
 StandsFor x y = ⊥
 
 -- some reading goes on with a symbol, or with what it stands for
@@ -113,8 +113,8 @@ is_minus x = false
 
 -- a constant without a suffix, or one that doesn't fit its type
 abbrev pub UnfitHere : List Symbol → Symbol → Type 0
-UnfitHere before (s.Number n) = (Viable (before ++ s.Number n ∷ []) → ⊥) × Viable (before ++ s.Typed 0 i.U8 ∷ [])
-UnfitHere before (s.Typed n t) = Viable (before ++ s.Typed n t ∷ []) × (fits (ends_with is_minus before) n t ≡ false)
+UnfitHere before (s.Number n) = (Viable (before ++ s.Number n ∷ []) → ⊥) × Viable (before ++ s.Typed i.U8 0 ∷ [])
+UnfitHere before (s.Typed t n) = Viable (before ++ s.Typed t n ∷ []) × (fits (ends_with is_minus before) n t ≡ false)
 UnfitHere before x = ⊥
 
 abbrev pub Unfit : List Symbol → Symbol → Type 0

@@ -16,8 +16,8 @@ pub enum Symbol {
     LargeBlock,
     /// A number without a suffix.
     Number(u128),
-    /// A number with the name of an integer type.
-    Typed(u128, IntTy),
+    /// A number with the name of an integer type behind it.
+    Typed(IntTy, u128),
     /// A string.
     Text(u32),
     Name(u32),

@@ -44,7 +44,7 @@ abbrev pub place_rule : PlaceText → PlaceRule
 place_rule q = place_from (g.local q.local) q.projs
 
 abbrev pub value_rule : ValueText → ValueRule
-value_rule (v.Number negative n ty) = g.number negative n ty
+value_rule (v.Number negative ty n) = g.number negative n ty
 value_rule (v.Bool is) = g.boolean is
 value_rule v.Unit = g.unit
 value_rule (v.Least ty) = g.least ty

@@ -21,8 +21,8 @@ pub struct PlaceText {
 
 #[derive(Clone, Copy, Debug, Drop)]
 pub enum ValueText {
-    /// Whether a minus stands before it, and its size.
-    Number(bool, u128, IntTy),
+    /// Whether a minus stands before it, its type, and its size.
+    Number(bool, IntTy, u128),
     Bool(bool),
     Unit,
     /// `T::MIN`
