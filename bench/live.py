@@ -6,15 +6,7 @@ in which each block copies a local of its own to the result. In the chain each b
 one before it, too, so that all blocks but the last lie on loops. It prints a line for each (the time of `live`, how many locals are live at the
 start of bb0) and the program's greatest memory in kilobytes.
 """
-import os
-import shutil
-import subprocess
-import tempfile
-
-ROOT = os.path.dirname(os.path.dirname(os.path.abspath(__file__)))
-
-# The program's crate stands on this one and its own dependencies.
-BASE = "flow_rows"
+import scratch
 
 # The files of the program's crate.
 FILES = {
@@ -87,39 +79,5 @@ fn main(rt: HostRuntime) -> io::Result<()> {
 """,
 }
 
-
-def dependencies():
-    """The lines of crates.txt for the base crate and all that it stands on."""
-    with open(os.path.join(ROOT, "crates.txt")) as file:
-        lines = {line.split(":")[0].split()[0]: line for line in file if ":" in line}
-    found, left = {}, [BASE]
-    while left:
-        name = left.pop()
-        if name in lines and name not in found:
-            found[name] = lines[name]
-            left += lines[name].split(":")[1].split()
-    return found
-
-
-def main():
-    found = dependencies()
-    with tempfile.TemporaryDirectory() as scratch:
-        crates = os.path.join(scratch, "crates")
-        for name in found:
-            shutil.copytree(os.path.join(ROOT, "crates", name), os.path.join(crates, name), ignore=shutil.ignore_patterns("out"))
-        for name, text in FILES.items():
-            path = os.path.join(crates, "live_bench", name)
-            os.makedirs(os.path.dirname(path), exist_ok=True)
-            with open(path, "w") as file:
-                file.write(text)
-        with open(os.path.join(scratch, "crates.txt"), "w") as file:
-            file.writelines([*found.values(), f"live_bench: mir_syntax liveness bit_rows {BASE}\n"])
-        program = os.path.join(crates, "live_bench")
-        subprocess.run(["rt", "run"], cwd=program, check=True, stdout=subprocess.DEVNULL, stderr=subprocess.DEVNULL)
-        child = subprocess.Popen([os.path.join(program, "out", "live_bench")])
-        _, _, usage = os.wait4(child.pid, 0)
-        print(f"{usage.ru_maxrss} KB")
-
-
 if __name__ == "__main__":
-    main()
+    scratch.run("live_bench", ["mir_syntax", "liveness", "bit_rows", "flow_rows"], FILES)

@@ -5,13 +5,7 @@ It copies the crates to a scratch folder, proves and builds a program over them 
 half its number, and 64 workers, which take 4,096 turns of a schedule and then turns in order to the end. It prints the program's line (answers,
 events of the trail, the time of the weave) and its greatest memory in kilobytes.
 """
-import os
-import shutil
-import subprocess
-import tempfile
-
-ROOT = os.path.dirname(os.path.dirname(os.path.abspath(__file__)))
-CRATES = ["mir_syntax", "sched_core"]
+import scratch
 
 # The files of the program's crate.
 FILES = {
@@ -206,27 +200,5 @@ fn main(rt: HostRuntime) -> io::Result<()> {
 """,
 }
 
-
-def main():
-    with tempfile.TemporaryDirectory() as scratch:
-        crates = os.path.join(scratch, "crates")
-        for name in CRATES:
-            shutil.copytree(os.path.join(ROOT, "crates", name), os.path.join(crates, name), ignore=shutil.ignore_patterns("out"))
-        for name, text in FILES.items():
-            path = os.path.join(crates, "sched_bench", name)
-            os.makedirs(os.path.dirname(path), exist_ok=True)
-            with open(path, "w") as file:
-                file.write(text)
-        with open(os.path.join(ROOT, "crates.txt")) as file:
-            lines = [line for line in file if line.split(":")[0] in CRATES]
-        with open(os.path.join(scratch, "crates.txt"), "w") as file:
-            file.writelines(lines + ["sched_bench: " + " ".join(CRATES) + "\n"])
-        program = os.path.join(crates, "sched_bench")
-        subprocess.run(["rt", "run"], cwd=program, check=True, stdout=subprocess.DEVNULL, stderr=subprocess.DEVNULL)
-        child = subprocess.Popen([os.path.join(program, "out", "sched_bench")])
-        _, _, usage = os.wait4(child.pid, 0)
-        print(f"{usage.ru_maxrss} KB")
-
-
 if __name__ == "__main__":
-    main()
+    scratch.run("sched_bench", ["mir_syntax", "sched_core"], FILES)

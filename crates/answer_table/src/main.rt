@@ -1,13 +1,14 @@
-//! Runs the cases of a table through the top call of `mirpipe`, and writes what each of them answers.
+//! Runs texts by the words that follow each of them, through the top call of `mirpipe`, and writes what it answers.
 //!
-//! The table is read from standard input. A line `== WORDS` begins a case with these words, and the lines up to the next one are its input. A line
-//! `@ N TEXT` among them stands for N lines, in which each `@` of the text is the number of the line, from 0: so a short table has long inputs. Of
-//! each case its words are written with the status and the notes, and then its output.
+//! The table is read from standard input: the lines of a text, and behind them lines `== WORDS`, each of which is answered for that text. A line
+//! `@ N TEXT` stands for N lines of the text, in which each `@` is the number of the line, from 0: so a short table has long texts, and `@ 0 -` an
+//! empty one. Of each line of words these are written with the status and the notes, and then the output.
 //!
-//! `stdin` has cases for each of the codes S01 to S16, V01 to V25 and L01 to L06. Each rule is broken alone by two programs. For it, and for each of
-//! the codes S10 to S15, there are also texts with two faults: the other one is of greater code and on the same line, or of lesser code and further
-//! on. For each limit there is an input that just keeps it, one that passes it by one, and one that passes two limits. The rest is what is done, and
-//! words. `stdout` has the answers.
+//! `stdin` has first texts for each of the codes S01 to S16, V01 to V25 and L01 to L06. Each rule is broken alone by two programs. For it, and for
+//! each of the codes S10 to S15, there are also texts with two faults: the other one is of greater code and on the same line, or of lesser code and
+//! further on. For each limit there is a text that just keeps it, one that passes it by one, and one that passes two limits. What is done, and
+//! words, follow. Then there are runs of functions for each statement, terminator and kind of drop, for each cause of a run that has no meaning, and
+//! for the least and greatest numbers; each is run to its end and up to some step before it. `stdout` has the answers.
 #![tactic(auto)]
 
 use mir_syntax::List;
@@ -17,13 +18,6 @@ use std::alloc::Global;
 use std::io::{self, BufRead, BufReader, ErrorKind};
 use std::str;
 
-/// A case of the table: its words, and the bytes of its input.
-#[derive(Drop)]
-struct Case {
-    title: String,
-    input: List<u8>,
-}
-
 fn no_memory() -> io::Error {
     io::Error::from(ErrorKind::OutOfMemory)
 }
@@ -32,37 +26,44 @@ fn bad_line() -> io::Error {
     io::Error::from(ErrorKind::InvalidData)
 }
 
-impl Case {
-    fn new(alloc: Global, title: &str) -> io::Result<Case> {
-        Ok(Case {
-            title: title.to_owned(alloc)?,
-            input: List::new(alloc),
-        })
+/// A text, and whether words have followed it.
+#[derive(Drop)]
+struct Text {
+    bytes: List<u8>,
+    asked: bool,
+}
+
+impl Text {
+    fn new(alloc: Global) -> Text {
+        Text {
+            bytes: List::new(alloc),
+            asked: false,
+        }
     }
 
-    /// One more line of the input.
+    /// One more line of the text.
     fn add(&mut self, line: &str) -> io::Result<()> {
-        self.input.extend(line.as_bytes()).map_err(|_| no_memory())?;
-        self.input.push(b'\n').map_err(|_| no_memory())
+        self.bytes.extend(line.as_bytes()).map_err(|_| no_memory())?;
+        self.bytes.push(b'\n').map_err(|_| no_memory())
     }
 
-    /// One more line of the input, which has a number in the place of each `@` of the text.
-    fn add_numbered(&mut self, text: &str, number: &str) -> io::Result<()> {
-        for byte in text.as_bytes() {
+    /// One more line of the text, which has a number in the place of each `@`.
+    fn add_numbered(&mut self, line: &str, number: &str) -> io::Result<()> {
+        for byte in line.as_bytes() {
             if *byte == b'@' {
-                self.input
+                self.bytes
                     .extend(number.as_bytes())
                     .map_err(|_| no_memory())?;
             } else {
-                self.input.push(*byte).map_err(|_| no_memory())?;
+                self.bytes.push(*byte).map_err(|_| no_memory())?;
             }
         }
-        self.input.push(b'\n').map_err(|_| no_memory())
+        self.bytes.push(b'\n').map_err(|_| no_memory())
     }
 
-    /// The lines of the input that `N TEXT` stands for.
+    /// The lines of the text that `N TEXT` stands for.
     fn add_many(&mut self, alloc: Global, many: &str) -> io::Result<()> {
-        let Some((count, text)) = many.split_once(' ') else {
+        let Some((count, line)) = many.split_once(' ') else {
             return Err(bad_line());
         };
         let Ok(count) = count.parse::<u32>() else {
@@ -70,12 +71,12 @@ impl Case {
         };
         for number in 0..count {
             let number = number.to_string(alloc)?;
-            self.add_numbered(text, number.as_str())?;
+            self.add_numbered(line, number.as_str())?;
         }
         Ok(())
     }
 
-    /// A line of the table that begins no case.
+    /// A line of the table that has no words.
     fn add_line(&mut self, alloc: Global, line: &str) -> io::Result<()> {
         match line.strip_prefix("@ ") {
             Some(many) => self.add_many(alloc, many),
@@ -83,13 +84,21 @@ impl Case {
         }
     }
 
-    fn words(&self, alloc: Global) -> io::Result<Vec<String>> {
-        let mut words = Vec::new(alloc);
-        for word in self.title.split_whitespace() {
-            words.push(word.to_owned(alloc)?)?;
-        }
-        Ok(words)
+    fn source(&self, alloc: Global) -> io::Result<PlainSource> {
+        let mut bytes = List::new(alloc);
+        bytes
+            .extend(self.bytes.as_slice())
+            .map_err(|_| no_memory())?;
+        Ok(PlainSource::new(bytes))
     }
+}
+
+fn words_of(alloc: Global, title: &str) -> io::Result<Vec<String>> {
+    let mut words = Vec::new(alloc);
+    for word in title.split_whitespace() {
+        words.push(word.to_owned(alloc)?)?;
+    }
+    Ok(words)
 }
 
 /// The bytes as text; what the program writes is text.
@@ -97,40 +106,36 @@ fn text_of(bytes: &[u8]) -> &str {
     str::from_utf8(bytes).unwrap_or("?\n")
 }
 
-/// Runs a case, and writes what it answers.
-fn answer(rt: &HostRuntime, case: Case) -> io::Result<()> {
+/// Answers words for a text.
+fn answer(rt: &HostRuntime, title: &str, text: &Text) -> io::Result<()> {
     let alloc = rt.alloc();
-    let words = case.words(alloc)?;
-    let mut source = PlainSource::new(case.input);
+    let words = words_of(alloc, title)?;
+    let mut source = text.source(alloc)?;
     let mut out = PlainSink::new(alloc);
     let mut notes = PlainSink::new(alloc);
     let status = run_quiet(alloc, words.as_slice(), &mut source, &mut out, &mut notes);
-    print!(rt; "== {} -> {status} ", case.title)?;
+    print!(rt; "== {title} -> {status} ")?;
     println!(rt; "{}", text_of(notes.bytes()).trim_end())?;
     print!(rt; "{}", text_of(out.bytes()))
 }
 
 fn main(rt: HostRuntime) -> io::Result<()> {
     let alloc = rt.alloc();
-    let mut case = None;
+    let mut text = Text::new(alloc);
     for line in BufReader::new(alloc, rt.reader())?.lines(alloc) {
         let line = line?;
         match line.strip_prefix("== ") {
             Some(title) => {
-                if let Some(done) = case.take() {
-                    answer(&rt, done)?;
-                }
-                case = Some(Case::new(alloc, title)?);
+                answer(&rt, title, &text)?;
+                text.asked = true;
             }
             None => {
-                if let Some(open) = case.as_mut() {
-                    open.add_line(alloc, &line)?;
+                if text.asked {
+                    text = Text::new(alloc);
                 }
+                text.add_line(alloc, &line)?;
             }
         }
-    }
-    if let Some(done) = case {
-        answer(&rt, done)?;
     }
     Ok(())
 }
