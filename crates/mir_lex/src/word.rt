@@ -115,7 +115,8 @@ fn place(mut table: &[&[u8]], from: u8, text: &[u8]) -> Option<u8>
 {
     let mut k = from;
     while let [word, rest @ ..] = table {
-        if word.first() == text.first() && *word == text {
+        // Most words differ in their length or first byte.
+        if word.len() == text.len() && word.first() == text.first() && *word == text {
             return Some(k);
         }
         k += 1;
