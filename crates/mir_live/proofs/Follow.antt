@@ -14,13 +14,16 @@ use Rattle.mir_semantics.specs.Step.{Code, Control, State, Next, on, stop, fail,
 use Rattle.mir_relate.proofs.Aligned.{Flat}
 use Rattle.mir_live.specs.Places.{fills}
 use Rattle.mir_live.proofs.Among.{Among, OkRvalue}
-use Rattle.mir_live.proofs.Alive.{linked, store_split, assign_split, plain_dest, walk_plain}
+use Rattle.mir_live.proofs.Memories.{linked, store_split}
+use Rattle.mir_live.proofs.Walks.{walk_plain}
+use Rattle.mir_live.proofs.Alive.{assign_split, plain_dest}
 use Rattle.mir_renaming.proofs.Typed.{ValidCode, step_typed}
 use Rattle.mir_live.proofs.Agree.{NeedsOk, write_agree_other}
 use Rattle.mir_live.proofs.Pairs.{RvalueMoves, alone_eval}
 use Rattle.mir_live.proofs.Items.{step_parts, DropPlain, step_drops}
 use Rattle.mir_live.proofs.Paired.{on_eq, Loc, Agrees}
-use Rattle.mir_live.proofs.Runs.{Ghost, J, Frame, Stack, Rel, gone_stmt, gone_setting}
+use Rattle.mir_live.proofs.States.{Ghost, J, Frame, Stack, Rel}
+use Rattle.mir_live.proofs.Running.{gone_stmt, gone_setting}
 use Rattle.mir_live.proofs.Steps.{known, in_l}
 use Rattle.mir_relate.specs.Simulation.{Simulation, Follows as Owes, keep_on}
 use Rattle.mir_live.proofs.Others.{Known, Goes, SetFits, alone}

@@ -30,7 +30,9 @@ use Rattle.mir_live.proofs.Agree.{NeedsOk}
 use Rattle.mir_live.proofs.Pairs.{SetOk}
 use Rattle.mir_live.proofs.Items.{DropPlain, Drops, begun_own, step_drops}
 use Rattle.mir_live.proofs.Paired.{on_eq, Loc, Agrees}
-use Rattle.mir_live.proofs.Runs.{J, j_other, Frame, Stack, Rel, Follows, Reach, ReachTop, TermOk, Edges, dest_live, DropTerm, begun_same, drop_live, finish_live, both_stmt}
+use Rattle.mir_live.proofs.States.{J, j_other, Frame, Stack, Rel, Follows}
+use Rattle.mir_live.proofs.Calls.{Reach, ReachTop}
+use Rattle.mir_live.proofs.Running.{TermOk, Edges, dest_live, DropTerm, begun_same, drop_live, finish_live, both_stmt}
 use Rattle.mir_live.proofs.Steps.{top_drop, resumes, known, in_l, OpsOk, finish_both, stmt_both}
 
 module _ (C1 : Code) (bodies2 : List TypedBody) (f : ℕ) (f1 f2 : TypedBody) (is1 : slice_get C1.bodies f ≡ Some f1) (is2 : slice_get bodies2 f ≡ Some f2) (same_locals : f2.locals ≡ f1.locals) (others : (g : ℕ) → (g ≡ f → ⊥) → slice_get bodies2 g ≡ slice_get C1.bodies g) (lent : ℕ → Bool) (Lv : ℕ → ℕ → ℕ → Type 0) (InBlock : ℕ → Control → Control → Type 0) (begins : (c2 c1 : Control) → c2.block ≡ c1.block → c2.at ≡ 0 → c1.at ≡ 0 → (n : ℕ) × InBlock n c2 c1) (valid1 : ValidCode C1) (valid2 : ValidCode (record C1 { bodies = bodies2 })) (nk : NeedsOk C1.shapes) (plain : (g : ℕ) (b : TypedBody) (i : ℕ) (k : TypedBlock) → slice_get C1.bodies g ≡ Some b → slice_get b.blocks i ≡ Some k → DropPlain k.term) where

@@ -13,7 +13,7 @@ use Rattle.mir_semantics.specs.Memory.{open_frame, close_frame}
 use Rattle.mir_semantics.specs.Step.{Code, Visit, Dropping, Control, State, on, blanks, first_of, new_slots, entered, enter, work_on, visit, visit_unless, visit_if, work_off, destroyed_at, destroyed}
 use Rattle.mir_renaming.proofs.Frames.{open_same, open_other, close_same, close_other}
 use Rattle.mir_relate.proofs.Aligned.{new_control}
-use Rattle.mir_live.proofs.Alive.{Ident, store_split}
+use Rattle.mir_live.proofs.Memories.{Ident, store_split}
 use Rattle.mir_live.proofs.Agree.{Tight, Agree, tight_agree, tight_self, AgreeMem, write_agree}
 use Rattle.mir_live.proofs.Pairs.{Tights}
 

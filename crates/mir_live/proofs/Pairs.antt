@@ -21,7 +21,9 @@ use Rattle.mir_syntax.specs.declared.body.Const.TheVariants as constant
 use Rattle.mir_renaming.proofs.Statements.{read_rel}
 use Rattle.mir_renaming.proofs.Types.{dest_ty}
 use Rattle.mir_live.proofs.Among.{Among, OkOperand, OkOperands, OkRvalue}
-use Rattle.mir_live.proofs.Alive.{Ident, linked, place_at, operand_at, addr_eq, store_split, walk_plain, whole_dest, blank_split, addr_is, StmtOk}
+use Rattle.mir_live.proofs.Memories.{Ident, linked, store_split}
+use Rattle.mir_live.proofs.Walks.{walk_plain}
+use Rattle.mir_live.proofs.Alive.{place_at, operand_at, addr_eq, whole_dest, blank_split, addr_is, StmtOk}
 use Rattle.mir_live.proofs.Alone.{read_source}
 use Rattle.mir_live.proofs.Agree.{Tight, NeedsOk, tight_agree, no_need, whole_tight, tight_self, AgreeMem, write_agree, write_agree_source, write_agree_other}
 

@@ -19,13 +19,16 @@ use Rattle.mir_semantics.specs.Step.{Code, Control, State, Outcome, Next, on, st
 use Rattle.mir_relate.proofs.Aligned.{Flat}
 use Rattle.mir_live.specs.Places.{solid, is_nil, fills}
 use Rattle.mir_live.proofs.Among.{Among, OkOperand, OkOperands, OkRvalue}
-use Rattle.mir_live.proofs.Alive.{itself, solid_plain, RefOk}
+use Rattle.mir_live.proofs.Memories.{itself}
+use Rattle.mir_live.proofs.Walks.{solid_plain}
+use Rattle.mir_live.proofs.Alive.{RefOk}
 use Rattle.mir_renaming.proofs.Typed.{ValidCode}
 use Rattle.mir_live.proofs.Agree.{NeedsOk}
 use Rattle.mir_live.proofs.Pairs.{MoveOk, MovesOk}
 use Rattle.mir_live.proofs.Items.{step_parts, DropPlain}
 use Rattle.mir_live.proofs.Paired.{Loc}
-use Rattle.mir_live.proofs.Runs.{J, Frame, TermOk, DestOk, j_borrowed, dest_live, DropTerm}
+use Rattle.mir_live.proofs.States.{J, Frame, j_borrowed}
+use Rattle.mir_live.proofs.Running.{TermOk, DestOk, dest_live, DropTerm}
 use Rattle.mir_live.specs.Paths.{Leads, fills_term}
 use Rattle.mir_semantics.specs.Values.{whole}
 use Rattle.mir_live.proofs.Steps.{known, in_l, OpsOk}

@@ -14,7 +14,8 @@ use Rattle.mir_semantics.specs.Step.{blanks, first_of, new_slots}
 use Rattle.mir_renaming.proofs.Frames.{open_same, open_other, close_same, close_other}
 use Rattle.mir_renaming.proofs.Ghosts.{value_mono}
 use Rattle.mir_live.specs.Places.{solid}
-use Rattle.mir_live.proofs.Alive.{Ident, plus_frame, frame_ident, frame_old, Rooms, at_path_solid}
+use Rattle.mir_live.proofs.Memories.{Ident, plus_frame, frame_ident, frame_old, Rooms}
+use Rattle.mir_live.proofs.Walks.{at_path_solid}
 
 append_rel : (j : Renaming) (a b c d : List Value) → ValuesRel j a b → ValuesRel j c d → ValuesRel j (a ++ c) (b ++ d)
 append_rel j [] [] c d h k = k

@@ -10,13 +10,13 @@ use Rattle.mir_semantics.specs.Step.{Code, Control, State, new_slots}
 use Rattle.mir_renaming.proofs.Ghosts.{AllPlain, plains_self}
 use Rattle.mir_relate.proofs.Aligned.{new_control}
 use Rattle.mir_live.proofs.Slots.{slots_rel, open_live, open_rooms}
-use Rattle.mir_live.proofs.Alive.{Ident, plus_frame, frame_ident, frame_at}
+use Rattle.mir_live.proofs.Memories.{Ident, plus_frame, frame_ident, frame_at}
 use Rattle.mir_renaming.proofs.Typed.{ValidCode, Typed}
 use Rattle.mir_live.proofs.Agree.{NeedsOk, tight_self}
 use Rattle.mir_live.proofs.Pairs.{Tights}
 use Rattle.mir_live.proofs.Items.{DropPlain}
 use Rattle.mir_live.proofs.Paired.{slots_tight, open_agree, Agrees}
-use Rattle.mir_live.proofs.Runs.{extend, extend_new, extend_old, low_frame, Ghost, J, Mems, Rel, bodies}
+use Rattle.mir_live.proofs.States.{extend, extend_new, extend_old, low_frame, Ghost, J, Mems, Rel, bodies}
 use Rattle.mir_live.proofs.Others.{Known}
 use Rattle.mir_semantics.specs.Run.{Entry, start, slots_at}
 

@@ -30,7 +30,8 @@ use Rattle.mir_live.proofs.Agree.{Tight, NeedsOk, Agree, at_path_agree, whole_ti
 use Rattle.mir_live.proofs.Pairs.{Tights, Pair, reads_pair, read_number_pair, exec_pair, SetOk}
 use Rattle.mir_live.proofs.Items.{InLocal, Items, OwnDrop, Own, FirstNeeds, Runs, Owns, Drops}
 use Rattle.mir_live.proofs.Paired.{DropStep, off_step, destroyed_step, on_eq, LocalIn, Loc, Agrees, same_control, close_agree, Meet, store_both, entered_both, drop_both}
-use Rattle.mir_live.proofs.Runs.{Ghost, J, j_other, Frame, Stack, Rel, Placed, FirstOk, NeedsFirst, Resumes, bodies}
+use Rattle.mir_live.proofs.States.{Ghost, J, j_other, Frame, Stack, Rel, bodies}
+use Rattle.mir_live.proofs.Calls.{Placed, FirstOk, NeedsFirst, Resumes}
 use Rattle.mir_semantics.specs.Values.{whole}
 
 module _ (C1 : Code) (bodies2 : List TypedBody) (f : ℕ) (f1 f2 : TypedBody) (is1 : slice_get C1.bodies f ≡ Some f1) (is2 : slice_get bodies2 f ≡ Some f2) (same_locals : f2.locals ≡ f1.locals) (others : (g : ℕ) → (g ≡ f → ⊥) → slice_get bodies2 g ≡ slice_get C1.bodies g) (lent : ℕ → Bool) (Lv : ℕ → ℕ → ℕ → Type 0) (InBlock : ℕ → Control → Control → Type 0) (begins : (c2 c1 : Control) → c2.block ≡ c1.block → c2.at ≡ 0 → c1.at ≡ 0 → (n : ℕ) × InBlock n c2 c1) (valid1 : ValidCode C1) where

@@ -20,7 +20,8 @@ use Rattle.valid_runs.proofs.Codes.{valid_code, body_there}
 use Rattle.valid_runs.proofs.Starts.{args_plain, start_typed}
 use Rattle.valid_runs.proofs.Shown.{Known, step_flat, step_known, start_known}
 use Rattle.trim_refines.proofs.Twins.{once, once2, Mems}
-use Rattle.trim_refines.proofs.Steps.{BodySame, Rel, Base, Answer, step_rel, begins, opened}
+use Rattle.trim_refines.proofs.States.{BodySame, Rel, Base, begins, opened}
+use Rattle.trim_refines.proofs.Steps.{Answer, step_rel}
 use Rattle.trim_refines.proofs.Selves.{body_self, locals_there, calls_few, one_destroyed, few_entry}
 
 set_there : (xs : List TypedFunction) (f : ℕ) (v x : TypedFunction) → slice_get xs f ≡ Some x → slice_get (set xs f v) f ≡ Some v

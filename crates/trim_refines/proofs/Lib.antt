@@ -1,6 +1,7 @@
 pub mod Lifts
 pub mod Slots
 pub mod Twins
+pub mod States
 pub mod Steps
 pub mod Selves
 pub mod Law

@@ -23,7 +23,7 @@ use Rattle.mir_semantics.specs.Entry.{IsEntry, is_by, is_def, has_type}
 use Rattle.valid_runs.proofs.Codes.{body_back}
 use Rattle.trim_refines.specs.Renumbered.{Numbering, OperandSame, OperandsSame, RvalueSame, StmtSame, TermSame, StmtsSame}
 use Rattle.trim_refines.proofs.Slots.{NonEmpty}
-use Rattle.trim_refines.proofs.Steps.{BodySame, FewArgs}
+use Rattle.trim_refines.proofs.States.{BodySame, FewArgs}
 
 abbrev Same : Numbering
 Same x y = Some x ≡ Some y

@@ -14,26 +14,19 @@ use Rattle.mir_syntax.specs.Crate.{TypedStmt, TypedBlock, TypedBody}
 use Rattle.mir_syntax.specs.Shapes.{Shape, struct_fields, destructor_of, needs_drop}
 use Rattle.mir_num.specs.Numbers.{wrap, flag, integer_of}
 use Rattle.mir_semantics.specs.Values.{Addr, Value, number, nil, cons, variant, pointer, hole, is_hole, blank}
-use Rattle.mir_semantics.specs.Memory.{Memory, value_at, write, further, open_frame, close_frame}
-use Rattle.mir_semantics.specs.Step.{Code, Dest, Visit, Dropping, Control, Called, State, returned, aborted, no_answer, Next, on, stop, fail, Here, local_addr, read_all, numbers_in, integers, go_on, to_block, next_stmt, take_arm, new_slots, entered, enter, calling, answered, ask, call, field_visits, variant_visits, enum_visits, shape_visits, visits_of, work_on, visit, visit_unless, visit_if, work_off, begun, left_in, left_at, destroyed_at, destroyed, return_to, check, finish, perform, step}
-use Rattle.mir_renaming.specs.Renaming.{Renaming, AddrRel, Sub}
+use Rattle.mir_semantics.specs.Memory.{Memory, value_at, write, further, close_frame}
+use Rattle.mir_semantics.specs.Step.{Code, Dest, Visit, Dropping, Control, Called, State, returned, aborted, no_answer, Next, on, stop, fail, Here, local_addr, read_all, numbers_in, integers, go_on, to_block, next_stmt, take_arm, calling, answered, ask, call, field_visits, variant_visits, enum_visits, shape_visits, visits_of, work_on, visit, visit_unless, visit_if, work_off, begun, left_in, left_at, destroyed_at, destroyed, return_to, check, finish, perform, step}
+use Rattle.mir_renaming.specs.Renaming.{Renaming, AddrRel}
 use Rattle.mir_renaming.proofs.Memory.{bind_some, some_bind, further_rel}
 use Rattle.mir_renaming.proofs.Statements.{ValuesRel, DestRel, number_rel, scalar_ty_rel}
-use Rattle.mir_renaming.proofs.Ghosts.{addr_mono, value_mono, ren_is, extend, extend_sub, extend_new, extend_old, open_linked, close_linked, plain_same}
-use Rattle.mir_relate.proofs.Aligned.{Flat, new_control}
+use Rattle.mir_renaming.proofs.Ghosts.{ren_is, close_linked, plain_same}
+use Rattle.mir_relate.proofs.Aligned.{Flat}
 use Rattle.mir_live.proofs.Paths.{drop_some, drop_none, get_drop}
 use Rattle.trim_refines.specs.Renumbered.{Numbering, PlaceSame, OperandsSame, TermSame, StmtsSame}
 use Rattle.trim_refines.proofs.Lifts.{operand_lift}
-use Rattle.trim_refines.proofs.Slots.{NonEmpty, slots_of, same_length}
-use Rattle.trim_refines.proofs.Twins.{one, once, once2, J, K, addr_back, Twin, Twins, Mems, blank_twin, hole_twin, value_twin, write_twin, store_twin, type_twin, resolve_twin, dest_twin, read_all_twin, read_number_twin, result_twin, exec_twin, gone_alone}
-
--- a body in which each local of the other that stands anywhere has one that stands for it
-pub record BodySame (B : ℕ → Option ℕ) (b2 b1 : TypedBody) : Type 0 where
-  pub types : (x y : ℕ) → B x ≡ Some y → slice_get b1.locals x ≡ slice_get b2.locals y
-  pub fixed : (x : ℕ) → x ≤ b1.args → B x ≡ Some x
-  pub some1 : NonEmpty b1.locals
-  pub some2 : NonEmpty b2.locals
-  pub blocks : (i : ℕ) (k1 : TypedBlock) → slice_get b1.blocks i ≡ Some k1 → (k2 : TypedBlock) × (slice_get b2.blocks i ≡ Some k2) × StmtsSame (λ x y. B x ≡ Some y) k1.stmts k2.stmts × TermSame (λ x y. B x ≡ Some y) k1.term k2.term
+use Rattle.trim_refines.proofs.Twins.{one, once, once2, addr_back, blank_twin, hole_twin, value_twin, write_twin, store_twin, type_twin, resolve_twin, dest_twin, read_all_twin, read_number_twin, result_twin, exec_twin, gone_alone}
+use Rattle.trim_refines.proofs.States as states
+use Rattle.trim_refines.proofs.States.{BodySame, FewArgs, follows_at, follows_by, go_rel, to_block_rel, dropping_rel, enter_rel}
 
 read_long : (h : Here) (os : List Operand) (m : Memory) (r : List Value × Memory) → read_all h m os ≡ Some r → length r.0 ≡ length os
 unfolding read_all
@@ -43,11 +36,6 @@ read_long h (o ∷ os) m r e =
     let (y, e2, k2) = bind_some k1 in
     ap (λ (r : List Value × Memory). length r.0) (sym (one k2)) ∙ ap suc (read_long h os x.1 y e2)
 
--- a call of a function hands over no more than its arguments
-abbrev pub FewArgs : Code → Term → Type 0
-FewArgs C (Call p (callee.Local g) os t) = (b : TypedBody) → slice_get C.bodies g.0 ≡ Some b → length os ≤ b.args
-FewArgs C _ = Unit {0}
-
 module _ (C1 : Code) (bodies2 : List TypedBody) (Bor Back : ℕ → ℕ → Option ℕ) (to_back : (g x y : ℕ) → Bor g x ≡ Some y → Back g y ≡ Some x) (to_bor : (g x y : ℕ) → Back g y ≡ Some x → Bor g x ≡ Some y) (bodies : (g : ℕ) (b1 : TypedBody) → slice_get C1.bodies g ≡ Some b1 → (b2 : TypedBody) × (slice_get bodies2 g ≡ Some b2) × BodySame (Bor g) b2 b1) (calls : (g : ℕ) (b1 : TypedBody) (i : ℕ) (k1 : TypedBlock) → slice_get C1.bodies g ≡ Some b1 → slice_get b1.blocks i ≡ Some k1 → FewArgs C1 k1.term) (destroys : (t : Tree) (g : ℕ) (b : TypedBody) → destructor_of C1.shapes t ≡ Some g → slice_get C1.bodies g ≡ Some b → 1 ≤ b.args) where
   abbrev pub C2 : Code
   C2 = record C1 { bodies = bodies2 }
@@ -55,226 +43,69 @@ module _ (C1 : Code) (bodies2 : List TypedBody) (Bor Back : ℕ → ℕ → Opti
   abbrev D : List Shape
   D = C1.shapes
 
-  abbrev pub Ghosts : Type 0
-  Ghosts = ℕ → Option ℕ
+  -- the words of States.antt, of these two crates
+  abbrev Ghosts : Type 0
+  Ghosts = states.Ghosts C1 bodies2 Bor Back to_back to_bor bodies calls destroys
 
-  abbrev pub JJ : Ghosts → Renaming
-  JJ F = J D Bor Back to_back to_bor F
+  abbrev JJ : Ghosts → Renaming
+  JJ = states.JJ C1 bodies2 Bor Back to_back to_bor bodies calls destroys
 
-  abbrev pub KK : Ghosts → Renaming
-  KK F = K D Bor Back to_back to_bor F
+  abbrev MM : Ghosts → Memory → Memory → Type 0
+  MM = states.MM C1 bodies2 Bor Back to_back to_bor bodies calls destroys
 
-  abbrev pub MM : Ghosts → Memory → Memory → Type 0
-  MM F m2 m1 = Mems D Bor Back to_back to_bor F m2 m1
+  abbrev TT : Ghosts → Value → Value → Type 0
+  TT = states.TT C1 bodies2 Bor Back to_back to_bor bodies calls destroys
 
-  abbrev pub TT : Ghosts → Value → Value → Type 0
-  TT F v w = Twin D Bor Back to_back to_bor F v w
+  abbrev TTs : Ghosts → List Value → List Value → Type 0
+  TTs = states.TTs C1 bodies2 Bor Back to_back to_bor bodies calls destroys
 
-  abbrev pub TTs : Ghosts → List Value → List Value → Type 0
-  TTs F vs ws = Twins D Bor Back to_back to_bor F vs ws
+  abbrev R : ℕ → Numbering
+  R = states.R C1 bodies2 Bor Back to_back to_bor bodies calls destroys
 
-  abbrev pub R : ℕ → Numbering
-  R g x y = Bor g x ≡ Some y
+  abbrev InBlock : ℕ → Control → Control → Type 0
+  InBlock = states.InBlock C1 bodies2 Bor Back to_back to_bor bodies calls destroys
 
-  -- ---- controls
+  abbrev VisitRel : Ghosts → Visit → Visit → Type 0
+  VisitRel = states.VisitRel C1 bodies2 Bor Back to_back to_bor bodies calls destroys
 
-  -- as far in the block, but for the statements that go; the number is of those that are left in the source's block
-  abbrev pub InBlock : ℕ → Control → Control → Type 0
-  InBlock n c2 c1 = (b1 b2 : TypedBody) (k1 k2 : TypedBlock) → slice_get C1.bodies c1.function ≡ Some b1 → slice_get bodies2 c1.function ≡ Some b2 → slice_get b1.blocks c1.block ≡ Some k1 → slice_get b2.blocks c1.block ≡ Some k2 → StmtsSame (R c1.function) (drop c1.at k1.stmts) (drop c2.at k2.stmts) × (n ≡ length (drop c1.at k1.stmts))
+  abbrev VisitsRel : Ghosts → List Visit → List Visit → Type 0
+  VisitsRel = states.VisitsRel C1 bodies2 Bor Back to_back to_bor bodies calls destroys
 
-  left_there : Option TypedBlock → ℕ
-  left_there None = 0
-  left_there (Some k) = length k.stmts
+  abbrev DropRel : Ghosts → Dropping → Dropping → Type 0
+  DropRel = states.DropRel C1 bodies2 Bor Back to_back to_bor bodies calls destroys
 
-  left_from : Option TypedBody → ℕ → ℕ
-  left_from None i = 0
-  left_from (Some b) i = left_there (slice_get b.blocks i)
+  abbrev DropsRel : Ghosts → Option Dropping → Option Dropping → Type 0
+  DropsRel = states.DropsRel C1 bodies2 Bor Back to_back to_bor bodies calls destroys
 
-  pub begins : (c2 c1 : Control) → c2.at ≡ 0 → c1.at ≡ 0 → (n : ℕ) × InBlock n c2 c1
-  unfolding left_there left_from
-  begins c2 c1 a2 a1 = (
-    left_from (slice_get C1.bodies c1.function) c1.block,
-    λ b1 b2 k1 k2 e1 e2 i1 i2.
-        let (b2', e2', same) = bodies c1.function b1 e1 in
-        let (k2', i2', ss, _) = same.blocks c1.block k1 i1 in
-        let sb : b2' ≡ b2 = one (sym e2' ∙ e2) in
-        let sk : k2' ≡ k2 = one (sym i2' ∙ ap (λ (b : TypedBody). slice_get b.blocks c1.block) sb ∙ i2) in (
-          subst (λ a. StmtsSame (R c1.function) (drop a k1.stmts) (drop c2.at k2.stmts)) (sym a1) (subst (λ a. StmtsSame (R c1.function) k1.stmts (drop a k2.stmts)) (sym a2) (subst (λ (k : TypedBlock). StmtsSame (R c1.function) k1.stmts k.stmts) sk ss)),
-          ap (λ o. left_from o c1.block) e1 ∙ ap left_there i1 ∙ ap (λ a. length (drop a k1.stmts)) (sym a1),
-        ),
-  )
+  abbrev DestsRel : Ghosts → Option Dest → Option Dest → Type 0
+  DestsRel = states.DestsRel C1 bodies2 Bor Back to_back to_bor bodies calls destroys
 
-  pub record VisitRel (F : Ghosts) (i j : Visit) : Type 0 where
-    pub addr : AddrRel (JJ F) i.addr j.addr
-    pub ty : i.ty ≡ j.ty
+  abbrev FrameRel : Ghosts → ℕ → Control → Control → Type 0
+  FrameRel = states.FrameRel C1 bodies2 Bor Back to_back to_bor bodies calls destroys
 
-  abbrev pub VisitsRel : Ghosts → List Visit → List Visit → Type 0
-  VisitsRel F [] [] = Unit {0}
-  VisitsRel F (i ∷ is) (j ∷ js) = VisitRel F i j × VisitsRel F is js
-  VisitsRel F _ _ = ⊥
+  abbrev FramesRel : Ghosts → List Control → List Control → Type 0
+  FramesRel = states.FramesRel C1 bodies2 Bor Back to_back to_bor bodies calls destroys
 
-  pub record DropRel (F : Ghosts) (d e : Dropping) : Type 0 where
-    pub place : VisitRel F d.place e.place
-    pub target : d.target ≡ e.target
-    pub items : VisitsRel F d.items e.items
+  abbrev Base : Ghosts → State → State → Type 0
+  Base = states.Base C1 bodies2 Bor Back to_back to_bor bodies calls destroys
 
-  abbrev pub DropsRel : Ghosts → Option Dropping → Option Dropping → Type 0
-  DropsRel F None None = Unit {0}
-  DropsRel F (Some d) (Some e) = DropRel F d e
-  DropsRel F _ _ = ⊥
+  abbrev Rel : ℕ → State → State → Type 0
+  Rel = states.Rel C1 bodies2 Bor Back to_back to_bor bodies calls destroys
 
-  abbrev pub DestsRel : Ghosts → Option Dest → Option Dest → Type 0
-  DestsRel F None None = Unit {0}
-  DestsRel F (Some d) (Some c) = DestRel (JJ F) d c
-  DestsRel F _ _ = ⊥
-
-  pub record FrameRel (F : Ghosts) (n : ℕ) (c2 c1 : Control) : Type 0 where
-    pub frame : c2.frame ≡ c1.frame
-    pub function : c2.function ≡ c1.function
-    pub block : c2.block ≡ c1.block
-    pub ghost : F c1.frame ≡ Some c1.function
-    pub dest : DestsRel F c1.dest c2.dest
-    pub here : InBlock n c2 c1
-    pub drops : DropsRel F c1.dropping c2.dropping
-
-  abbrev pub FramesRel : Ghosts → List Control → List Control → Type 0
-  FramesRel F [] [] = Unit {0}
-  FramesRel F (c ∷ cs) (d ∷ ds) = ((n : ℕ) × FrameRel F n c d) × FramesRel F cs ds
-  FramesRel F _ _ = ⊥
-
-  pub record Base (F : Ghosts) (s2 s1 : State) : Type 0 where
-    pub fresh : (f : ℕ) → s1.next ≤ f → F f ≡ None
-    pub next : s2.next ≡ s1.next
-    pub answers : s2.answers ≡ s1.answers
-    pub trace : s2.trace ≡ s1.trace
-
-  pub record Rel (n : ℕ) (s2 s1 : State) : Type 0 where
-    pub ghost : Ghosts
-    pub base : Base ghost s2 s1
-    pub mems : MM ghost s2.memory s1.memory
-    pub top : FrameRel ghost n s2.top s1.top
-    pub callers : FramesRel ghost s2.callers s1.callers
-
-  abbrev pub Follows : Option Next → Next → Type 0
-  Follows o (stop x) = o ≡ Some (stop x)
-  Follows o (fail t) = Unit {0}
-  Follows o (on s1) = (n : ℕ) × (s2 : State) × (o ≡ Some (on s2)) × Rel n s2 s1
-
-  follows_at : (o : Option Next) (x y : Next) → Some y ≡ Some x → Follows o y → Follows o x
-  follows_at o x y e h = subst (λ z. Follows o z) (one e) h
-
-  follows_by : (o o' : Option Next) (x : Next) → o ≡ o' → Follows o' x → Follows o x
-  follows_by o o' x e h = subst (λ z. Follows z x) (sym e) h
-
-  go_rel : (F : Ghosts) (n : ℕ) (s2 s1 : State) (m2 m1 : Memory) (c2 c1 : Control) → Base F s2 s1 → FramesRel F s2.callers s1.callers → MM F m2 m1 → FrameRel F n c2 c1 → Follows (go_on s2 m2 c2) (on (record s1 { memory = m1; top = c1 }))
-  go_rel F n s2 s1 m2 m1 c2 c1 b cs k h = (n, _, refl, record { ghost = F; base = record { fresh = b.fresh; next = b.next; answers = b.answers; trace = b.trace }; mems = k; top = h; callers = cs })
-
-  to_block_rel : (F : Ghosts) (n : ℕ) (c2 c1 : Control) (t u : ℕ) → t ≡ u → FrameRel F n c2 c1 → (m : ℕ) × FrameRel F m (to_block u c2) (to_block t c1)
-  to_block_rel F n c2 c1 t u q h =
-      let (m, here) = begins (to_block u c2) (to_block t c1) refl refl in
-      (m, record { frame = h.frame; function = h.function; block = sym q; ghost = h.ghost; dest = h.dest; here = here; drops = tt })
-
-  dropping_rel : (F : Ghosts) (n : ℕ) (c2 c1 : Control) (d e : Dropping) → DropRel F d e → FrameRel F n c2 c1 → FrameRel F n (record c2 { dropping = Some e }) (record c1 { dropping = Some d })
-  dropping_rel F n c2 c1 d e r h = record { frame = h.frame; function = h.function; block = h.block; ghost = h.ghost; dest = h.dest; here = h.here; drops = r }
-
-  -- ---- a new frame
-
-  module _ (F : Ghosts) (s2 s1 : State) (b : Base F s2 s1) (g : ℕ) where
-    abbrev pub F' : Ghosts
-    F' = extend Bor (once D Bor Back to_back to_bor) F s1.next g
-
-    none_next : F s1.next ≡ None
-    none_next = b.fresh s1.next (omega arith)
-
-    up : Sub (JJ F) (JJ F')
-    up = extend_sub Bor (once D Bor Back to_back to_bor) F s1.next g none_next
-
-    up2 : Sub (KK F) (KK F')
-    up2 = extend_sub Back (once2 D Bor Back to_back to_bor) F s1.next g none_next
-
-    old_frame : (f h : ℕ) → F f ≡ Some h → s1.next ≡ f → ⊥
-    old_frame f h e q = let k : F f ≡ None = ap F (sym q) ∙ none_next in grind arith
-
-    dests_up : (d c : Option Dest) → DestsRel F d c → DestsRel F' d c
-    dests_up None None h = tt
-    dests_up (Some d) (Some c) h = record { addr = addr_mono (JJ F) (JJ F') up d.addr c.addr h.addr; guard = h.guard }
-    dests_up None (Some c) h = absurd h
-    dests_up (Some d) None h = absurd h
-
-    visit_up : (i j : Visit) → VisitRel F i j → VisitRel F' i j
-    visit_up i j h = record { addr = addr_mono (JJ F) (JJ F') up i.addr j.addr h.addr; ty = h.ty }
-
-    visits_up : (is js : List Visit) → VisitsRel F is js → VisitsRel F' is js
-    visits_up [] [] h = tt
-    visits_up (i ∷ is) (j ∷ js) h = (visit_up i j h.0, visits_up is js h.1)
-    visits_up [] (j ∷ js) h = absurd h
-    visits_up (i ∷ is) [] h = absurd h
-
-    drops_up : (d e : Option Dropping) → DropsRel F d e → DropsRel F' d e
-    drops_up None None h = tt
-    drops_up (Some d) (Some e) h = record { place = visit_up d.place e.place h.place; target = h.target; items = visits_up d.items e.items h.items }
-    drops_up None (Some e) h = absurd h
-    drops_up (Some d) None h = absurd h
-
-    frame_up : (n : ℕ) (c2 c1 : Control) → FrameRel F n c2 c1 → FrameRel F' n c2 c1
-    frame_up n c2 c1 h = record { frame = h.frame; function = h.function; block = h.block; ghost = extend_old Bor (once D Bor Back to_back to_bor) F s1.next g c1.frame (old_frame c1.frame c1.function h.ghost) ∙ h.ghost; dest = dests_up c1.dest c2.dest h.dest; here = h.here; drops = drops_up c1.dropping c2.dropping h.drops }
-
-    frames_up : (cs ds : List Control) → FramesRel F cs ds → FramesRel F' cs ds
-    frames_up [] [] h = tt
-    frames_up (c ∷ cs) (d ∷ ds) h = ((h.0.0, frame_up h.0.0 c d h.0.1), frames_up cs ds h.1)
-    frames_up [] (d ∷ ds) h = absurd h
-    frames_up (c ∷ cs) [] h = absurd h
-
-    values_up : (j k : Renaming) → Sub j k → (vs ws : List Value) → ValuesRel j vs ws → ValuesRel k vs ws
-    values_up j k s [] [] h = tt
-    values_up j k s (v ∷ vs) (w ∷ ws) h = (value_mono j k s v w h.0, values_up j k s vs ws h.1)
-    values_up j k s [] (w ∷ ws) h = absurd h
-    values_up j k s (v ∷ vs) [] h = absurd h
-
-    pub opened : (m2 m1 : Memory) (vs ws : List Value) (b2 b1 : TypedBody) → BodySame (Bor g) b2 b1 → length vs ≤ b1.args → MM F m2 m1 → TTs F vs ws → MM F' (open_frame m2 s1.next (new_slots D b2.locals ws)) (open_frame m1 s1.next (new_slots D b1.locals vs))
-    opened m2 m1 vs ws b2 b1 same few k h =
-        let few2 : length ws ≤ b1.args = (let l = same_length D (JJ F) vs ws h.0 in omega (arith, l, few)) in
-        record {
-          to = open_linked Bor (once D Bor Back to_back to_bor) F m2 m1 s1.next g (new_slots D b2.locals ws) (new_slots D b1.locals vs) none_next k.to
-              (λ x y e v q. slots_of D (Bor g) (once D Bor Back to_back to_bor g) b1.args same.fixed b1.locals b2.locals same.some1 same.some2 same.types (JJ F') vs ws (values_up (JJ F) (JJ F') up vs ws h.0) few x y e v q);
-          from = open_linked Back (once2 D Bor Back to_back to_bor) F m1 m2 s1.next g (new_slots D b1.locals vs) (new_slots D b2.locals ws) none_next k.from
-              (λ x y e v q. slots_of D (Back g) (once2 D Bor Back to_back to_bor g) b1.args (λ x l. to_back g x x (same.fixed x l)) b2.locals b1.locals same.some2 same.some1 (λ y x e. sym (same.types x y (to_bor g x y e))) (KK F') ws vs (values_up (KK F) (KK F') up2 ws vs h.1) few2 x y e v q);
-        }
-
-    entered_rel : (n : ℕ) (m2 m1 : Memory) (c2 c1 : Control) (vs ws : List Value) (d2 d1 : Option Dest) (b2 b1 : TypedBody) → FramesRel F s2.callers s1.callers → MM F m2 m1 → FrameRel F n c2 c1 → TTs F vs ws → DestsRel F d1 d2 → BodySame (Bor g) b2 b1 → length vs ≤ b1.args → Follows (entered D s2 m2 c2 g ws d2 b2) (on (record s1 { memory = open_frame m1 s1.next (new_slots D b1.locals vs); top = new_control g s1.next d1; callers = c1 ∷ s1.callers; next = suc s1.next }))
-    unfolding entered
-    entered_rel n m2 m1 c2 c1 vs ws d2 d1 b2 b1 cs k h hv hd same few =
-        let (n', here) = begins (new_control g s2.next d2) (new_control g s1.next d1) refl refl in (
-          n',
-          _,
-          refl,
-          record {
-            ghost = F';
-            base = record { fresh = λ f le. extend_old Bor (once D Bor Back to_back to_bor) F s1.next g f (omega arith) ∙ b.fresh f (omega arith); next = ap suc b.next; answers = b.answers; trace = b.trace };
-            mems = subst (λ i. MM F' (open_frame m2 i (new_slots D b2.locals ws)) (open_frame m1 s1.next (new_slots D b1.locals vs))) (sym b.next) (opened m2 m1 vs ws b2 b1 same few k hv);
-            top = record { frame = b.next; function = refl; block = refl; ghost = extend_new Bor (once D Bor Back to_back to_bor) F s1.next g; dest = dests_up d1 d2 hd; here = here; drops = tt };
-            callers = ((n, frame_up n c2 c1 h), frames_up s2.callers s1.callers cs);
-          },
-        )
-
-  enter_rel : (F : Ghosts) (n : ℕ) (s2 s1 : State) (m2 m1 : Memory) (c2 c1 : Control) (g : ℕ) (vs ws : List Value) (d2 d1 : Option Dest) (x : Next) → Base F s2 s1 → FramesRel F s2.callers s1.callers → MM F m2 m1 → FrameRel F n c2 c1 → TTs F vs ws → DestsRel F d1 d2 → ((b : TypedBody) → slice_get C1.bodies g ≡ Some b → length vs ≤ b.args) → enter C1 s1 m1 c1 g vs d1 ≡ Some x → Follows (enter C2 s2 m2 c2 g ws d2) x
-  unfolding enter entered
-  enter_rel F n s2 s1 m2 m1 c2 c1 g vs ws d2 d1 x b cs k h hv hd few e =
-      let (b1, e1, k1) = bind_some e in
-      let (b2, e2, same) = bodies g b1 e1 in
-      follows_by _ _ x (some_bind (entered D s2 m2 c2 g ws d2) e2 refl) (follows_at _ x _ k1 (entered_rel F s2 s1 b g n m2 m1 c2 c1 vs ws d2 d1 b2 b1 cs k h hv hd same (few b1 e1)))
+  abbrev Follows : Option Next → Next → Type 0
+  Follows = states.Follows C1 bodies2 Bor Back to_back to_bor bodies calls destroys
 
   -- ---- calls of outside functions
 
   answered_rel : (F : Ghosts) (n : ℕ) (s2 s1 : State) (c2 c1 : Control) (t2 t1 : List Called) (r2 r1 : List ℕ) (o2 o1 : Option Memory) (x : Next) → Base F s2 s1 → FramesRel F s2.callers s1.callers → FrameRel F n c2 c1 → t2 ≡ t1 → r2 ≡ r1 → ((m : Memory) → o1 ≡ Some m → (m2 : Memory) × (o2 ≡ Some m2) × MM F m2 m) → answered (calling s1 t1 r1) c1 o1 ≡ Some x → Follows (answered (calling s2 t2 r2) c2 o2) x
-  answered_rel F n s2 s1 c2 c1 t2 t1 r2 r1 o2 None x b cs h ts rs hm e = follows_at _ x (fail t1) e tt
+  answered_rel F n s2 s1 c2 c1 t2 t1 r2 r1 o2 None x b cs h ts rs hm e = follows_at C1 bodies2 Bor Back to_back to_bor bodies calls destroys _ x (fail t1) e tt
   answered_rel F n s2 s1 c2 c1 t2 t1 r2 r1 o2 (Some m1) x b cs h ts rs hm e =
       let (m2, g, k) = hm m1 refl in
-      follows_by _ _ x (ap (answered (calling s2 t2 r2) c2) g) (follows_at _ x _ e (n, _, refl, record { ghost = F; base = record { fresh = b.fresh; next = b.next; answers = rs; trace = ts }; mems = k; top = h; callers = cs }))
+      follows_by C1 bodies2 Bor Back to_back to_bor bodies calls destroys _ _ x (ap (answered (calling s2 t2 r2) c2) g) (follows_at C1 bodies2 Bor Back to_back to_bor bodies calls destroys _ x _ e (n, _, refl, record { ghost = F; base = record { fresh = b.fresh; next = b.next; answers = rs; trace = ts }; mems = k; top = h; callers = cs }))
 
   ask_rel : (F : Ghosts) (n : ℕ) (s2 s1 : State) (m2 m1 : Memory) (c2 c1 : Control) (d2 d1 : Dest) (o : ℕ) (ns : List ℕ) (t : Tree) (answers : List ℕ) (x : Next) → Base F s2 s1 → FramesRel F s2.callers s1.callers → MM F m2 m1 → FrameRel F n c2 c1 → DestRel (JJ F) d1 d2 → ask D s1 m1 c1 d1 o ns t answers ≡ Some x → Follows (ask D s2 m2 c2 d2 o ns t answers) x
   unfolding ask
-  ask_rel F n s2 s1 m2 m1 c2 c1 d2 d1 o ns (scalar t) [] x b cs k h hd e = follows_at _ x (stop no_answer) e refl
+  ask_rel F n s2 s1 m2 m1 c2 c1 d2 d1 o ns (scalar t) [] x b cs k h hd e = follows_at C1 bodies2 Bor Back to_back to_bor bodies calls destroys _ x (stop no_answer) e refl
   ask_rel F n s2 s1 m2 m1 c2 c1 d2 d1 o ns (scalar t) (a ∷ rest) x b cs k h hd e =
       answered_rel F n s2 s1 c2 c1 _ _ rest rest _ _ x b cs h (ap (λ t'. record { outside = o; args = ns; answer = Some (wrap t a) } ∷ t') b.trace) refl (λ m q. store_twin D Bor Back to_back to_bor F m2 m1 m d1 d2 (number (wrap t a)) (number (wrap t a)) hd (refl, refl) k q) e
   ask_rel F n s2 s1 m2 m1 c2 c1 d2 d1 o ns t answers x b cs k h hd e =
@@ -295,11 +126,11 @@ module _ (C1 : Code) (bodies2 : List TypedBody) (Bor Back : ℕ → ℕ → Opti
 
   call_rel : (F : Ghosts) (n : ℕ) (s2 s1 : State) (m2 m1 : Memory) (c2 c1 : Control) (d2 d1 : Dest) (g : Callee) (vs ws : List Value) (x : Next) → Base F s2 s1 → FramesRel F s2.callers s1.callers → MM F m2 m1 → FrameRel F n c2 c1 → TTs F vs ws → DestRel (JJ F) d1 d2 → Few g vs → call C1 s1 m1 c1 d1 g vs ≡ Some x → Follows (call C2 s2 m2 c2 d2 g ws) x
   unfolding call
-  call_rel F n s2 s1 m2 m1 c2 c1 d2 d1 (callee.Local g) vs ws x b cs k h hv hd few e = enter_rel F n s2 s1 m2 m1 c2 c1 g.0 vs ws (Some d2) (Some d1) x b cs k h hv hd few e
+  call_rel F n s2 s1 m2 m1 c2 c1 d2 d1 (callee.Local g) vs ws x b cs k h hv hd few e = enter_rel C1 bodies2 Bor Back to_back to_bor bodies calls destroys F n s2 s1 m2 m1 c2 c1 g.0 vs ws (Some d2) (Some d1) x b cs k h hv hd few e
   call_rel F n s2 s1 m2 m1 c2 c1 d2 d1 (callee.Outside o) vs ws x b cs k h hv hd few e =
       let (out, e1, k1) = bind_some e in
       let (ns, e2, k2) = bind_some k1 in
-      follows_by _ _ x (some_bind _ e1 (some_bind _ (numbers_rel (JJ F) vs ws ns hv.0 e2) (ap (λ an. ask D s2 m2 c2 d2 o.0 ns out.result an) b.answers))) (ask_rel F n s2 s1 m2 m1 c2 c1 d2 d1 o.0 ns out.result s1.answers x b cs k h hd k2)
+      follows_by C1 bodies2 Bor Back to_back to_bor bodies calls destroys _ _ x (some_bind _ e1 (some_bind _ (numbers_rel (JJ F) vs ws ns hv.0 e2) (ap (λ an. ask D s2 m2 c2 d2 o.0 ns out.result an) b.answers))) (ask_rel F n s2 s1 m2 m1 c2 c1 d2 d1 o.0 ns out.result s1.answers x b cs k h hd k2)
 
   -- ---- drops
 
@@ -355,11 +186,11 @@ module _ (C1 : Code) (bodies2 : List TypedBody) (Bor Back : ℕ → ℕ → Opti
   work_on_rel F n s2 s1 c2 c1 d e [] [] x b cs k h r v q =
       let (old, e1, k1) = bind_some q in
       let (old2, g1, _) = value_twin D Bor Back to_back to_bor F s2.memory s1.memory d.place.addr e.place.addr old k r.place.addr e1 in
-      let (m, h') = to_block_rel F n c2 c1 d.target e.target r.target h in
+      let (m, h') = to_block_rel C1 bodies2 Bor Back to_back to_bor bodies calls destroys F n c2 c1 d.target e.target r.target h in
       let k' = write_twin D Bor Back to_back to_bor F s2.memory s1.memory d.place.addr e.place.addr (blank D d.place.ty) (blank D d.place.ty) old k r.place.addr (blank_twin D Bor Back to_back to_bor F d.place.ty) e1 in
-      follows_by _ _ x (some_bind _ g1 (ap (λ t. go_on s2 (write s2.memory e.place.addr (blank D t)) (to_block e.target c2)) (sym r.place.ty))) (follows_at _ x _ k1 (go_rel F m s2 s1 _ _ (to_block e.target c2) (to_block d.target c1) b cs k' h'))
+      follows_by C1 bodies2 Bor Back to_back to_bor bodies calls destroys _ _ x (some_bind _ g1 (ap (λ t. go_on s2 (write s2.memory e.place.addr (blank D t)) (to_block e.target c2)) (sym r.place.ty))) (follows_at C1 bodies2 Bor Back to_back to_bor bodies calls destroys _ x _ k1 (go_rel C1 bodies2 Bor Back to_back to_bor bodies calls destroys F m s2 s1 _ _ (to_block e.target c2) (to_block d.target c1) b cs k' h'))
   work_on_rel F n s2 s1 c2 c1 d e (i ∷ is) (j ∷ js) x b cs k h r v q =
-      follows_at _ x _ q (go_rel F n s2 s1 s2.memory s1.memory _ _ b cs k (dropping_rel F n c2 c1 (record d { items = i ∷ is }) (record e { items = j ∷ js }) (record { place = r.place; target = r.target; items = v }) h))
+      follows_at C1 bodies2 Bor Back to_back to_bor bodies calls destroys _ x _ q (go_rel C1 bodies2 Bor Back to_back to_bor bodies calls destroys F n s2 s1 s2.memory s1.memory _ _ b cs k (dropping_rel C1 bodies2 Bor Back to_back to_bor bodies calls destroys F n c2 c1 (record d { items = i ∷ is }) (record e { items = j ∷ js }) (record { place = r.place; target = r.target; items = v }) h))
   work_on_rel F n s2 s1 c2 c1 d e [] (j ∷ js) x b cs k h r v q = absurd v
   work_on_rel F n s2 s1 c2 c1 d e (i ∷ is) [] x b cs k h r v q = absurd v
 
@@ -396,12 +227,12 @@ module _ (C1 : Code) (bodies2 : List TypedBody) (Bor Back : ℕ → ℕ → Opti
       at_items d e (i ∷ is) (j ∷ js) r v q =
           let (u, e1, k1) = bind_some q in
           let (w, g1, t) = left_rel F s2.memory s1.memory i.addr j.addr i.ty u k v.0.addr e1 in
-          follows_by _ _ x (some_bind _ (ap (left_at D s2.memory j.addr) (sym v.0.ty) ∙ g1) refl) (work_on_rel F n s2 s1 c2 c1 d e (visits_of D i.addr i.ty u ++ is) (visits_of D j.addr j.ty w ++ js) x b cs k h r (more_parts F i j u w is js v.0 t v.1) k1)
+          follows_by C1 bodies2 Bor Back to_back to_bor bodies calls destroys _ _ x (some_bind _ (ap (left_at D s2.memory j.addr) (sym v.0.ty) ∙ g1) refl) (work_on_rel F n s2 s1 c2 c1 d e (visits_of D i.addr i.ty u ++ is) (visits_of D j.addr j.ty w ++ js) x b cs k h r (more_parts F i j u w is js v.0 t v.1) k1)
       at_items d e (i ∷ is) [] r v q = absurd v
 
       at_drop : (d : Dropping) → c1.dropping ≡ Some d → destroyed_at D s1 c1 d d.items ≡ Some x → (o : Option Dropping) → c2.dropping ≡ o → DropsRel F (Some d) o → Follows (destroyed D s2 c2) x
       at_drop d e1 q None e2 r = absurd r
-      at_drop d e1 q (Some e) e2 r = follows_by _ _ x (some_bind _ e2 refl) (at_items d e d.items e.items r r.items q)
+      at_drop d e1 q (Some e) e2 r = follows_by C1 bodies2 Bor Back to_back to_bor bodies calls destroys _ _ x (some_bind _ e2 refl) (at_items d e d.items e.items r r.items q)
 
   -- ---- returns
 
@@ -415,7 +246,7 @@ module _ (C1 : Code) (bodies2 : List TypedBody) (Bor Back : ℕ → ℕ → Opti
   return_rel F s2 s1 m2 m1 (Some d2) (Some d1) (c ∷ cs) (d ∷ ds) v w x b k hd hs hv e fl =
       let (m1', e1, k1) = bind_some e in
       let (m2', g1, k') = store_twin D Bor Back to_back to_bor F m2 m1 m1' d1 d2 v w hd hv k e1 in
-      follows_by _ _ x (some_bind _ g1 refl) (follows_at _ x _ k1 (go_rel F hs.0.0 (record s2 { callers = cs }) (record s1 { callers = ds }) m2' m1' c d (record { fresh = b.fresh; next = b.next; answers = b.answers; trace = b.trace }) hs.1 k' hs.0.1))
+      follows_by C1 bodies2 Bor Back to_back to_bor bodies calls destroys _ _ x (some_bind _ g1 refl) (follows_at C1 bodies2 Bor Back to_back to_bor bodies calls destroys _ x _ k1 (go_rel C1 bodies2 Bor Back to_back to_bor bodies calls destroys F hs.0.0 (record s2 { callers = cs }) (record s1 { callers = ds }) m2' m1' c d (record { fresh = b.fresh; next = b.next; answers = b.answers; trace = b.trace }) hs.1 k' hs.0.1))
   return_rel F s2 s1 m2 m1 None (Some d1) (c ∷ cs) (d ∷ ds) v w x b k hd hs hv e fl = absurd hd
   return_rel F s2 s1 m2 m1 (Some d2) None (c ∷ cs) (d ∷ ds) v w x b k hd hs hv e fl = absurd hd
   return_rel F s2 s1 m2 m1 d2 d1 [] (d ∷ ds) v w x b k hd hs hv e fl = absurd hs
@@ -429,13 +260,13 @@ module _ (C1 : Code) (bodies2 : List TypedBody) (Bor Back : ℕ → ℕ → Opti
     visit_rel d e i j is js v w None x r h vs t eg q = work_on_rel F n s2 s1 s2.top s1.top d e (visits_of D i.addr i.ty v ++ is) (visits_of D j.addr j.ty w ++ js) x b cs k top r (more_parts F i j v w is js h t vs) q
     visit_rel d e i j is js v w (Some g) x r h vs t eg q =
         let dr : DropRel F (record d { items = i ∷ is }) (record e { items = j ∷ js }) = record { place = r.place; target = r.target; items = (h, vs) } in
-        enter_rel F n s2 s1 s2.memory s1.memory (record s2.top { dropping = Some (record e { items = j ∷ js }) }) (record s1.top { dropping = Some (record d { items = i ∷ is }) }) g (pointer i.addr ∷ []) (pointer j.addr ∷ []) None None x b cs k (dropping_rel F n s2.top s1.top (record d { items = i ∷ is }) (record e { items = j ∷ js }) dr top)
+        enter_rel C1 bodies2 Bor Back to_back to_bor bodies calls destroys F n s2 s1 s2.memory s1.memory (record s2.top { dropping = Some (record e { items = j ∷ js }) }) (record s1.top { dropping = Some (record d { items = i ∷ is }) }) g (pointer i.addr ∷ []) (pointer j.addr ∷ []) None None x b cs k (dropping_rel C1 bodies2 Bor Back to_back to_bor bodies calls destroys F n s2.top s1.top (record d { items = i ∷ is }) (record e { items = j ∷ js }) dr top)
         ((h.addr, tt), (addr_back D Bor Back to_back to_bor F i.addr j.addr h.addr, tt)) tt (λ b1 eb. destroys i.ty g b1 eg eb) q
 
     unless_rel : (d e : Dropping) (i j : Visit) (is js : List Visit) (v w : Value) (c : Bool) (x : Next) → DropRel F d e → VisitRel F i j → VisitsRel F is js → TT F v w → visit_unless C1 s1 d i is v c ≡ Some x → Follows (visit_unless C2 s2 e j js w c) x
     unfolding visit_unless
     unless_rel d e i j is js v w true x r h vs t q = work_on_rel F n s2 s1 s2.top s1.top d e is js x b cs k top r vs q
-    unless_rel d e i j is js v w false x r h vs t q = follows_by _ _ x (ap (λ u. visit C2 s2 e j js w (destructor_of D u)) (sym h.ty)) (visit_rel d e i j is js v w (destructor_of D i.ty) x r h vs t refl q)
+    unless_rel d e i j is js v w false x r h vs t q = follows_by C1 bodies2 Bor Back to_back to_bor bodies calls destroys _ _ x (ap (λ u. visit C2 s2 e j js w (destructor_of D u)) (sym h.ty)) (visit_rel d e i j is js v w (destructor_of D i.ty) x r h vs t refl q)
 
     if_rel : (d e : Dropping) (i j : Visit) (is js : List Visit) (c : Bool) (x : Next) → DropRel F d e → VisitRel F i j → VisitsRel F is js → visit_if C1 s1 d i is c ≡ Some x → Follows (visit_if C2 s2 e j js c) x
     unfolding visit_if
@@ -443,12 +274,12 @@ module _ (C1 : Code) (bodies2 : List TypedBody) (Bor Back : ℕ → ℕ → Opti
     if_rel d e i j is js true x r h vs q =
         let (v, e1, k1) = bind_some q in
         let (w, g1, t) = value_twin D Bor Back to_back to_bor F s2.memory s1.memory i.addr j.addr v k h.addr e1 in
-        follows_by _ _ x (some_bind _ g1 (ap (λ c. visit_unless C2 s2 e j js w c) (sym (hole_twin D Bor Back to_back to_bor F v w t)))) (unless_rel d e i j is js v w (is_hole v) x r h vs t k1)
+        follows_by C1 bodies2 Bor Back to_back to_bor bodies calls destroys _ _ x (some_bind _ g1 (ap (λ c. visit_unless C2 s2 e j js w c) (sym (hole_twin D Bor Back to_back to_bor F v w t)))) (unless_rel d e i j is js v w (is_hole v) x r h vs t k1)
 
     work_rel : (d e : Dropping) (is js : List Visit) (x : Next) → DropRel F d e → VisitsRel F is js → work_off C1 s1 d is ≡ Some x → Follows (work_off C2 s2 e js) x
     unfolding work_off
     work_rel d e [] js x r vs q = absurd (grind arith)
-    work_rel d e (i ∷ is) (j ∷ js) x r vs q = follows_by _ _ x (ap (λ u. visit_if C2 s2 e j js (needs_drop D u)) (sym vs.0.ty)) (if_rel d e i j is js (needs_drop D i.ty) x r vs.0 vs.1 q)
+    work_rel d e (i ∷ is) (j ∷ js) x r vs q = follows_by C1 bodies2 Bor Back to_back to_bor bodies calls destroys _ _ x (ap (λ u. visit_if C2 s2 e j js (needs_drop D u)) (sym vs.0.ty)) (if_rel d e i j is js (needs_drop D i.ty) x r vs.0 vs.1 q)
     work_rel d e (i ∷ is) [] x r vs q = absurd vs
 
     -- ---- the running function
@@ -481,8 +312,8 @@ module _ (C1 : Code) (bodies2 : List TypedBody) (Bor Back : ℕ → ℕ → Opti
 
       block_rel : (m2 m1 : Memory) (t u : ℕ) (x : Next) → t ≡ u → MM F m2 m1 → go_on s1 m1 (to_block t s1.top) ≡ Some x → Follows (go_on s2 m2 (to_block u s2.top)) x
       block_rel m2 m1 t u x z l q =
-          let (m, h) = to_block_rel F n s2.top s1.top t u z top in
-          follows_at _ x _ q (go_rel F m s2 s1 m2 m1 (to_block u s2.top) (to_block t s1.top) b cs l h)
+          let (m, h) = to_block_rel C1 bodies2 Bor Back to_back to_bor bodies calls destroys F n s2.top s1.top t u z top in
+          follows_at C1 bodies2 Bor Back to_back to_bor bodies calls destroys _ x _ q (go_rel C1 bodies2 Bor Back to_back to_bor bodies calls destroys F m s2 s1 m2 m1 (to_block u s2.top) (to_block t s1.top) b cs l h)
 
       check_rel : (m2 m1 : Memory) (c : Bool) (text : List ℕ) (os ps : List Operand) (t u : ℕ) (x : Next) → MM F m2 m1 → OperandsSame RR os ps → t ≡ u → check HA s1 m1 c text os t ≡ Some x → Follows (check HB s2 m2 c text ps u) x
       unfolding check
@@ -490,7 +321,7 @@ module _ (C1 : Code) (bodies2 : List TypedBody) (Bor Back : ℕ → ℕ → Opti
       check_rel m2 m1 false text os ps t u x l ho z q =
           let (r, q1, k1) = bind_some q in
           let (r2, g1, h1) = integers_rel os ps m2 m1 r ho l q1 in
-          follows_by _ _ x (some_bind _ g1 refl) (follows_at _ x (stop (aborted text r.0)) k1 (ap (λ vs. Some (stop (aborted text vs))) (sym h1)))
+          follows_by C1 bodies2 Bor Back to_back to_bor bodies calls destroys _ _ x (some_bind _ g1 refl) (follows_at C1 bodies2 Bor Back to_back to_bor bodies calls destroys _ x (stop (aborted text r.0)) k1 (ap (λ vs. Some (stop (aborted text vs))) (sym h1)))
 
       begun_rel : (p q : Place) (t u : ℕ) (o1 o2 : Option Dropping) (d : Dropping) → PlaceSame RR p q → t ≡ u → DropsRel F o1 o2 → begun HA s1 p t o1 ≡ Some d → (e : Dropping) × (begun HB s2 q u o2 ≡ Some e) × DropRel F d e
       unfolding begun
@@ -515,29 +346,29 @@ module _ (C1 : Code) (bodies2 : List TypedBody) (Bor Back : ℕ → ℕ → Opti
           let (r, q1, k1) = bind_some q in
           let (r2, g1, num, l) = read_number_twin D Bor Back to_back to_bor F b1.locals b2.locals s1.top.frame RR lifts s2.memory s1.memory o p r ho k q1 in
           let z : take_arm r.0 arms t ≡ take_arm r2.0 arms2 u = ap₂ (λ n as'. take_arm n as' t) num ha ∙ ap (take_arm r2.0 arms2) hz in
-          follows_by _ _ x (some_bind _ g1 refl) (block_rel r2.1 r.1 (take_arm r.0 arms t) (take_arm r2.0 arms2 u) x z l k1)
+          follows_by C1 bodies2 Bor Back to_back to_bor bodies calls destroys _ _ x (some_bind _ g1 refl) (block_rel r2.1 r.1 (take_arm r.0 arms t) (take_arm r2.0 arms2 u) x z l k1)
       finish_rel Return Return x h few q fl =
           let (v, q1, k1) = bind_some q in
           let root : JJ F s1.top.frame 0 ≡ Some (s1.top.frame, 0) = (lifts 0 0 (same.fixed 0 (omega arith))).0 in
           let (w, g1, t) = result_twin D Bor Back to_back to_bor F b1.locals b2.locals s1.top.frame RR lifts s2.memory s1.memory (record { frame = s1.top.frame; local = 0; path = [] }) (record { frame = s1.top.frame; local = 0; path = [] }) v (record { root = root; path = refl }) k q1 in
           let l : MM F (close_frame s2.memory s1.top.frame) (close_frame s1.memory s1.top.frame) = record { to = close_linked Bor (once D Bor Back to_back to_bor) F s2.memory s1.memory s1.top.frame k.to; from = close_linked Back (once2 D Bor Back to_back to_bor) F s1.memory s2.memory s1.top.frame k.from } in
-          follows_by _ _ x (some_bind _ g1 refl) (return_rel F s2 s1 _ _ s2.top.dest s1.top.dest s2.callers s1.callers v w x b l top.dest cs t k1 fl)
+          follows_by C1 bodies2 Bor Back to_back to_bor bodies calls destroys _ _ x (some_bind _ g1 refl) (return_rel F s2 s1 _ _ s2.top.dest s1.top.dest s2.callers s1.callers v w x b l top.dest cs t k1 fl)
       finish_rel Unreachable Unreachable x h few q fl = absurd (grind arith)
       finish_rel (Drop p t) (Drop p2 u) x (hp, hz) few q fl =
           let (d, q1, k1) = bind_some q in
           let (e, g1, r) = begun_rel p p2 t u s1.top.dropping s2.top.dropping d hp hz top.drops q1 in
-          follows_by _ _ x (some_bind _ g1 refl) (work_rel d e d.items e.items x r r.items k1)
+          follows_by C1 bodies2 Bor Back to_back to_bor bodies calls destroys _ _ x (some_bind _ g1 refl) (work_rel d e d.items e.items x r r.items k1)
       finish_rel (Call p g os t) (Call p2 g2 ps u) x (hp, hg, ho, hz) few q fl =
           let (d, q1, k1) = bind_some q in
           let (r, q2, k2) = bind_some k1 in
           let (d2, g1, hd) = dest_twin D Bor Back to_back to_bor F b1.locals b2.locals s1.top.frame RR lifts s2.memory s1.memory p p2 d hp k q1 in
           let (r2, gr, hv, l) = read_all_twin D Bor Back to_back to_bor F b1.locals b2.locals s1.top.frame RR lifts os ps s2.memory s1.memory r ho k q2 in
-          let (m, h) = to_block_rel F n s2.top s1.top t u hz top in
-          follows_by _ _ x (some_bind _ g1 (some_bind _ gr (ap (λ g. call C2 s2 r2.1 (to_block u s2.top) d2 g r2.0) (sym hg)))) (call_rel F m s2 s1 r2.1 r.1 (to_block u s2.top) (to_block t s1.top) d2 d g r.0 r2.0 x b cs l h hv hd (few_of p g os t r.0 few (read_long HA os s1.memory r q2)) k2)
+          let (m, h) = to_block_rel C1 bodies2 Bor Back to_back to_bor bodies calls destroys F n s2.top s1.top t u hz top in
+          follows_by C1 bodies2 Bor Back to_back to_bor bodies calls destroys _ _ x (some_bind _ g1 (some_bind _ gr (ap (λ g. call C2 s2 r2.1 (to_block u s2.top) d2 g r2.0) (sym hg)))) (call_rel F m s2 s1 r2.1 r.1 (to_block u s2.top) (to_block t s1.top) d2 d g r.0 r2.0 x b cs l h hv hd (few_of p g os t r.0 few (read_long HA os s1.memory r q2)) k2)
       finish_rel (Assert o c text os t) (Assert p c2 text2 ps u) x (hp, hc, hx, ho, hz) few q fl =
           let (r, q1, k1) = bind_some q in
           let (r2, g1, num, l) = read_number_twin D Bor Back to_back to_bor F b1.locals b2.locals s1.top.frame RR lifts s2.memory s1.memory o p r hp k q1 in
-          follows_by _ _ x (some_bind _ g1 (ap₂ (λ c text. check HB s2 r2.1 (nat_eq r2.0 (flag c)) text ps u) (sym hc) (sym hx) ∙ ap (λ n. check HB s2 r2.1 (nat_eq n (flag c)) text ps u) (sym num))) (check_rel r2.1 r.1 (nat_eq r.0 (flag c)) text os ps t u x l ho hz k1)
+          follows_by C1 bodies2 Bor Back to_back to_bor bodies calls destroys _ _ x (some_bind _ g1 (ap₂ (λ c text. check HB s2 r2.1 (nat_eq r2.0 (flag c)) text ps u) (sym hc) (sym hx) ∙ ap (λ n. check HB s2 r2.1 (nat_eq n (flag c)) text ps u) (sym num))) (check_rel r2.1 r.1 (nat_eq r.0 (flag c)) text os ps t u x l ho hz k1)
       finish_rel t u x h few q fl = absurd h
 
       -- ---- statements
@@ -604,14 +435,14 @@ module _ (C1 : Code) (bodies2 : List TypedBody) (Bor Back : ℕ → ℕ → Opti
             let (m2', g1, l) = exec_twin D Bor Back to_back to_bor F b1.locals b2.locals s1.top.frame RR lifts s2.memory s1.memory m1' st t st_same k q1 in
             let h = moved m (next_stmt s2.top) (next_stmt s1.top) refl refl refl refl refl refl refl refl refl refl (in_block m (next_stmt s2.top) (next_stmt s1.top) refl refl (subst (λ ts. StmtsSame RR (drop (suc s1.top.at) k1.stmts) ts) next ss) refl) in
             done_at x (record s1 { memory = m1'; top = next_stmt s1.top }) (one q2)
-            (inl (follows_by _ _ (on (record s1 { memory = m1'; top = next_stmt s1.top })) (ap (perform C2 HB s2 k2.term) at2 ∙ some_bind _ g1 refl) (go_rel F m s2 s1 m2' m1' (next_stmt s2.top) (next_stmt s1.top) b cs l h)))
+            (inl (follows_by C1 bodies2 Bor Back to_back to_bor bodies calls destroys _ _ (on (record s1 { memory = m1'; top = next_stmt s1.top })) (ap (perform C2 HB s2 k2.term) at2 ∙ some_bind _ g1 refl) (go_rel C1 bodies2 Bor Back to_back to_bor bodies calls destroys F m s2 s1 m2' m1' (next_stmt s2.top) (next_stmt s1.top) b cs l h)))
 
         end_done : (x : Next) → slice_get k1.stmts s1.top.at ≡ None → StmtsSame RR (drop s1.top.at k1.stmts) (drop s2.top.at k2.stmts) → TermSame RR k1.term k2.term → FewArgs C1 k1.term → perform C1 HA s1 k1.term None ≡ Some x → Flat x → Done x
         unfolding perform
         end_done x none ss ts few q fl =
             let nil2 : drop s2.top.at k2.stmts ≡ [] = subst (λ xs. StmtsSame RR xs (drop s2.top.at k2.stmts)) (drop_none k1.stmts s1.top.at none) ss in
             let none2 : slice_get k2.stmts s2.top.at ≡ None = get_drop k2.stmts s2.top.at ∙ ap (λ ss. slice_get ss 0) nil2 in
-            followed x (follows_by _ _ x (ap (perform C2 HB s2 k2.term) none2) (finish_rel k1.term k2.term x ts few q fl))
+            followed x (follows_by C1 bodies2 Bor Back to_back to_bor bodies calls destroys _ _ x (ap (perform C2 HB s2 k2.term) none2) (finish_rel k1.term k2.term x ts few q fl))
 
   -- ---- a step
 
@@ -633,9 +464,9 @@ module _ (C1 : Code) (bodies2 : List TypedBody) (Bor Back : ℕ → ℕ → Opti
       target b2 k2 e2 i2 = some_bind _ (ap (slice_get bodies2) r.top.function ∙ e2) (some_bind _ (ap (slice_get b2.blocks) r.top.block ∙ i2) (ap (λ f. perform C2 (record { shapes = D; locals = b2.locals; frame = f }) s2 k2.term (slice_get k2.stmts s2.top.at)) r.top.frame))
 
       answer : (b1 b2 : TypedBody) (e1 : slice_get C1.bodies s1.top.function ≡ Some b1) (e2 : slice_get bodies2 s1.top.function ≡ Some b2) (same : BodySame (Bor s1.top.function) b2 b1) (k1 k2 : TypedBlock) (i1 : slice_get b1.blocks s1.top.block ≡ Some k1) (i2 : slice_get b2.blocks s1.top.block ≡ Some k2) (x : Next) → Done r.ghost n s2 s1 r.base r.callers r.mems r.top b1 b2 e1 e2 same k1 k2 i1 i2 x → Answer n s2 x
-      answer b1 b2 e1 e2 same k1 k2 i1 i2 (on s) (inl h) = inl (follows_by _ _ (on s) (target b2 k2 e2 i2) h)
+      answer b1 b2 e1 e2 same k1 k2 i1 i2 (on s) (inl h) = inl (follows_by C1 bodies2 Bor Back to_back to_bor bodies calls destroys _ _ (on s) (target b2 k2 e2 i2) h)
       answer b1 b2 e1 e2 same k1 k2 i1 i2 (on s) (inr h) = inr h
-      answer b1 b2 e1 e2 same k1 k2 i1 i2 (stop o) h = follows_by _ _ (stop o) (target b2 k2 e2 i2) h
+      answer b1 b2 e1 e2 same k1 k2 i1 i2 (stop o) h = follows_by C1 bodies2 Bor Back to_back to_bor bodies calls destroys _ _ (stop o) (target b2 k2 e2 i2) h
       answer b1 b2 e1 e2 same k1 k2 i1 i2 (fail t) h = tt
 
       at_place : (b1 : TypedBody) (k1 : TypedBlock) (b2 : TypedBody) (k2 : TypedBlock) (same : BodySame (Bor s1.top.function) b2 b1) (e1 : slice_get C1.bodies s1.top.function ≡ Some b1) (e2 : slice_get bodies2 s1.top.function ≡ Some b2) (i1 : slice_get b1.blocks s1.top.block ≡ Some k1) (i2 : slice_get b2.blocks s1.top.block ≡ Some k2) → TermSame (R s1.top.function) k1.term k2.term → StmtsSame (R s1.top.function) (drop s1.top.at k1.stmts) (drop s2.top.at k2.stmts) → n ≡ length (drop s1.top.at k1.stmts) → (o : Option TypedStmt) → slice_get k1.stmts s1.top.at ≡ o → perform C1 (record { shapes = D; locals = b1.locals; frame = s1.top.frame }) s1 k1.term o ≡ Some x → Answer n s2 x

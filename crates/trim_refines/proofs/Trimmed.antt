@@ -22,7 +22,7 @@ use Rattle.trim_locals.specs.Trimmed.{stmt_uses, term_uses, block_uses, used_loc
 use Rattle.trim_refines.specs.Renumbered.{Numbering, OperandSame, OperandsSame, RvalueSame, StmtSame, TermSame, Gone, StmtsSame}
 use Rattle.trim_refines.proofs.Numbers.{ahead, ahead_marked, ahead_is, ahead_fixed, ahead_item}
 use Rattle.trim_refines.proofs.Selves.{has_first}
-use Rattle.trim_refines.proofs.Steps.{BodySame}
+use Rattle.trim_refines.proofs.States.{BodySame}
 
 first : (y : ℕ) (ys : List ℕ) → Contains (y ∷ ys) y
 first y ys = (0, omega arith, refl)

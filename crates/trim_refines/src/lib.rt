@@ -5,7 +5,7 @@
 //!
 //! The proof serves any renumbering of a body's locals (`specs/Renumbered.antt`; `renumbered_refines` of `proofs/Law.antt`). Values and memories
 //! are related by the renumbering and by its inverse, so that a hole stands exactly where one stands and drops visit the same
-//! (`proofs/Twins.antt`, `proofs/Steps.antt`).
+//! (`proofs/Twins.antt`, `proofs/States.antt`, `proofs/Steps.antt`).
 #![tactic(auto)]
 
 ghost use Rattle.std.specs.Prelude.{◌≡◌, ℕ, Some, slice_get};

@@ -20,7 +20,7 @@ use Rattle.prune_refines.specs.Drops.{is_drop, NoDrops}
 use Rattle.trim_locals.specs.Trimmed.{used_marks, new_numbers, number_in, renamed_term, marked_items, trimmed_block, trimmed}
 use Rattle.trim_refines.specs.Renumbered.{Numbering, StmtSame, TermSame, StmtsSame}
 use Rattle.trim_refines.proofs.Numbers.{ahead, behind, ahead_behind}
-use Rattle.trim_refines.proofs.Steps.{BodySame}
+use Rattle.trim_refines.proofs.States.{BodySame}
 use Rattle.trim_refines.proofs.Trimmed.{argument_marked, fixed, trimmed_same}
 use Rattle.trim_refines.proofs.Refined.{front_items}
 use Rattle.trim_stays_valid.proofs.Renamed.{assign_keeps, set_keeps, term_keeps, stmt_formed_same, term_formed_same}
