@@ -63,14 +63,14 @@ joined-tells terms a b h =
 
 -- ---- one edge comes from one block
 
-abbrev seen : List Term → ℕ → ℕ → ℕ
+abbrev pub seen : List Term → ℕ → ℕ → ℕ
 seen terms b i = count_by (λ e. e == b) (ends_of terms i)
 
-seen-step : (terms : List Term) (b i : ℕ) → seen terms b (i + 1) ≡ seen terms b i + count_by (λ e. e == b) (flat_map (edges terms) (cond (reached terms i) (i ∷ []) []))
+pub seen-step : (terms : List Term) (b i : ℕ) → seen terms b (i + 1) ≡ seen terms b i + count_by (λ e. e == b) (flat_map (edges terms) (cond (reached terms i) (i ∷ []) []))
 seen-step terms b i =
     ap (count_by (λ e. e == b)) (ends-step terms i) ∙ sum_by-append (λ (e : ℕ). cond (e == b) 1 0) (ends_of terms i) (flat_map (edges terms) (cond (reached terms i) (i ∷ []) []))
 
-seen-up : (terms : List Term) (b i k : ℕ) → seen terms b i ≤ seen terms b (i + k)
+pub seen-up : (terms : List Term) (b i k : ℕ) → seen terms b i ≤ seen terms b (i + k)
 seen-up terms b i zero = (let e : i + 0 ≡ i = omega arith in rw e (let l : seen terms b i ≤ seen terms b i = omega arith in l))
 seen-up terms b i (suc k) =
     let e : i + suc k ≡ (i + k) + 1 = omega arith in

@@ -1,51 +1,21 @@
 -- The statements of a block that stay, found from the last one on.
-use Rattle.std.proofs.Common.{◌≡◌, refl, sym, ap, ap₂, ◌∙◌, subst, ℕ, suc, ◌+◌, ◌<◌, ◌≤◌, Bool, true, false, if◌then◌else◌, List, [], ◌∷◌, ◌++◌, map, take, drop, reverse, length, get_or, set, append_assoc, length-append, arith}
+use Rattle.std.proofs.Common.{◌≡◌, refl, sym, ap, ◌∙◌, subst, ℕ, ◌+◌, ◌<◌, Bool, true, false, if◌then◌else◌, List, [], ◌∷◌, ◌++◌, map, drop, reverse, length, set, arith}
 use Rattle.std.specs.List.{All, Contains}
 use Rattle.std.proofs.lemmas.List.{reverse-append, get_or-set_same, length-set}
 use Rattle.std.proofs.lemmas.List.Elements.{All-contains, Contains-append_right}
 use Rattle.mir_syntax.specs.declared.body.Stmt.{Stmt}
 use Rattle.mir_syntax.specs.Tree.{Tree}
 use Rattle.mir_syntax.specs.Crate.{stmt_of}
+use Rattle.mir_syntax.proofs.Taken.{Taken, taken_whole}
 use Rattle.bit_rows.specs.Rows.{row_at}
 use Rattle.liveness.specs.Rows.{before_stmt, before_all}
 use Rattle.liveness.proofs.Carried.{row_then}
 use Rattle.liveness.proofs.Through.{length-before_all}
 use Rattle.dead_store.specs.Rounds.{set_locals, SetsBelow, goes, unless, staying}
 
-drop_front : {A : Type 0} (xs ys : List A) → drop (length xs) (xs ++ ys) ≡ ys
-drop_front [] ys = refl
-drop_front (x ∷ xs) ys = drop_front xs ys
-
--- what is left of the statements, and those that were taken
-pub record Taken (all left : List Stmt) : Type 0 where
-  pub parts : left ++ drop (length left) all ≡ all
-
-pub taken_none : (all : List Stmt) → Taken all all
-taken_none all = record { parts = ap (λ ys. all ++ ys) (past all) ∙ right all }
-  where
-    past : (xs : List Stmt) → drop (length xs) xs ≡ []
-    past [] = refl
-    past (x ∷ xs) = past xs
-
-    right : (xs : List Stmt) → xs ++ [] ≡ xs
-    right [] = refl
-    right (x ∷ xs) = ap (λ ys. x ∷ ys) (right xs)
-
 module _ (all left left2 : List Stmt) (s : Stmt) (t : Taken all left) (popped : left ≡ left2 ++ s ∷ []) where
-  whole : left2 ++ s ∷ drop (length left) all ≡ all
-  whole = sym (append_assoc left2 (s ∷ []) (drop (length left) all)) ∙ ap (λ xs. xs ++ drop (length left) all) (sym popped) ∙ t.parts
-
-  pub taken_next : drop (length left2) all ≡ s ∷ drop (length left) all
-  taken_next = ap (drop (length left2)) (sym whole) ∙ drop_front left2 (s ∷ drop (length left) all)
-
-  pub taken_more : Taken all left2
-  taken_more = record { parts = ap (λ ys. left2 ++ ys) taken_next ∙ whole }
-
   pub taken_sets : (n : ℕ) → SetsBelow n all → All (λ x. x < n) (set_locals s)
-  taken_sets n h = All-contains (λ s. All (λ x. x < n) (set_locals s)) all s h (subst (λ xs. Contains xs s) whole (Contains-append_right left2 (s ∷ drop (length left) all) s (0, omega arith, refl)))
-
-pub taken_all : (all left : List Stmt) → left ≡ [] → drop (length left) all ≡ all
-taken_all all left e = ap (λ (xs : List Stmt). drop (length xs) all) e
+  taken_sets n h = All-contains (λ s. All (λ x. x < n) (set_locals s)) all s h (subst (λ xs. Contains xs s) (taken_whole all left left2 s t popped) (Contains-append_right left2 (s ∷ drop (length left) all) s (0, omega arith, refl)))
 
 -- the row of what is live after the statements that were taken
 pub row_before : (live now : List (List Bool)) (row : ℕ) (ss : List Stmt) (trees : List Tree) → row < length live → now ≡ set live row (before_all (map (stmt_of trees) ss) (row_at live row)) → row_at now row ≡ before_all (map (stmt_of trees) ss) (row_at live row)

@@ -10,6 +10,7 @@ use Rattle.mir_syntax.specs.Tree.{Tree, scalar, empty, more, ref, ref_mut, named
 use Rattle.mir_syntax.specs.Crate.{TypedDef, TypedFunction, Crate, crate_of, def_of}
 use Rattle.mir_syntax.specs.Shapes.{Shape, drops_locals, is_destructor_of, destructor_from, shapes_from, shapes_of}
 use Rattle.mir_syntax.specs.Drops.{fn_number, own_destructor}
+use Rattle.mir_syntax.proofs.Places.{shapes_from-length}
 use Rattle.mir_rules.specs.DefinitionRules.{dropped_by_locals, dropped_by_args, dropped_by}
 use Rattle.drop_tables.specs.Marks.{own_of, is_marked, noted, has_one, drop_of}
 
@@ -112,13 +113,9 @@ own_marks (s ∷ D) (o ∷ found) same zero = first o (let e : option_map fn_num
     first (Some f) e = ap is_some e
 own_marks (s ∷ D) (o ∷ found) same (suc d) = own_marks D found (let e : map (option_map fn_number) found ≡ map own_destructor D = cc in e) d
 
-shapes_long : (functions : List TypedFunction) (n : ℕ) (defs : List TypedDef) → length (shapes_from functions n defs) ≡ length defs
-shapes_long functions n [] = refl
-shapes_long functions n (def ∷ defs) = ap suc (shapes_long functions (suc n) defs)
-
 pub shapes_count : (p : Program) → length (shapes_of (crate_of p)) ≡ length p.defs
 unfolding shapes_of
-shapes_count p = shapes_long (crate_of p).functions 0 (crate_of p).defs ∙ length-map p.defs (def_of (trees_of p.types))
+shapes_count p = shapes_from-length (crate_of p).functions 0 (crate_of p).defs ∙ length-map p.defs (def_of (trees_of p.types))
 
 pub found_long : (p : Program) (found : List (Option FnId)) → map (option_map fn_number) found ≡ map own_destructor (shapes_of (crate_of p)) → length found ≡ length p.defs
 found_long p found same = sym (length-map found (option_map fn_number)) ∙ (ap length same ∙ (length-map (shapes_of (crate_of p)) own_destructor ∙ shapes_count p))

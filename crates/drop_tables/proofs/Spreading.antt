@@ -15,6 +15,7 @@ use Rattle.mir_syntax.specs.Shapes.{Shape, shapes_of, needs_by}
 use Rattle.mir_syntax.proofs.Trees.{length-trees_of}
 use Rattle.mir_syntax.proofs.Places.{shape-at, shape-past}
 use Rattle.mir_syntax.proofs.InTable.{all-at}
+use Rattle.mir_syntax.proofs.Lists.{slice_get-none}
 use Rattle.mir_rules.specs.DefinitionRules.{holds_one}
 use Rattle.drop_tables.specs.Marks.{is_marked, variant_marked, spread}
 use Rattle.drop_tables.proofs.Marking.{variants_held, mark_last, mark_before}
@@ -38,11 +39,6 @@ one_more_mark old new at f b is long below here = (
       (ap (λ l. is_marked l at) is ∙ (mark_last old b at long ∙ here)),
 )
 
-slice_get_none : {A : Type 0} (xs : List A) (i : ℕ) → slice_get xs i ≡ None → length xs ≤ i
-slice_get_none [] i e = omega arith
-slice_get_none (x ∷ xs) zero e = absurd cc
-slice_get_none (x ∷ xs) (suc i) e = let later = slice_get_none xs i e in omega (arith, later)
-
 -- past the definitions nothing is marked
 pub all_marks : (p : Program) (own held : List Bool) (marks : ℕ → Bool) → length own ≡ length p.defs → length held ≡ length p.defs
     → ((d : ℕ) → d < length p.defs → is_marked held d ≡ (is_marked own d || holds_one marks (slice_get (shapes_of (crate_of p)) d)))
@@ -51,7 +47,7 @@ all_marks p own held marks long own_long below d = go (slice_get p.defs d) refl
   where
     go : (o : Option Def) → slice_get p.defs d ≡ o → is_marked held d ≡ (is_marked own d || holds_one marks (slice_get (shapes_of (crate_of p)) d))
     go None e =
-        let past : length p.defs ≤ d = slice_get_none p.defs d e in
+        let past : length p.defs ≤ d = slice_get-none p.defs d e in
         let nothing : is_marked own d ≡ false = get_or_past own d false (omega (arith, long, past)) in
         let empty : is_marked held d ≡ false = get_or_past held d false (omega (arith, own_long, past)) in
         empty ∙ sym (ap₂ (λ a (o : Option Shape). a || holds_one marks o) nothing (shape-past p d e))

@@ -6,10 +6,11 @@ use Rattle.std.proofs.lemmas.List.{length-set, get_or-set_same, get_or-set_other
 use Rattle.std.proofs.lemmas.List.Elements.{Contains-push_cases}
 use Rattle.std.proofs.lemmas.Option.{slice_get_within, slice_get-get_or, get_or_from_slice_get}
 use Rattle.std.proofs.lemmas.List.Sums.{sum_by-set, sum_by-cons}
+use Rattle.mir_syntax.proofs.Lists.{set_there, set_same}
 use Rattle.flow_engine.specs.declared.edges.Edge.{Edge}
 use Rattle.flow_engine.specs.Flow.{Arrow, Flow, Solves, AllFacts, Least, Lawful, starts_to, problem}
 use Rattle.flow_engine.specs.Solving.{IsUnder, IsWork, IsSent, IsGoing, IsLeaving}
-use Rattle.flow_engine.proofs.Lists.{some_one, get_set_same, get_set_other, set_same, none_in_empty, length-starts, arrow_is, arrow_to}
+use Rattle.flow_engine.proofs.Lists.{some_one, get_set_other, none_in_empty, length-starts, arrow_is, arrow_to}
 use Rattle.flow_engine.proofs.Laws.{Laws, laws_of, absorbs, climbs}
 
 module _ {A : Type 0} (Ok : A → Type 0) (Below : A → A → Type 0) (rank : A → ℕ) (h : ℕ) (p : Flow A) (laws : Laws Ok Below rank h p) where
@@ -36,7 +37,7 @@ module _ {A : Type 0} (Ok : A → Type 0) (Below : A → A → Type 0) (rank : A
     -- a fact of the next list is the new one, or the old one
     at_next : (b : ℕ) (z : A) → slice_get next b ≡ Some z → ((b ≡ e.to) × (z ≡ joined)) ⊎ ((b ≢ e.to) × (slice_get xs b ≡ Some z))
     at_next b z g = elim (cases_eq b e.to) [
-      | inl s ↦ inl (s, some_one (sym g ∙ ap (slice_get next) s ∙ get_set_same xs e.to y joined at_to))
+      | inl s ↦ inl (s, some_one (sym g ∙ ap (slice_get next) s ∙ set_there xs e.to joined y at_to))
       | inr ne ↦ inr (ne, sym (get_set_other xs e.to b joined ne) ∙ g)
     ]
 

@@ -3,10 +3,11 @@ use Rattle.std.proofs.Common.{◌≡◌, ◌⊎◌, inl, inr, refl, sym, ap, ap�
 use Rattle.std.proofs.lemmas.Bool.{cases_eq}
 use Rattle.std.proofs.lemmas.Option.{slice_get_within, slice_get-get_or, get_or_from_slice_get}
 use Rattle.std.proofs.lemmas.List.Sums.{sum_by-set, sum_by-cons}
+use Rattle.mir_syntax.proofs.Lists.{set_there}
 use Rattle.flow_engine.specs.declared.edges.Edge.{Edge}
 use Rattle.flow_engine.specs.Flow.{Arrow, Flow, Solves, AllFacts, Least, Lawful, problem}
 use Rattle.flow_engine.specs.Solving.{IsUnder}
-use Rattle.flow_engine.proofs.Lists.{some_one, get_set_same, get_set_other, length-starts, start_at, arrow_is, arrow_to}
+use Rattle.flow_engine.proofs.Lists.{some_one, get_set_other, length-starts, start_at, arrow_is, arrow_to}
 use Rattle.flow_engine.proofs.Laws.{Laws, laws_of}
 use Rattle.flow_engine.proofs.Going.{joined_under, starts_under}
 
@@ -97,7 +98,7 @@ module _ {A : Type 0} (Ok : A → Type 0) (Below : A → A → Type 0) (rank : A
 
     raised : (xs : List A) → IsUnder Ok Below p xs → Each xs → (r : Rising xs) → Each (set xs r.e.to (p.join r.y (r.e.flow r.x)))
     raised xs u each r b z g = elim (cases_eq b r.e.to) [
-      | inl s ↦ subst (R b) (some_one (sym (get_set_same xs r.e.to r.y (p.join r.y (r.e.flow r.x)) r.at_to) ∙ ap (slice_get (set xs r.e.to (p.join r.y (r.e.flow r.x)))) (sym s) ∙ g))
+      | inl s ↦ subst (R b) (some_one (sym (set_there xs r.e.to (p.join r.y (r.e.flow r.x)) r.y r.at_to) ∙ ap (slice_get (set xs r.e.to (p.join r.y (r.e.flow r.x)))) (sym s) ∙ g))
           (subst (λ k. R k (p.join r.y (r.e.flow r.x))) (sym s) (joins r.i r.e r.x r.y r.is (u.facts r.e.from r.x r.at_from) (u.facts r.e.to r.y r.at_to) (each r.e.from r.x r.at_from) (each r.e.to r.y r.at_to)))
       | inr ne ↦ each b z (sym (get_set_other xs r.e.to b (p.join r.y (r.e.flow r.x)) ne) ∙ g)
     ]

@@ -1,11 +1,12 @@
 -- Items of lists, and the lists of a problem.
-use Rattle.std.proofs.Common.{◌≡◌, ◌≢◌, ◌⊎◌, inl, inr, refl, sym, ap, ap₂, ◌∙◌, subst, ℕ, zero, suc, ◌+◌, ◌<◌, List, [], ◌∷◌, ◌++◌, length, get_or, set, take, map, Some, slice_get, arith}
-use Rattle.std.specs.List.{Contains, range_with_len}
+use Rattle.std.proofs.Common.{◌≡◌, ◌≢◌, ◌⊎◌, inl, inr, refl, sym, ap, ap₂, ◌∙◌, subst, ℕ, zero, suc, ◌+◌, ◌<◌, List, [], ◌∷◌, ◌++◌, length, get_or, set, take, Some, slice_get, arith}
+use Rattle.std.specs.List.{Contains}
 use Rattle.std.proofs.lemmas.Bool.{cases_eq}
 use Rattle.std.proofs.lemmas.List.{take_more, length-set, length-take-le}
-use Rattle.std.proofs.lemmas.List.FromFn.{map-range_with_len_more}
 use Rattle.std.proofs.lemmas.Option.{slice_get_read}
 use Rattle.std.proofs.lemmas.List.Elements.{Contains-push, Contains-append_left, Contains-push_cases}
+use Rattle.mir_syntax.proofs.Lists.{set_there}
+use Rattle.mir_syntax.proofs.Trees.{slice_get-front}
 use Rattle.flow_engine.specs.declared.edges.Edge.{Edge}
 use Rattle.flow_engine.specs.Solving.{IsLeaving}
 use Rattle.flow_engine.specs.Flow.{Arrow, starts_to, arrows_at}
@@ -13,22 +14,12 @@ use Rattle.flow_engine.specs.Flow.{Arrow, starts_to, arrows_at}
 pub some_one : {A : Type 0} {x y : A} → Some x ≡ Some y → x ≡ y
 some_one e = grind arith
 
-pub get_set_same : {A : Type 0} (xs : List A) (t : ℕ) (x y : A) → slice_get xs t ≡ Some x → slice_get (set xs t y) t ≡ Some y
-get_set_same [] t x y e = absurd (grind arith)
-get_set_same (z ∷ xs) zero x y e = refl
-get_set_same (z ∷ xs) (suc t) x y e = get_set_same xs t x y e
-
 pub get_set_other : {A : Type 0} (xs : List A) (t i : ℕ) (y : A) → i ≢ t → slice_get (set xs t y) i ≡ slice_get xs i
 get_set_other [] t i y ne = refl
 get_set_other (z ∷ xs) zero zero y ne = absurd (ne refl)
 get_set_other (z ∷ xs) zero (suc i) y ne = refl
 get_set_other (z ∷ xs) (suc t) zero y ne = refl
 get_set_other (z ∷ xs) (suc t) (suc i) y ne = get_set_other xs t i y (λ e. ne (ap suc e))
-
-pub set_same : {A : Type 0} (xs : List A) (t : ℕ) (x : A) → slice_get xs t ≡ Some x → set xs t x ≡ xs
-set_same [] t x e = refl
-set_same (z ∷ xs) zero x e = ap (λ y. y ∷ xs) (sym (some_one e))
-set_same (z ∷ xs) (suc t) x e = ap (λ ys. z ∷ ys) (set_same xs t x e)
 
 pub none_in_empty : {A : Type 0} (x : A) → Contains {X = A} [] x → ⊥
 none_in_empty x p = absurd (omega (arith, p.1))
@@ -69,18 +60,6 @@ arrow_to flow k [] i e q = absurd (grind arith)
 arrow_to {A} flow k (d ∷ es) zero e q = ap₂ (λ (d : Edge) n. Some (let r : Arrow A = record { from = d.from; to = d.to; flow = flow n } in r)) (some_one q) (let z : k ≡ k + 0 = omega arith in z)
 arrow_to {A} flow k (d ∷ es) (suc i) e q = arrow_to flow (suc k) es i e q ∙ ap (λ n. Some (let r : Arrow A = record { from = e.from; to = e.to; flow = flow n } in r)) (let z : suc k + i ≡ k + suc i = omega arith in z)
 
-map_same : (xs : List ℕ) → map (λ k. k) xs ≡ xs
-map_same [] = refl
-map_same (x ∷ xs) = ap (λ ys. x ∷ ys) (map_same xs)
-
-pub range_more : (n : ℕ) → range_with_len 0 (n + 1) ≡ range_with_len 0 n ++ n ∷ []
-range_more n = sym (map_same (range_with_len 0 (n + 1))) ∙ map-range_with_len_more (λ k. k) 0 n n (omega arith) ∙ ap (λ xs. xs ++ n ∷ []) (map_same (range_with_len 0 n))
-
-pub get_append : {A : Type 0} (xs ys : List A) (j : ℕ) (x : A) → slice_get xs j ≡ Some x → slice_get (xs ++ ys) j ≡ Some x
-get_append [] ys j x e = absurd (grind arith)
-get_append (z ∷ xs) ys zero x e = e
-get_append (z ∷ xs) ys (suc j) x e = get_append xs ys j x e
-
 pub get_last : {A : Type 0} (xs : List A) (y : A) (n : ℕ) → length xs ≡ n → slice_get (xs ++ y ∷ []) n ≡ Some y
 get_last [] y zero e = refl
 get_last [] y (suc n) e = absurd (omega arith)
@@ -119,7 +98,7 @@ leaving_more es blocks lists i d list list2 l v low read pushed = record {
 
     at_new : (b : ℕ) (found : List ℕ) → slice_get (set lists (get_or es i d).from list2) b ≡ Some found → ((b ≡ (get_or es i d).from) × (found ≡ list2)) ⊎ ((b ≢ (get_or es i d).from) × (slice_get lists b ≡ Some found))
     at_new b found g = elim (cases_eq b (get_or es i d).from) [
-      | inl s ↦ inl (s, some_one (sym g ∙ ap (slice_get (set lists (get_or es i d).from list2)) s ∙ get_set_same lists (get_or es i d).from list list2 at_t))
+      | inl s ↦ inl (s, some_one (sym g ∙ ap (slice_get (set lists (get_or es i d).from list2)) s ∙ set_there lists (get_or es i d).from list2 list at_t))
       | inr ne ↦ inr (ne, sym (get_set_other lists (get_or es i d).from b list2 ne) ∙ g)
     ]
 
@@ -139,7 +118,7 @@ leaving_more es blocks lists i d list list2 l v low read pushed = record {
     ]
 
     longer : (j : ℕ) (e : Edge) → slice_get (take i es) j ≡ Some e → slice_get (take (i + 1) es) j ≡ Some e
-    longer j e at = ap (λ xs. slice_get xs j) more ∙ get_append (take i es) (get_or es i d ∷ []) j e at
+    longer j e at = ap (λ xs. slice_get xs j) more ∙ slice_get-front (take i es) (get_or es i d ∷ []) j e at
 
     only : (b j : ℕ) (found : List ℕ) → slice_get (set lists (get_or es i d).from list2) b ≡ Some found → Contains found j → (e : Edge) × (slice_get (take (i + 1) es) j ≡ Some e) × (e.from ≡ b)
     only b j found g c = elim (at_new b found g) [

@@ -1,9 +1,8 @@
 -- A row of live locals that is carried over a statement.
 use Rattle.std.proofs.Common.{◌≡◌, refl, sym, ap, ap₂, ◌∙◌, ℕ, suc, ◌+◌, ◌<◌, List, [], ◌∷◌, ◌++◌, Bool, map, drop, length, get_or, set, arith, drop-cons}
 use Rattle.std.specs.List.{flat_map}
-use Rattle.std.proofs.lemmas.List.{map-append, append-nil, set-set, length-set, get_or-set_same, set-get_or}
-use Rattle.bit_rows.specs.Rows.{row_at, marked}
-use Rattle.bit_rows.proofs.Marks.{marked-append}
+use Rattle.std.proofs.lemmas.List.{map-append, append-nil, set-set, get_or-set_same, set-get_or}
+use Rattle.bit_rows.specs.Rows.{row_at}
 use Rattle.mir_syntax.specs.declared.body.Operand.{Operand}
 use Rattle.mir_syntax.specs.declared.body.Rvalue.{Rvalue}
 use Rattle.mir_syntax.specs.declared.body.Rvalue.TheVariants as rvalue
@@ -13,7 +12,7 @@ use Rattle.mir_syntax.specs.declared.body.Stmt.TheVariants as stmt
 use Rattle.mir_syntax.specs.Crate.{TypedStmt, rvalue_of, stmt_of}
 use Rattle.mir_rules.specs.Parts.{operand_places, rvalue_places}
 use Rattle.liveness.specs.Live.{place_local, operand_locals, stmt_fills}
-use Rattle.liveness.specs.Rows.{cleared, before_stmt, before_all, bare_rvalue_reads, bare_fills}
+use Rattle.liveness.specs.Rows.{before_stmt, before_all, bare_rvalue_reads, bare_fills}
 
 two : (a b : Operand) → map place_local (operand_places a ++ (operand_places b ++ [])) ≡ operand_locals a ++ operand_locals b
 two a b = ap (λ ps. map place_local (operand_places a ++ ps)) (append-nil (operand_places b)) ∙ map-append place_local (operand_places a) (operand_places b)
@@ -21,9 +20,9 @@ two a b = ap (λ ps. map place_local (operand_places a ++ ps)) (append-nil (oper
 one : (a : Operand) → map place_local (operand_places a ++ []) ≡ operand_locals a
 one a = ap (map place_local) (append-nil (operand_places a))
 
-many : (parts : List Operand) → map place_local (flat_map operand_places parts) ≡ flat_map operand_locals parts
-many [] = refl
-many (a ∷ parts) = map-append place_local (operand_places a) (flat_map operand_places parts) ∙ ap (λ xs. operand_locals a ++ xs) (many parts)
+pub operands_locals : (parts : List Operand) → map place_local (flat_map operand_places parts) ≡ flat_map operand_locals parts
+operands_locals [] = refl
+operands_locals (a ∷ parts) = map-append place_local (operand_places a) (flat_map operand_places parts) ∙ ap (λ xs. operand_locals a ++ xs) (operands_locals parts)
 
 -- an rvalue reads the same with and without ids
 pub reads_same : (trees : List Tree) (r : Rvalue) → map place_local (rvalue_places (rvalue_of trees r)) ≡ bare_rvalue_reads r
@@ -35,8 +34,8 @@ reads_same trees (rvalue.Cast a ty) = one a
 reads_same trees (rvalue.Ref p) = refl
 reads_same trees (rvalue.RefMut p) = refl
 reads_same trees (rvalue.Discriminant p) = refl
-reads_same trees (rvalue.Tuple parts) = many parts
-reads_same trees (rvalue.Build d v parts) = many parts
+reads_same trees (rvalue.Tuple parts) = operands_locals parts
+reads_same trees (rvalue.Build d v parts) = operands_locals parts
 
 -- one row changes, and changes again
 pub row_then : (rows rows2 rows3 : List (List Bool)) (r : ℕ) (f g : List Bool → List Bool) → r < length rows → rows2 ≡ set rows r (f (row_at rows r)) → rows3 ≡ set rows2 r (g (row_at rows2 r)) → rows3 ≡ set rows r (g (f (row_at rows r)))

@@ -1,5 +1,5 @@
 -- Paths through types with a destructor.
-use Rattle.std.proofs.Common.{◌≡◌, refl, ap, ◌∙◌, ℕ, suc, ◌<◌, Bool, true, false, ◌||◌, List, [], ◌∷◌, length, get_or, drop, drop-cons, Option, Some, None, is_some}
+use Rattle.std.proofs.Common.{◌≡◌, refl, ap, ◌∙◌, ℕ, suc, ◌<◌, true, false, ◌||◌, List, length, get_or, drop, drop-cons, Option, Some, None, is_some}
 use Rattle.std.specs.Option.{option_map}
 use Rattle.mir_syntax.specs.declared.types.FnId.{FnId}
 use Rattle.mir_syntax.specs.Drops.{fn_number}
@@ -7,10 +7,7 @@ use Rattle.mir_syntax.specs.Tree.{Tree}
 use Rattle.mir_syntax.specs.Shapes.{Shape, proj_ty, destructor_of}
 use Rattle.mir_syntax.specs.declared.body.Proj.{Proj}
 use Rattle.mir_rules.specs.BodyRules.{path_through}
-
-pub through_none : (D : List Shape) (ps : List Proj) → path_through D None ps ≡ false
-through_none D [] = refl
-through_none D (p ∷ ps) = refl
+use Rattle.mir_rules.proofs.Destructors.{through_none}
 
 pub is_some-map : (o : Option FnId) → is_some (option_map fn_number o) ≡ is_some o
 is_some-map None = refl

@@ -15,6 +15,7 @@ use Rattle.mir_text.specs.Names.{Names}
 use Rattle.mir_text.specs.NamedBodies.{Declared, or_else, stmt_named, stmts_named}
 use Rattle.mir_text.specs.NameFaults.{Fault, each}
 use Rattle.mir_text.specs.ReadLines.{stmt_line_in, line_if, first_of}
+use Rattle.mir_text.proofs.Numbered.{or_else-none}
 use Rattle.mir_tree.specs.declared.Lined.{Lined}
 use Rattle.mir_tree.specs.declared.body.StmtText.{StmtText}
 use Rattle.mir_tree.specs.Bodies.{lined, stmt_rule}
@@ -90,12 +91,8 @@ pub list_ended : {X Y : Type 0} (f : X → List Y) (left : List X) (made whole :
 list_ended f [] made whole short h = sym (append-nil made) ∙ h
 list_ended f (x ∷ left) made whole short h = absurd (omega arith)
 
-or-none : (o : Option ℕ) → or_else o None ≡ o
-or-none None = refl
-or-none (Some n) = refl
-
 pub wrong_over : {X : Type 0} (f : X → List ℕ) (left : List X) (w whole : Option ℕ) → length left < 1 → or_else w (first_of (each f left)) ≡ whole → w ≡ whole
-wrong_over f [] w whole short h = sym (or-none w) ∙ h
+wrong_over f [] w whole short h = sym (or_else-none w) ∙ h
 wrong_over f (x ∷ left) w whole short h = absurd (omega arith)
 
 pub faults_over : {X : Type 0} (f : X → List Fault) (left : List X) (kept whole : Option Fault) → length left < 1 → noted kept (each f left) ≡ whole → kept ≡ whole

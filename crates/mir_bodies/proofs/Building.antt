@@ -1,5 +1,5 @@
 -- What a path builds.
-use Rattle.std.proofs.Common.{◌≡◌, ℕ, zero, suc, ◌+◌, ◌-◌, Bool, true, false, List, [], ◌∷◌, ◌++◌, map, length, take, codes, slice_get, Option, Some, None, refl, sym, ap, ap₂, ◌∙◌, append_assoc, arith, length-append}
+use Rattle.std.proofs.Common.{◌≡◌, ℕ, ◌+◌, ◌-◌, Bool, true, false, List, [], ◌∷◌, ◌++◌, map, length, take, codes, slice_get, Option, Some, None, refl, sym, ap, ap₂, ◌∙◌, append_assoc, arith, length-append}
 use Rattle.std.specs.Option.{option_map}
 use Rattle.std.proofs.lemmas.Option.{slice_get-map}
 use Rattle.std.proofs.Math.Seq.{take-append_seam}
@@ -13,6 +13,7 @@ use Rattle.mir_text.specs.Words.{place_in}
 use Rattle.mir_text.specs.Names.{Names, Strings, string_at, path_bytes, last_name, without_last, within}
 use Rattle.mir_text.specs.NamedBodies.{struct_at, enum_variant_at, variant_in, or_else}
 use Rattle.mir_text.specs.NameFaults.{def_number, variant_number, built_variant, field_names}
+use Rattle.mir_text.proofs.Numbered.{def_numbered, variant_numbered}
 use Rattle.mir_tree.specs.Types.{path_of}
 use Rattle.mir_bodies.specs.Places.{name_of, variants_if_enum, enum_variants_of}
 use Rattle.mir_bodies.specs.Builds.{pair_with, variant_by_path, variant_by_rule, variant_of_pair, field_name}
@@ -139,16 +140,6 @@ or_other r None p h is = is
 or_other r (Some y) p h is = absurd cc
 
 -- ---- what is built
-
-def_numbered : (defs : List TypedDef) (d : ℕ) → slice_get defs d ≡ def_number defs d
-def_numbered [] d = refl
-def_numbered (x ∷ defs) zero = refl
-def_numbered (x ∷ defs) (suc d) = def_numbered defs d
-
-variant_numbered : (vs : List TypedVariant) (k : ℕ) → slice_get vs k ≡ variant_number vs k
-variant_numbered [] k = refl
-variant_numbered (v ∷ vs) zero = refl
-variant_numbered (v ∷ vs) (suc k) = variant_numbered vs k
 
 pub none_built : (names : Names) (trees : List Tree) (defs : List Def) (d k : ℕ) → names.defs ≡ map (def_of trees) defs → None ≡ slice_get defs d → None ≡ built_variant names (d, k)
 none_built names trees defs d k is h =

@@ -5,6 +5,7 @@ use Rattle.std.specs.declared.hash.BuildHasherDefault.{BuildHasherDefault}
 use Rattle.std.specs.HashMap.{HashMap, get}
 use Rattle.mir_syntax.specs.declared.types.TyId.{TyId}
 use Rattle.mir_text.specs.NamedBodies.{or_else}
+use Rattle.mir_text.proofs.Numbered.{or_else-none}
 use Rattle.mir_bodies.specs.Locals.{first_ty, AreFirsts}
 
 head : (p : Bool) (t : TyId) (F G H : Option TyId) → F ≡ or_else G H → cond p (Some t) F ≡ or_else (cond p (Some t) G) H
@@ -16,19 +17,15 @@ first-append [] x t q = refl
 first-append (d ∷ ds) x t q =
     head (nat_eq d.0 q) d.1 (first_ty (ds ++ (x, t) ∷ []) q) (first_ty ds q) (cond (nat_eq x q) (Some t) None) (first-append ds x t q)
 
-or-none : (o : Option TyId) → or_else o None ≡ o
-or-none None = refl
-or-none (Some t) = refl
-
 new-at : (r : Bool) (o : Option TyId) (t : TyId) → (r ≡ true → o ≡ None) → or_else o (cond r (Some t) None) ≡ cond r (Some t) o
 new-at true None t h = refl
 new-at true (Some u) t h = let e : Some u ≡ None = h refl in absurd cc
-new-at false o t h = or-none o
+new-at false o t h = or_else-none o
 
 old-at : (r : Bool) (o : Option TyId) (t : TyId) → (r ≡ true → is_some o ≡ true) → or_else o (cond r (Some t) None) ≡ o
 old-at true None t h = let e : false ≡ true = h refl in absurd cc
 old-at true (Some u) t h = refl
-old-at false o t h = or-none o
+old-at false o t h = or_else-none o
 
 absent : (o : Option TyId) → is_some o ≡ false → o ≡ None
 absent None h = refl

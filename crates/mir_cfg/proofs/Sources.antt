@@ -1,15 +1,15 @@
 -- The edges of a body, block by block.
-use Rattle.std.proofs.Common.{◌≡◌, ◌⊎◌, inl, inr, refl, sym, ap, ap₂, ◌∙◌, ℕ, ◌+◌, ◌<◌, List, [], ◌∷◌, ◌++◌, Bool, true, false, ◌==◌, cond, map, length, get_or, set, take, arith, append-nil, append_assoc}
-use Rattle.std.specs.List.{filter, flat_map, range_with_len, All}
+use Rattle.std.proofs.Common.{◌≡◌, ◌⊎◌, inl, inr, refl, sym, ap, ◌∙◌, ℕ, ◌+◌, ◌<◌, List, [], ◌∷◌, ◌++◌, Bool, true, false, ◌==◌, cond, map, length, get_or, set, take, arith, append-nil, append_assoc}
+use Rattle.std.specs.List.{filter, flat_map, range_with_len}
 use Rattle.std.proofs.lemmas.Bool.{cases_eq, eq-eqb, ne_eqb}
-use Rattle.std.proofs.lemmas.List.{take_more, map-append, get_or-set_same, get_or-set_other, length-set, flat_map_more, length-map, get_or-map}
+use Rattle.std.proofs.lemmas.List.{take_more, map-append, get_or-set_same, get_or-set_other, length-set, flat_map_more, get_or-map}
 use Rattle.std.proofs.lemmas.List.Elements.{filter-append}
-use Rattle.std.proofs.lemmas.List.FromFn.{fill_by_all, map-range_with_len_more}
 use Rattle.mir_syntax.specs.declared.body.Block.{Block}
 use Rattle.mir_syntax.specs.declared.body.Term.{Term}
 use Rattle.mir_syntax.specs.declared.body.Term.TheVariants.{Unreachable}
+use Rattle.mir_syntax.proofs.Lists.{range_more}
 use Rattle.mir_rules.specs.Parts.{targets}
-use Rattle.mir_cfg.specs.Paths.{block_term, exits, edges_between, sources}
+use Rattle.mir_cfg.specs.Paths.{block_term, exits, edges_between}
 
 -- of a list with one more target, as often as it is the block
 pub edge_more : (from b : ℕ) (ts : List ℕ) (t : ℕ) → map (λ _. from) (filter (λ c. c == b) (ts ++ t ∷ [])) ≡ map (λ _. from) (filter (λ c. c == b) ts) ++ cond (t == b) (from ∷ []) []
@@ -44,13 +44,6 @@ added_more old lists from to i d l long within all lists2 e = (ap length e ∙ l
         get_or-set_other lists (get_or to i d) b (get_or lists (get_or to i d) [] ++ from ∷ []) [] ne
         ∙ all b m
         ∙ ap (λ xs. get_or old b [] ++ xs) (sym (append-nil (map (λ _. from) (filter (λ c. c == b) (take i to)))) ∙ ap (λ q. map (λ _. from) (filter (λ c. c == b) (take i to)) ++ cond q (from ∷ []) []) (sym (ne_eqb (get_or to i d) b (λ f. ne (sym f)))) ∙ sym (whole b))
-
-range_more : (n : ℕ) → range_with_len 0 (n + 1) ≡ range_with_len 0 n ++ n ∷ []
-range_more n = sym (map_same (range_with_len 0 (n + 1))) ∙ map-range_with_len_more (λ k. k) 0 n n (omega arith) ∙ ap (λ xs. xs ++ n ∷ []) (map_same (range_with_len 0 n))
-  where
-    map_same : (xs : List ℕ) → map (λ k. k) xs ≡ xs
-    map_same [] = refl
-    map_same (x ∷ xs) = ap (λ ys. x ∷ ys) (map_same xs)
 
 -- one more block's edges
 pub sources_more : (terms : List Term) (b n : ℕ) (list list2 : List ℕ) → list ≡ flat_map (edges_between terms b) (range_with_len 0 n) → list2 ≡ list ++ edges_between terms b n → list2 ≡ flat_map (edges_between terms b) (range_with_len 0 (n + 1))

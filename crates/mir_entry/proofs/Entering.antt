@@ -11,7 +11,7 @@ use Rattle.mir_syntax.specs.declared.program.Program.{Program}
 use Rattle.mir_syntax.specs.Tree.{Tree, empty, more, tuple_of, at_id, at_ids, trees_of}
 use Rattle.mir_syntax.specs.Crate.{TypedBody, crate_of, body_of, function_of, def_of, variant_of}
 use Rattle.mir_syntax.specs.Shapes.{Shape, shape_of, fields_tuple}
-use Rattle.mir_syntax.proofs.Places.{shape-at, shape-past}
+use Rattle.mir_syntax.proofs.Places.{shape-at, shape-past, at_ids-tuple}
 use Rattle.mir_rules.proofs.Lists.{list_all_true-at}
 use Rattle.mir_semantics.specs.Values.{listed}
 use Rattle.mir_semantics.specs.Step.{body_in}
@@ -32,6 +32,7 @@ use Rattle.std.specs.Prelude.{◌==◌, Result, Ok, Err, IsErrAnd}
 use Rattle.mir_entry.specs.declared.entries.EntryFault.{EntryFault}
 use Rattle.mir_entry.specs.declared.entries.EntryFault.TheVariants as fault
 use Rattle.mir_syntax.specs.declared.types.Def.{Def}
+use Rattle.mir_machine.proofs.Entering.{body_there}
 use Rattle.mir_entry.specs.Entering.{few_variants, signature, Enters, Refuses, LeavesOver, Strays}
 use Rattle.mir_entry.proofs.Readings.{Few, reading_sound, reading_complete}
 
@@ -49,26 +50,19 @@ drop_one : {A B : Type 0} (g : A → B) (xs : List A) → drop 1 (map g xs) ≡ 
 drop_one g [] = refl
 drop_one g (x ∷ xs) = refl
 
-tuple_ids : (trees : List Tree) (ids : List TyId) → at_ids trees ids ≡ tuple_of (map (at_id trees) ids)
-tuple_ids trees [] = refl
-tuple_ids trees (id ∷ ids) = ap (more (at_id trees id)) (tuple_ids trees ids)
-
 signature_types : (trees : List Tree) (b : Body) → result_and_args (body_of trees b) ≡ map (at_id trees) (signature b)
 signature_types trees b = take-map (at_id trees) (suc b.args) b.locals ∙ ap (λ n. map (at_id trees) (take n b.locals)) (sym (add-one b.args))
 
 all_types : (trees : List Tree) (b : Body) → at_ids trees (signature b) ≡ tuple_of (result_and_args (body_of trees b))
-all_types trees b = tuple_ids trees (signature b) ∙ ap tuple_of (sym (signature_types trees b))
+all_types trees b = at_ids-tuple trees (signature b) ∙ ap tuple_of (sym (signature_types trees b))
 
 arguments_at : (trees : List Tree) (b : Body) → map (at_id trees) (drop 1 (signature b)) ≡ arg_types (body_of trees b)
 arguments_at trees b = sym (ap (drop 1) (signature_types trees b) ∙ drop_one (at_id trees) (signature b))
 
 argument_types : (trees : List Tree) (b : Body) → at_ids trees (drop 1 (signature b)) ≡ tuple_of (arg_types (body_of trees b))
-argument_types trees b = tuple_ids trees (drop 1 (signature b)) ∙ ap tuple_of (arguments_at trees b)
+argument_types trees b = at_ids-tuple trees (drop 1 (signature b)) ∙ ap tuple_of (arguments_at trees b)
 
 -- ---- entries that are made
-
-found_body : (p : Program) (k : ℕ) (g : Function) → slice_get p.functions k ≡ Some g → slice_get (code_in p).bodies k ≡ Some (body_of (trees_of p.types) g.body)
-found_body p k g h = body_at p k ∙ ap (option_map (λ x. body_of (trees_of p.types) x.body)) h
 
 pub entered : (p : Program) (g : Function) (is : List ℤ) (call : EntryCall) → slice_get p.functions call.f.0 ≡ Some g → Enters p g.body is call.args → IsEntry (code_in p) (entry_in call)
 entered p g is call h enters =
@@ -77,7 +71,7 @@ entered p g is call h enters =
     let no : holds_reference (shapes_in p) (tuple_of (result_and_args (body_of trees g.body))) ≡ false = ap (holds_reference (shapes_in p)) (sym (all_types trees g.body)) ∙ enters.plain in
     record {
       body = body_of trees g.body;
-      there = found_body p call.f.0 g h;
+      there = body_there p call.f.0 g h;
       plain = ap not no;
       typed = ap (λ t. has_type (shapes_in p) t (fields_of call.args)) (sym (argument_types trees g.body)) ∙ front.is_typed;
     }
@@ -96,7 +90,7 @@ entered_flat p k g is args h enters body there =
       typed = ap (λ t. has_type (shapes_in p) t (fields_of args)) (sym types) ∙ front.is_typed;
       form = ap (λ t. flat (shapes_in p) t (fields_of args)) (sym types) ∙ front.is_form ∙ ap Some whole;
     } in
-    subst (λ b. AreFlat (shapes_in p) (arg_types b) is (map value_of args)) (same_body (slice_get (code_in p).bodies k) (body_of trees g.body) body (found_body p k g h) there) flats
+    subst (λ b. AreFlat (shapes_in p) (arg_types b) is (map value_of args)) (same_body (slice_get (code_in p).bodies k) (body_of trees g.body) body (body_there p k g h) there) flats
 
 -- ---- entries that are refused
 
@@ -108,13 +102,13 @@ pub not_entered : (p : Program) → Few (shapes_in p) → (k : ℕ) (g : Functio
 not_entered p few k g is h (inl refers) body e there at entry flats =
     let trees = trees_of p.types in
     let own : slice_get (code_in p).bodies k ≡ Some entry.body = ap (slice_get (code_in p).bodies) (sym at) ∙ entry.there in
-    let same = same_body (slice_get (code_in p).bodies k) (body_of trees g.body) entry.body (found_body p k g h) own in
+    let same = same_body (slice_get (code_in p).bodies k) (body_of trees g.body) entry.body (body_there p k g h) own in
     let yes : holds_reference (shapes_in p) (tuple_of (result_and_args entry.body)) ≡ true = ap (λ b. holds_reference (shapes_in p) (tuple_of (result_and_args b))) (sym same) ∙ ap (holds_reference (shapes_in p)) (sym (all_types trees g.body)) ∙ refers in
     let wrong : false ≡ true = sym (ap not yes) ∙ entry.plain in
     cc
 not_entered p few k g is h (inr none) body e there at entry flats =
     let trees = trees_of p.types in
-    let same = same_body (slice_get (code_in p).bodies k) (body_of trees g.body) body (found_body p k g h) there in
+    let same = same_body (slice_get (code_in p).bodies k) (body_of trees g.body) body (body_there p k g h) there in
     let types : at_ids trees (drop 1 (signature g.body)) ≡ tuple_of (arg_types body) = argument_types trees g.body ∙ ap (λ b. tuple_of (arg_types b)) same in
     let read = reading_complete (shapes_in p) few (tuple_of (arg_types body)) (listed e.args) is [] flats.typed flats.form in
     none (listed e.args) (ap (λ t. reading (shapes_in p) t is) types ∙ ap (reading (shapes_in p) (tuple_of (arg_types body))) (sym (append-nil is)) ∙ read)
@@ -137,7 +131,7 @@ over_read p b is args rest types none drops read e off = record {
 begin_flat : (D : List Shape) (trees : List Tree) (ids : List TyId) (is rest : List ℤ) (values : List Datum) → reading D (at_ids trees ids) is ≡ Some (fields_of values, rest) → BeginFlat D (map (at_id trees) ids) is rest
 begin_flat D trees ids is rest values h =
     let front = reading_sound D (at_ids trees ids) is (fields_of values) rest h in
-    let types = tuple_ids trees ids in
+    let types = at_ids-tuple trees ids in
     record {
       front = front.front;
       values = map value_of values;
@@ -186,7 +180,7 @@ misfits_in p few b is k (inr (plain, inr (over, count))) = inr (ap not (ap (hold
 pub misfits : (p : Program) → Few (shapes_in p) → (f : ℕ) (g : Function) (is : List ℤ) (k : ℕ) → slice_get p.functions f ≡ Some g → Strays p g.body is k
     → (body : TypedBody) → slice_get (code_in p).bodies f ≡ Some body → Misfits (shapes_in p) body is k
 misfits p few f g is k h strays body there =
-    subst (λ b. Misfits (shapes_in p) b is k) (same_body (slice_get (code_in p).bodies f) (body_of (trees_of p.types) g.body) body (found_body p f g h) there) (misfits_in p few g.body is k strays)
+    subst (λ b. Misfits (shapes_in p) b is k) (same_body (slice_get (code_in p).bodies f) (body_of (trees_of p.types) g.body) body (body_there p f g h) there) (misfits_in p few g.body is k strays)
 
 -- ---- programs whose variants have numbers
 

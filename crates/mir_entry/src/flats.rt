@@ -10,10 +10,11 @@ ghost use Rattle.mir_meaning.specs.Views.{value_of, fields_of};
 ghost use Rattle.mir_machine.specs.Ends.{integer_in};
 ghost use Rattle.mir_entry.specs.Pushed.{pushed};
 
-use crate::splits::{parts, split_data, split_fields, split_types, variant};
+use crate::splits::{parts, variant};
 use mir_machine::integer;
 use mir_meaning::datum::Datum;
 use mir_meaning::operand::{number_of, scalar_of};
+use mir_meaning::split::{split_data, split_fields, split_types};
 use mir_meaning::types::ty;
 use mir_syntax::{Field, List, Number, OutOfMemory, Program, ScalarTy, Ty, TyId};
 use std::alloc::Global;

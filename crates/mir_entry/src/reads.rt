@@ -10,9 +10,10 @@ ghost use Rattle.mir_entry.specs.Readings as spec;
 ghost use Rattle.mir_entry.specs.Readings.{read_by, read_def, integers_of};
 
 use crate::scalars::scalar_bits;
-use crate::splits::{split_fields, split_numbers, split_types};
+use crate::splits::split_numbers;
 use mir_meaning::datum::Datum;
 use mir_meaning::operand::scalar_of;
+use mir_meaning::split::{split_fields, split_types};
 use mir_meaning::types::ty;
 use mir_syntax::{Field, List, Number, OutOfMemory, Program, ScalarTy, Ty, TyId, Variant};
 use std::alloc::Global;

@@ -5,37 +5,7 @@ ghost use Rattle.mir_meaning.specs.Views.{value_of, fields_of};
 ghost use Rattle.mir_entry.specs.Pushed.{is_listed};
 
 use mir_meaning::datum::Datum;
-use mir_syntax::{Field, Function, Number, TyId};
-
-/// The type that comes first, and those behind it.
-pub fn split_types(types: &[TyId]) -> Option<(TyId, &[TyId])>
-    ensures { MatchOption result (types.now ≡ []) (λ on. types.now ≡ on.0 ∷ on.1.now) }
-{
-    match types {
-        [first, rest @ ..] => Some((*first, rest)),
-        [] => None,
-    }
-}
-
-/// The field that comes first, and those behind it.
-pub fn split_fields(fields: &[Field]) -> Option<(&Field, &[Field])>
-    ensures { MatchOption result (fields.now ≡ []) (λ on. fields.now ≡ on.0.now ∷ on.1.now) }
-{
-    match fields {
-        [first, rest @ ..] => Some((first, rest)),
-        [] => None,
-    }
-}
-
-/// The value that comes first, and those behind it.
-pub fn split_data(values: &[Datum]) -> Option<(&Datum, &[Datum])>
-    ensures { MatchOption result (values.now ≡ []) (λ on. values.now ≡ on.0.now ∷ on.1.now) }
-{
-    match values {
-        [first, rest @ ..] => Some((first, rest)),
-        [] => None,
-    }
-}
+use mir_syntax::{Function, Number};
 
 /// The number that comes first, and those behind it.
 pub fn split_numbers(numbers: &[Number]) -> Option<(Number, &[Number])>

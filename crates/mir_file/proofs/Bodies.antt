@@ -20,6 +20,7 @@ use Rattle.mir_text.specs.Naming.{declared, locals_from, inline_named, function_
 use Rattle.mir_text.specs.NameFaults.{Fault, each, labels_of, block_faults, fn_faults, first_fault}
 use Rattle.mir_text.specs.PartLines.{LinedBlock}
 use Rattle.mir_text.specs.ReadLines.{first_of, block_lines, wrong_in_block}
+use Rattle.mir_text.proofs.Numbered.{or_else-none}
 use Rattle.mir_tree.specs.declared.body.BlockText.{BlockText}
 use Rattle.mir_tree.specs.declared.item.FnText.{FnText}
 use Rattle.mir_tree.specs.Bodies.{lined_block}
@@ -96,10 +97,6 @@ or-assoc : (a b c : Option ℕ) → or_else (or_else a b) c ≡ or_else a (or_el
 or-assoc None b c = refl
 or-assoc (Some n) b c = refl
 
-or-none : (o : Option ℕ) → or_else o None ≡ o
-or-none None = refl
-or-none (Some n) = refl
-
 -- the lines of one part more
 pub first_step : (kept later whole : Option ℕ) (here rest : List ℕ) → later ≡ or_else kept (first_of here) → or_else kept (first_of (here ++ rest)) ≡ whole → or_else later (first_of rest) ≡ whole
 first_step kept later whole here rest is h =
@@ -107,7 +104,7 @@ first_step kept later whole here rest is h =
 
 pub first_ended : {Z : Type 0} (of : List Z → List ℕ) (left : List Z) (kept whole : Option ℕ) → length left < 1 → of [] ≡ [] → or_else kept (first_of (of left)) ≡ whole → kept ≡ whole
 first_ended of left kept whole short nil h =
-    sym (or-none kept) ∙ ap (λ l. or_else kept (first_of l)) (sym nil) ∙ ap (λ l. or_else kept (first_of (of l))) (sym (none_left left short)) ∙ h
+    sym (or_else-none kept) ∙ ap (λ l. or_else kept (first_of l)) (sym nil) ∙ ap (λ l. or_else kept (first_of (of l))) (sym (none_left left short)) ∙ h
 
 -- ---- a function
 

@@ -2,6 +2,7 @@
 use Rattle.std.proofs.Common.{◌≡◌, ℕ, zero, suc, ◌+◌, ◌<◌, ◌≤◌, List, [], ◌∷◌, ◌++◌, map, take, length, Some, None, slice_get, refl, sym, ap, ap₂, ◌∙◌, arith, length-append}
 use Rattle.mir_syntax.specs.declared.lines.Lines.{Lines}
 use Rattle.mir_syntax.proofs.Trees.{slice_get-front}
+use Rattle.mir_syntax.proofs.Lists.{slice_get-behind}
 use Rattle.mir_text.specs.NameFaults.{first_fault}
 use Rattle.mir_rules.specs.Broken.{Spot, gather}
 use Rattle.mir_rules.specs.Faults.{line_at, by_code}
@@ -11,11 +12,6 @@ use Rattle.mir_limits.specs.Answer.{Reaches}
 use Rattle.mir_limits.proofs.Gathered.{append_more, gather_take}
 
 -- ---- walks that find one at each item
-
-pub absent : {A : Type 0} (xs : List A) (k : ℕ) → slice_get xs k ≡ None → length xs ≤ k
-absent [] k h = omega arith
-absent (x ∷ xs) zero h = absurd cc
-absent (x ∷ xs) (suc k) h = let rest = absent xs k h in omega arith
 
 module _ {A B : Type 0} (find : ℕ → A → List B) (at : ℕ → B) (one : (i : ℕ) (x : A) → find i x ≡ at i ∷ []) where
   single_long_from : (n : ℕ) (xs : List A) → length (gather find n xs) ≡ length xs
@@ -63,12 +59,6 @@ none_past lines code limit spots h = ap (λ l. first_fault (map (by_code lines) 
 
 -- ---- a number on its way through a walk
 
-slice_get_behind : {A : Type 0} (xs ys : List A) (n : ℕ) → slice_get (xs ++ ys) (length xs + n) ≡ slice_get ys n
-slice_get_behind [] ys n = let same : 0 + n ≡ n = omega arith in ap (slice_get ys) same
-slice_get_behind (x ∷ xs) ys n =
-    let next : suc (length xs) + n ≡ suc (length xs + n) = omega arith in
-    ap (slice_get (x ∷ (xs ++ ys))) next ∙ slice_get_behind xs ys n
-
 gather_split : {A B : Type 0} (find : ℕ → A → List B) (n : ℕ) (xs : List A) (k : ℕ) (x : A) → slice_get xs k ≡ Some x → (rest : List B) × (gather find n xs ≡ gather find n (take k xs) ++ (find (k + n) x ++ rest))
 gather_split find n [] k x e = absurd cc
 gather_split find n (y ∷ xs) zero x e =
@@ -87,7 +77,7 @@ module _ {A : Type 0} (lines : Lines) (find : ℕ → A → List Spot) (xs : Lis
       let here : k + 0 ≡ k = omega arith in
       let (rest, split) = gather_split find 0 xs k x is in
       let found : slice_get (gather find 0 xs) start ≡ Some spot =
-      ap₂ slice_get (split ∙ ap (λ m. before ++ (find m x ++ rest)) here) gone ∙ (slice_get_behind before (find k x ++ rest) left ∙ slice_get-front (find k x) rest left spot at) in
+      ap₂ slice_get (split ∙ ap (λ m. before ++ (find m x ++ rest)) here) gone ∙ (slice_get-behind before (find k x ++ rest) left ∙ slice_get-front (find k x) rest left spot at) in
       (spot, found, on)
 
   pub beyond : (more : ℕ) → Reaches lines (find k x) left (Beyond more) → start ≡ length (gather find 0 (take (k + 1) xs)) + more

@@ -1,17 +1,10 @@
 -- What is found item by item, told by lines or by codes.
 use Rattle.std.proofs.Common.{◌≡◌, ℕ, zero, suc, ◌+◌, List, [], ◌∷◌, ◌++◌, map, take, Some, slice_get, refl, sym, ap, ap₂, ◌∙◌, arith}
+use Rattle.std.proofs.lemmas.List.{append-nil, map-append}
 use Rattle.mir_text.specs.NameFaults.{first_fault}
 use Rattle.mir_rules.specs.Broken.{Spot, gather}
 use Rattle.mir_rules.proofs.Least.{first_fault_append}
 use Rattle.mir_limits.specs.Answer.{either}
-
-pub map_append : {A B : Type 0} (f : A → B) (xs ys : List A) → map f (xs ++ ys) ≡ map f xs ++ map f ys
-map_append f [] ys = refl
-map_append f (x ∷ xs) ys = ap (λ l. f x ∷ l) (map_append f xs ys)
-
-append_none : {A : Type 0} (xs : List A) → xs ++ [] ≡ xs
-append_none [] = refl
-append_none (x ∷ xs) = ap (λ l. x ∷ l) (append_none xs)
 
 pub append_more : {A : Type 0} (xs ys zs : List A) → xs ++ (ys ++ zs) ≡ (xs ++ ys) ++ zs
 append_more [] ys zs = refl
@@ -22,7 +15,7 @@ gather_take_from find n [] k x e = absurd cc
 gather_take_from find n (y ∷ xs) zero x e =
     let same : y ≡ x = cc in
     let zeroth : n ≡ 0 + n = omega arith in
-    append_none (find n y) ∙ ap₂ find zeroth same
+    append-nil (find n y) ∙ ap₂ find zeroth same
 gather_take_from find n (y ∷ xs) (suc k) x e =
     let next : k + suc n ≡ suc k + n = omega arith in
     ap (λ l. find n y ++ l) (gather_take_from find (suc n) xs k x e ∙ ap (λ m. gather find (suc n) (take k xs) ++ find m x) next)
@@ -37,7 +30,7 @@ gather_take find xs k x e =
 
 -- two walks, one after the other
 pub both_walks : (tell : Spot × ℕ → ℕ × ℕ) (xs ys : List (Spot × ℕ)) → either (first_fault (map tell xs)) (first_fault (map tell ys)) ≡ first_fault (map tell (xs ++ ys))
-both_walks tell xs ys = sym (ap first_fault (map_append tell xs ys) ∙ first_fault_append (map tell xs) (map tell ys))
+both_walks tell xs ys = sym (ap first_fault (map-append tell xs ys) ∙ first_fault_append (map tell xs) (map tell ys))
 
 pub gathered_more : {A : Type 0} (tell : Spot × ℕ → ℕ × ℕ) (find : ℕ → A → List (Spot × ℕ)) (xs : List A) (k : ℕ) (x : A) → slice_get xs k ≡ Some x
     → either (first_fault (map tell (gather find 0 (take k xs)))) (first_fault (map tell (find k x))) ≡ first_fault (map tell (gather find 0 (take (k + 1) xs)))

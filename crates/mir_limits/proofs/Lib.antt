@@ -1,6 +1,5 @@
 pub mod Gathered
 pub mod Fitting
-pub mod Places
 pub mod Counted
 pub mod Weighed
 pub mod Answered

@@ -1,13 +1,11 @@
 -- Numbers that are counted up to a bound, against the limit on a body.
-use Rattle.std.proofs.Common.{◌≡◌, ℕ, ◌+◌, ◌*◌, ◌<◌, ◌≤◌, true, false, ◌&&◌, nat_lt, List, [], ◌∷◌, map, length, sum_by, get_or, zero, suc, refl, arith, ltb-true}
+use Rattle.std.proofs.Common.{◌≡◌, ℕ, ◌+◌, ◌*◌, ◌<◌, ◌≤◌, true, false, ◌&&◌, nat_lt, List, [], ◌∷◌, map, length, sum_by, refl, arith}
 use Rattle.std.specs.List.{list_all}
 use Rattle.mir_syntax.specs.declared.body.Place.{Place}
 use Rattle.mir_syntax.specs.declared.body.Term.TheVariants as term
 use Rattle.mir_syntax.specs.Crate.{TypedBlock, TypedBody, Crate, block_of}
 use Rattle.mir_syntax.specs.Tree.{Tree}
-use Rattle.mir_syntax.specs.declared.types.TyId.{TyId}
 use Rattle.mir_syntax.specs.declared.body.Block.{Block}
-use Rattle.mir_syntax.specs.Table.{all_below}
 use Rattle.type_sizes.proofs.Sums.{Summing}
 use Rattle.mir_rules.specs.Parts.{term_places, targets}
 use Rattle.mir_rules.specs.Formed.{path_formed, place_formed, block_there, term_formed, block_formed, type_formed, has_start, body_formed}
@@ -52,9 +50,3 @@ none_left weight trees total all [] h s = record {
   exact = λ g. let a = s.exact g in omega arith;
 }
 none_left weight trees total all (x ∷ rest) h s = absurd (omega arith)
-
--- an id of a list lies in the table
-pub id_below : (n : ℕ) (ids : List TyId) (i : ℕ) (d : TyId) → all_below n ids ≡ true → i < length ids → (get_or ids i d).0 < n
-id_below n [] i d h below = absurd (omega arith)
-id_below n (id ∷ ids) zero d h below = ltb-true id.0 n (and_true-left (nat_lt id.0 n) (all_below n ids) h)
-id_below n (id ∷ ids) (suc i) d h below = id_below n ids i d (and_true-right (nat_lt id.0 n) (all_below n ids) h) (omega arith)

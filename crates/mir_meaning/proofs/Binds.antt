@@ -24,11 +24,6 @@ unfolding ◌>>=◌
 bind_later None f k h = refl
 bind_later (Some a) f k h = ap (λ p. p >>= k a) h
 
-pub bind_same : {A : Type 0} (o : Option A) → (o >>= λ x. Some x) ≡ o
-unfolding ◌>>=◌
-bind_same None = refl
-bind_same (Some x) = refl
-
 -- what stops a part stops the whole, where the whole is undefined with the part
 pub stopped : {A B C D : Type 0} (e : Stop) (r : Result A Stop) (s : Result C Stop) (part : Option B) (whole : Option D) (f : A → B) (g : C → D) → r ≡ Err e → IsErrAnd s (λ x. x ≡ e) → Gives r part f → (part ≡ None → whole ≡ None) → Gives s whole g
 stopped e (Ok x) s part whole f g a b h go = absurd cc

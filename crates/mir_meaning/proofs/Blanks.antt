@@ -1,15 +1,15 @@
 -- Blanks, part by part.
-use Rattle.std.proofs.Common.{◌≡◌, ℕ, zero, suc, ◌-◌, ◌<◌, ◌≤◌, Bool, true, false, IsTrue, if◌then◌else◌, List, [], ◌∷◌, map, length, take, get_or, slice_get, Option, Some, None, refl, sym, ap, ◌∙◌, arith, rules}
+use Rattle.std.proofs.Common.{◌≡◌, ℕ, zero, suc, ◌-◌, ◌≤◌, Bool, true, false, if◌then◌else◌, List, [], ◌∷◌, map, length, take, slice_get, Option, Some, None, refl, sym, ap, ◌∙◌, arith}
 use Rattle.std.proofs.lemmas.List.{take_all, length-map}
-use Rattle.mir_syntax.specs.Table.{all_below}
 use Rattle.mir_syntax.specs.declared.types.TyId.{TyId}
 use Rattle.mir_syntax.specs.declared.types.Field.{Field}
 use Rattle.mir_syntax.specs.declared.types.Ty.{Ty}
 use Rattle.mir_syntax.specs.declared.types.Ty.TheVariants.{Scalar, Tuple, Ref, RefMut, Named}
 use Rattle.mir_syntax.specs.declared.program.Program.{Program}
 use Rattle.mir_syntax.specs.Tree.{Tree, at_id, at_ids, node, trees_of}
-use Rattle.mir_syntax.specs.Crate.{crate_of, def_of, TypedDef, TypedFunction}
-use Rattle.mir_syntax.specs.Shapes.{Shape, shapes_of, shapes_from, fields_tree, struct_fields}
+use Rattle.mir_syntax.specs.Crate.{crate_of, def_of}
+use Rattle.mir_syntax.specs.Shapes.{Shape, shapes_of, fields_tree, struct_fields}
+use Rattle.mir_syntax.proofs.Places.{shapes_from-length}
 use Rattle.mir_semantics.specs.Values.{Value, hole, listed, is_unit, blank, blank_by, blank_of, blank_def}
 use Rattle.mir_meaning.specs.Programs.{shapes_in, parts_of}
 
@@ -61,11 +61,6 @@ blank_last D (suc n) d h = absurd (omega arith)
 
 -- ---- where blanks are made
 
-pub id_below : (n : ℕ) (ids : List TyId) (i : ℕ) (d : TyId) → IsTrue (all_below n ids) → i < length ids → (get_or ids i d).0 < n
-id_below n [] i d h within = absurd (omega arith)
-id_below n (id ∷ ids) zero d h within = let both : (id.0 < n) × IsTrue (all_below n ids) = search rules in both.0
-id_below n (id ∷ ids) (suc i) d h within = let both : (id.0 < n) × IsTrue (all_below n ids) = search rules in id_below n ids i d both.1 (omega arith)
-
 pub made_ids : (f : ℕ → Value) (trees : List Tree) (ids : List TyId) (n : ℕ) (parts : List Value) → parts ≡ map (λ id. blank_by f (at_id trees id)) (take n ids) → length ids ≤ n
     → listed parts ≡ blank_by f (at_ids trees ids)
 made_ids f trees ids n parts e h = ap listed (e ∙ ap (map (λ id. blank_by f (at_id trees id))) (take_all n ids h)) ∙ sym (blank_ids f trees ids)
@@ -74,14 +69,10 @@ pub made_fields : (f : ℕ → Value) (trees : List Tree) (fields : List Field) 
     → listed parts ≡ blank_by f (fields_tree trees fields)
 made_fields f trees fields n parts e h = ap listed (e ∙ ap (map (λ x. blank_by f (at_id trees x.ty))) (take_all n fields h)) ∙ sym (blank_fields f trees fields)
 
-shapes_length : (functions : List TypedFunction) (n : ℕ) (defs : List TypedDef) → length (shapes_from functions n defs) ≡ length defs
-shapes_length functions n [] = refl
-shapes_length functions n (d ∷ defs) = ap suc (shapes_length functions (suc n) defs)
-
 -- there are as many shapes as definitions
 pub depth_enough : (p : Program) → length p.defs ≡ length (shapes_in p)
 unfolding shapes_of
-depth_enough p = sym (shapes_length (crate_of p).functions 0 (crate_of p).defs ∙ length-map p.defs (def_of (trees_of p.types)))
+depth_enough p = sym (shapes_from-length (crate_of p).functions 0 (crate_of p).defs ∙ length-map p.defs (def_of (trees_of p.types)))
 
 pub blank_whole : (p : Program) (t : Tree) (n : ℕ) (v : Value) → n ≡ length p.defs → v ≡ blank_by (blank_def (shapes_in p) n) t → v ≡ blank (shapes_in p) t
 unfolding blank

@@ -94,7 +94,7 @@ none_left h m vs = ap (λ l. Some (l, m)) (append-nil vs)
 pub then_gone : (vs : List Value) (o : Option (List Value × Memory)) → o ≡ None → then_read vs o ≡ None
 then_gone vs o e = bind_gone o _ e
 
-drop_next : (os : List Operand) (i : ℕ) (o : Operand) → i < length os → o ≡ get_or os i o → drop i os ≡ o ∷ drop (i + 1) os
+pub drop_next : (os : List Operand) (i : ℕ) (o : Operand) → i < length os → o ≡ get_or os i o → drop i os ≡ o ∷ drop (i + 1) os
 drop_next os i o h e = rw (add-one, drop-cons os i o h) (ap (λ x. x ∷ drop (suc i) os) (sym e))
 
 pub left_gone : (h : Here) (m : Memory) (os : List Operand) (i : ℕ) (o : Operand) (vs : List Value) → i < length os → o ≡ get_or os i o → read h m o ≡ None → then_read vs (read_all h m (drop i os)) ≡ None

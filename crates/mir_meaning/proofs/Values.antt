@@ -2,6 +2,7 @@
 use Rattle.std.proofs.Common.{◌≡◌, ℕ, zero, suc, nat_eq, if◌then◌else◌, Bor, ◌<◌, ◌≤◌, Bool, true, false, ◌&&◌, List, [], ◌∷◌, ◌++◌, map, length, take, drop, get_or, slice_get, Some, None, refl, sym, ap, ◌∙◌, arith, rules}
 use Rattle.std.specs.Option.{option_map}
 use Rattle.std.proofs.Math.ListN.{set, length-set}
+use Rattle.std.proofs.lemmas.List.{set-set}
 use Rattle.std.proofs.lemmas.Option.{slice_get-get_or}
 use Rattle.mir_semantics.specs.Values.{Value, number, cons, variant, pointer, hole, listed, whole, is_hole, part, payload, inner, at_path, change_part, change_payload}
 use Rattle.mir_syntax.specs.Shapes.{◌>>=◌}
@@ -162,13 +163,8 @@ unwritten xs slice e = rw e (take_front xs (drop (length xs) xs))
 pub written : {X : Type 0} (xs slice : List X) (i : ℕ) (x : X) → slice ≡ xs → take (length xs) (set slice i x ++ drop (length (set slice i x)) xs) ≡ set xs i x
 written xs slice i x e = rw e (ap (λ n. take n (set xs i x ++ drop (length (set xs i x)) xs)) (sym (length-set xs i x)) ∙ take_front (set xs i x) (drop (length (set xs i x)) xs))
 
-pub set_again : {X : Type 0} (xs : List X) (i : ℕ) (a b : X) → set (set xs i a) i b ≡ set xs i b
-set_again [] i a b = refl
-set_again (x ∷ xs) zero a b = refl
-set_again (x ∷ xs) (suc i) a b = ap (λ l. x ∷ l) (set_again xs i a b)
-
 pub written_twice : {X : Type 0} (xs slice : List X) (i : ℕ) (a x : X) → slice ≡ xs → take (length xs) (set (set slice i a) i x ++ drop (length (set (set slice i a) i x)) xs) ≡ set xs i x
-written_twice xs slice i a x e = rw (set_again slice i a x) (written xs slice i x e)
+written_twice xs slice i a x e = rw (set-set slice i a x) (written xs slice i x e)
 
 pub slot_read : {X : Type 0} (xs slice : List X) (i : ℕ) (d old : X) → slice ≡ xs → i < length slice → old ≡ get_or slice i d → slice_get xs i ≡ Some old
 slot_read xs slice i d old e b o = rw (← e) (slice_get-get_or slice i d b ∙ ap (λ x. Some x) (sym o))

@@ -3,6 +3,7 @@ use Rattle.std.proofs.Common.{◌≡◌, ℕ, zero, suc, ◌+◌, add-one, ◌<�
 use Rattle.mir_syntax.specs.declared.body.Proj.{Proj}
 use Rattle.mir_syntax.specs.declared.body.Proj.TheVariants.{Field, Downcast, Deref}
 use Rattle.mir_syntax.specs.Shapes.{◌>>=◌}
+use Rattle.mir_syntax.proofs.Binds.{bind_back}
 use Rattle.mir_rules.specs.Formed.{path_formed, begins_with_field}
 use Rattle.mir_semantics.specs.Values.{Value, Addr, inner, at_path}
 use Rattle.mir_meaning.specs.declared.place.Spot.{Spot}
@@ -45,19 +46,9 @@ drop_end (x ∷ xs) (suc n) h = drop_end xs n h
 
 -- ---- parts
 
-bind_bind : {A B C : Type 0} (o : Option A) (f : A → Option B) (g : B → Option C) → ((o >>= f) >>= g) ≡ (o >>= λ x. f x >>= g)
-unfolding ◌>>=◌
-bind_bind None f g = refl
-bind_bind (Some x) f g = refl
-
-bind_some : {A : Type 0} (o : Option A) → (o >>= λ x. Some x) ≡ o
-unfolding ◌>>=◌
-bind_some None = refl
-bind_some (Some x) = refl
-
 at_further : (ps : List Proj) (p : Proj) (v : Value) → at_path (ps ++ p ∷ []) v ≡ (at_path ps v >>= inner p)
 unfolding ◌>>=◌
-at_further [] p v = bind_some (inner p v)
+at_further [] p v = bind_back (inner p v)
 at_further (q ∷ ps) p v = go (at_further ps p) (inner q v)
   where
     go : ((w : Value) → at_path (ps ++ p ∷ []) w ≡ (at_path ps w >>= inner p)) → (o : Option Value) → (o >>= at_path (ps ++ p ∷ [])) ≡ ((o >>= at_path ps) >>= inner p)

@@ -24,7 +24,7 @@ pub mod place;
 pub mod pointer;
 mod put;
 mod rvalue;
-mod split;
+pub mod split;
 pub mod stop;
 pub mod target;
 pub mod types;

@@ -21,6 +21,7 @@ use Rattle.mir_parse.specs.Signs.{close, colon, colons, name as name_at}
 use Rattle.mir_parse.specs.Places.{place_at}
 use Rattle.mir_parse.specs.Operands.{number as number_at, bound, bound_end, value, operand, named, operands_at, nameds_at}
 use Rattle.mir_parse.specs.Lists.{closing_paren, closing_brace}
+use Rattle.mir_parse.proofs.TypesRead.{paren_only, paren_closes, paren_comma}
 use Rattle.mir_parse.proofs.PlacesRead.{place_text, place-back, place-complete, place-sound, place_grows}
 use Rattle.mir_parse.proofs.Laws.{in_steps, ok_same, on, IsRead, ItemLaws, items_text, items-complete, items-sound, close-sound, colon-sound, colons-sound, name-sound}
 
@@ -197,20 +198,6 @@ no_paren (bare (deref q)) rest = refl
 no_paren (bare (field q n t)) rest = refl
 no_paren (bare (variant_field q name_no n t)) rest = refl
 
-paren_only : (ts rest : List Symbol) → closing_paren ts ≡ Some rest → ts ≡ s.Close ∷ rest
-unfolding closing_paren
-paren_only [] rest h = absurd cc
-paren_only (s.Close ∷ ts) rest h = let same : ts ≡ rest = cc in ap (λ l. s.Close ∷ l) same
-paren_only (x ∷ ts) rest h = absurd cc
-
-paren_closes : (rest : List Symbol) → closing_paren (s.Close ∷ rest) ≡ Some rest
-unfolding closing_paren
-paren_closes rest = refl
-
-paren_comma : (rest : List Symbol) → closing_paren (s.Comma ∷ rest) ≡ None
-unfolding closing_paren
-paren_comma rest = refl
-
 pub operand_laws : ItemLaws closing_paren operand operand_put operand_text OperandGood s.Close
 operand_laws = record { closes = paren_closes; closes_only = paren_only; no_comma = paren_comma; no_item = no_paren; before_comma = λ x rest h. operand-complete x (s.Comma ∷ rest) h; before_sign = λ x rest h. operand-complete x (s.Close ∷ rest) h; sound = operand-sound; grows = operand_grows }
 
@@ -236,17 +223,17 @@ named-sound ts x rest h =
       good = inner.good;
     })))
 
-brace_only : (ts rest : List Symbol) → closing_brace ts ≡ Some rest → ts ≡ s.CloseBrace ∷ rest
+pub brace_only : (ts rest : List Symbol) → closing_brace ts ≡ Some rest → ts ≡ s.CloseBrace ∷ rest
 unfolding closing_brace
 brace_only [] rest h = absurd cc
 brace_only (s.CloseBrace ∷ ts) rest h = let same : ts ≡ rest = cc in ap (λ l. s.CloseBrace ∷ l) same
 brace_only (x ∷ ts) rest h = absurd cc
 
-brace_closes : (rest : List Symbol) → closing_brace (s.CloseBrace ∷ rest) ≡ Some rest
+pub brace_closes : (rest : List Symbol) → closing_brace (s.CloseBrace ∷ rest) ≡ Some rest
 unfolding closing_brace
 brace_closes rest = refl
 
-brace_comma : (rest : List Symbol) → closing_brace (s.Comma ∷ rest) ≡ None
+pub brace_comma : (rest : List Symbol) → closing_brace (s.Comma ∷ rest) ≡ None
 unfolding closing_brace
 brace_comma rest = refl
 

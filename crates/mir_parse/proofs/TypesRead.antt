@@ -325,17 +325,17 @@ type_rule-back t = type-back t
 
 -- ---- type,*
 
-paren_only : (ts rest : List Symbol) → closing_paren ts ≡ Some rest → ts ≡ s.Close ∷ rest
+pub paren_only : (ts rest : List Symbol) → closing_paren ts ≡ Some rest → ts ≡ s.Close ∷ rest
 unfolding closing_paren
 paren_only [] rest h = absurd cc
 paren_only (s.Close ∷ ts) rest h = let same : ts ≡ rest = cc in ap (λ l. s.Close ∷ l) same
 paren_only (x ∷ ts) rest h = absurd cc
 
-paren_closes : (rest : List Symbol) → closing_paren (s.Close ∷ rest) ≡ Some rest
+pub paren_closes : (rest : List Symbol) → closing_paren (s.Close ∷ rest) ≡ Some rest
 unfolding closing_paren
 paren_closes rest = refl
 
-paren_comma : (rest : List Symbol) → closing_paren (s.Comma ∷ rest) ≡ None
+pub paren_comma : (rest : List Symbol) → closing_paren (s.Comma ∷ rest) ≡ None
 unfolding closing_paren
 paren_comma rest = refl
 

@@ -19,12 +19,12 @@ use Rattle.mir_syntax.specs.declared.body.Arm.{Arm}
 use Rattle.mir_syntax.specs.declared.body.Operand.{Operand}
 use Rattle.mir_syntax.specs.declared.body.Function.{Function}
 use Rattle.mir_syntax.specs.declared.program.Program.{Program}
-use Rattle.mir_syntax.specs.Tree.{Tree, scalar, empty, named, tuple_of, node, at_id, at_ids, trees_of}
-use Rattle.mir_syntax.specs.Shapes.{Shape, shapes_of, fields_tree, field_id, field_ty_of, fields_of, proj_ty}
+use Rattle.mir_syntax.specs.Tree.{Tree, scalar, empty, named, node, at_id, at_ids, trees_of}
+use Rattle.mir_syntax.specs.Shapes.{Shape, shapes_of, fields_tree, field_id, field_ty_of, proj_ty}
 use Rattle.mir_syntax.specs.Crate.{TypedField, TypedDef, TypedOutside, TypedStmt, TypedBlock, TypedFunction, Crate, field_of, def_of, variant_of, outside_of, function_of, crate_of}
 use Rattle.mir_syntax.specs.Table.{all_below}
 use Rattle.mir_syntax.proofs.Trees.{length-trees_of}
-use Rattle.mir_syntax.proofs.Places.{field-of-fields}
+use Rattle.mir_syntax.proofs.Places.{field-of-fields, fields_of-tuple}
 use Rattle.mir_text.specs.TypeText.{piece, more_items, no_def, def_at, scalar_text, type_text, parts_text}
 use Rattle.mir_text.specs.PlaceText.{local_ty, no_variant, variant_at, opening, openings, closing, closings, type_after, variant_name, operand_text}
 use Rattle.mir_text.specs.StatementText.{variant_path, build_parts, build_text, more_named, stmt_line, stmts_text}
@@ -359,13 +359,9 @@ named_done {start} {now} {whole} c locals trees i fs xs h r = r now (rw (named_p
 
 -- ---- parts of places
 
-fields_whole : (D : List Shape) (ts : List Tree) → fields_of D (tuple_of ts) ≡ Some (tuple_of ts)
-fields_whole D [] = refl
-fields_whole D (t ∷ ts) = refl
-
 pub part_field_fields : (D : List Shape) (trees : List Tree) (fields : List Field) (i : ℕ)
     → option_map (at_id trees) (option_map field_id (slice_get fields i)) ≡ proj_ty D (fields_tree trees fields) (proj.Field i)
-part_field_fields D trees fields i = field-of-fields D trees (fields_tree trees fields) fields i (sym (fields_whole D (map field_ty_of (map (field_of trees) fields))))
+part_field_fields D trees fields i = field-of-fields D trees (fields_tree trees fields) fields i (sym (fields_of-tuple D (map field_ty_of (map (field_of trees) fields))))
 
 -- what stands behind a projection, where it fits and where it doesn't
 pub after_some : (c : Crate) (t u : Tree) (p : Proj) → proj_ty (shapes_of c) t p ≡ Some u → u ≡ type_after c t p
@@ -438,11 +434,6 @@ unfolding crate_in
 defs_stand p h = some_stand (trees_of p.types) p.defs p.outsides h
 
 -- ---- ids below a bound
-
-pub id_below : (n : ℕ) (ids : List TyId) (i : ℕ) (d : TyId) → IsTrue (all_below n ids) → i < length ids → (get_or ids i d).0 < n
-id_below n [] i d h within = absurd (omega arith)
-id_below n (id ∷ ids) zero d h within = let both : (id.0 < n) × IsTrue (all_below n ids) = search rules in both.0
-id_below n (id ∷ ids) (suc i) d h within = let both : (id.0 < n) × IsTrue (all_below n ids) = search rules in id_below n ids i d both.1 (omega arith)
 
 ids_front : (n : ℕ) (ids : List TyId) (k : ℕ) → IsTrue (all_below n ids) → IsTrue (all_below n (take k ids))
 ids_front n [] zero h = h

@@ -1,24 +1,16 @@
 -- Blocks that are joined, left out and renumbered keep the meaning.
-use Rattle.std.proofs.Common.{◌≡◌, inl, inr, refl, ap, ◌∙◌, subst, ℕ, zero, suc, ◌+◌, ◌<◌, ◌≤◌, List, [], ◌∷◌, ◌++◌, length, Option, Some, None, slice_get, arith}
+use Rattle.std.proofs.Common.{◌≡◌, inl, inr, refl, ap, ◌∙◌, subst, ℕ, suc, ◌+◌, ◌<◌, ◌≤◌, List, [], ◌∷◌, ◌++◌, length, Option, Some, None, slice_get, arith}
 use Rattle.std.proofs.lemmas.Option.{slice_get_within}
 use Rattle.mir_syntax.proofs.Trees.{slice_get-front}
 use Rattle.mir_syntax.specs.declared.body.Term.TheVariants.{Goto}
 use Rattle.mir_syntax.specs.Crate.{TypedBody, TypedBlock, TypedStmt, Crate}
+use Rattle.mir_syntax.proofs.Lists.{slice_get-behind, slice_get-none}
 use Rattle.mir_semantics.specs.Refines.{Refines}
 use Rattle.mir_relate.specs.Jumps.{SameTerm, Meets}
 use Rattle.mir_relate.specs.Lines.{Begins, IsLine, Joins}
 use Rattle.mir_relate.specs.OneBody.{with_body, Replaces, BodyJumps}
 use Rattle.mir_relate.proofs.Hops.{same_term_map}
 use Rattle.mir_relate.proofs.OneBody.{body_jumps_refine}
-
-past_end : {A : Type 0} (xs : List A) (i : ℕ) → slice_get xs i ≡ None → length xs ≤ i
-past_end [] i e = omega arith
-past_end (x ∷ xs) zero e = absurd (grind arith)
-past_end (x ∷ xs) (suc i) e = let h : length xs ≤ i = past_end xs i e in omega (arith, h)
-
-behind : {A : Type 0} (xs ys : List A) (i : ℕ) → slice_get (xs ++ ys) (length xs + i) ≡ slice_get ys i
-behind [] ys i = let z : 0 + i ≡ i = omega arith in ap (slice_get ys) z
-behind (x ∷ xs) ys i = let z : suc (length xs) + i ≡ suc (length xs + i) = omega arith in ap (slice_get (x ∷ xs ++ ys)) z ∙ behind xs ys i
 
 module _ (target source : TypedBody) (line : ℕ → List ℕ) (joins : Joins target source line) where
   abbrev Target : ℕ → ℕ → Type 0
@@ -62,10 +54,10 @@ module _ (target source : TypedBody) (line : ℕ → List ℕ) (joins : Joins ta
           let (k, tail, f, t, ss, next) = l in
           let b : k ≡ k1 = same_block i1 k k1 f ek in
           let all : stmts ≡ k1.stmts ++ tail = ss ∙ ap (λ k. k.stmts ++ tail) b in
-          let end : a1 ≡ length k1.stmts = let h : length k1.stmts ≤ a1 = past_end k1.stmts a1 es in let h' : a1 ≤ length k1.stmts = within k1 ek in omega (arith, h, h') in
+          let end : a1 ≡ length k1.stmts = let h : length k1.stmts ≤ a1 = slice_get-none k1.stmts a1 es in let h' : a1 ≤ length k1.stmts = within k1 ek in omega (arith, h, h') in
           let from : (a : ℕ) → slice_get k2.stmts (a2 + a) ≡ slice_get tail a = λ a.
           (let z : a2 + a ≡ off + (length k1.stmts + a) = omega (arith, p, end) in ap (slice_get k2.stmts) z)
-          ∙ same (length k1.stmts + a) ∙ ap (λ xs. slice_get xs (length k1.stmts + a)) all ∙ behind k1.stmts tail a in
+          ∙ same (length k1.stmts + a) ∙ ap (λ xs. slice_get xs (length k1.stmts + a)) all ∙ slice_get-behind k1.stmts tail a in
           inl (j, length is, subst (λ k. k.term ≡ Goto j) b t, (k2, is, tail, a2, e, next, from, omega arith, (λ k _. omega arith), refl), omega (arith, q))
 
   pub body_jumps : BodyJumps target source Place

@@ -17,21 +17,22 @@ use Rattle.mir_text.specs.NameFaults.{each, each_item, is_among, local_codes, pl
 use Rattle.mir_text.specs.Nesting.{OperandGood, StmtGood, TermGood, BlockGood}
 use Rattle.mir_text.specs.ReadLines.{operand_places, stmt_places, term_places}
 use Rattle.mir_text.specs.TermText.{function_paths, outside_paths, callee_path}
+use Rattle.mir_text.proofs.Numbered.{place_from-there}
+use Rattle.mir_text.proofs.Codes.{unless_met}
 use Rattle.mir_rules.proofs.Lists.{append_empty-left, append_empty-right}
 use Rattle.mir_round_trip.proofs.Numbering.{stands-at}
 use Rattle.mir_round_trip.proofs.Spelling.{all-append}
 use Rattle.mir_round_trip.proofs.Blocks.{all-left, all-right}
 use Rattle.mir_round_trip.proofs.TermsBack.{all-at}
 use Rattle.mir_round_trip.proofs.Carried.{ArmNice, TermNice}
-use Rattle.mir_round_trip.proofs.TypesWritten.{place-there}
-use Rattle.mir_round_trip.proofs.PlacesWritten.{unless-met, Given, Read, place_written}
+use Rattle.mir_round_trip.proofs.PlacesWritten.{Given, Read, place_written}
 use Rattle.mir_round_trip.proofs.OperandsWritten.{operand_written, operands_written, rvalue_written}
 
 -- ---- statements
 
 local-written : (c : Crate) (strings : Strings) (L : Declared) (locals : List Tree) → Given c strings L locals → (x : ℕ) → local_codes L x ≡ [] → IsLocal locals x
 local-written c strings L locals given x codes =
-    let less = given.there x (unless-met _ 14 codes) in
+    let less = given.there x (unless_met _ 14 codes) in
     let few = given.few in
     record { there = less; small = omega arith }
 
@@ -74,12 +75,12 @@ callee-by : (c : Crate) (bytes : List ℕ) (a b : Option ℕ) → CallsKnown c �
     → is_some (function_or a b) ≡ true → IsCallee c (or_first_function (function_or a b))
 unfolding callee_path
 callee-by c bytes (Some f) b known e k h =
-    let less = place-there 0 f (function_paths c.functions) bytes e in
+    let less = place_from-there 0 f (function_paths c.functions) bytes e in
     let there : f < length (function_paths c.functions) = omega (arith, less) in
     let path = place-back (function_paths c.functions) bytes f e in
     record { path = all-at IsPath [] (function_paths c.functions) f known.functions there; is = (there, ap (place_in (function_paths c.functions)) path ∙ e) }
 callee-by c bytes None (Some o) known e k h =
-    let less = place-there 0 o (outside_paths c.outsides) bytes k in
+    let less = place_from-there 0 o (outside_paths c.outsides) bytes k in
     let there : o < length (outside_paths c.outsides) = omega (arith, less) in
     let path = place-back (outside_paths c.outsides) bytes o k in
     record {
@@ -97,7 +98,7 @@ pub record Labelled (labels : List ℕ) (n : ℕ) : Type 0 where
 
 target-written : (labels : List ℕ) (n b : ℕ) → Labelled labels n → target_codes labels b ≡ [] → IsTarget n b
 target-written labels n b is codes =
-    let less = is.below b (unless-met _ 15 codes) in
+    let less = is.below b (unless_met _ 15 codes) in
     let few = is.few in
     record { there = less; small = omega arith }
 
@@ -131,7 +132,7 @@ term_written c strings L locals given known labels n is (g.call q path xs b u) h
     let N = names_at c strings in
     let third = append_empty-left (place_codes N L q ++ call_codes N path ++ each_item (operand_codes N L) xs) (target_codes labels b) codes in
     let second = append_empty-left (place_codes N L q ++ call_codes N path) (each_item (operand_codes N L) xs) third in
-    let callee = unless-met _ 11 (append_empty-right (place_codes N L q) (call_codes N path) second) in (
+    let callee = unless_met _ 11 (append_empty-right (place_codes N L q) (call_codes N path) second) in (
       place_written c strings L locals given q h.0 (append_empty-left (place_codes N L q) (call_codes N path) second) good.0,
       callee-by c (path_bytes strings path) _ _ known refl refl callee,
       operands_written c strings L locals given xs h.1 (append_empty-right (place_codes N L q ++ call_codes N path) (each_item (operand_codes N L) xs) third) good.1,

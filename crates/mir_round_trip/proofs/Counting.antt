@@ -5,8 +5,8 @@ use Rattle.mir_text.specs.Grammar.{AllOf}
 use Rattle.mir_text.specs.GrammarItems.{ArgRule}
 use Rattle.mir_text.specs.PartLines.{Lined}
 use Rattle.mir_text.specs.NameFaults.{on_line, unless, is_among, declared_once, in_order}
+use Rattle.mir_text.proofs.Codes.{unless_met}
 use Rattle.mir_rules.proofs.Lists.{append_empty-left, append_empty-right, map_empty-source, or_false-left, or_false-right, and_true-left, and_true-right}
-use Rattle.mir_round_trip.proofs.PlacesWritten.{unless-met}
 
 abbrev Distinct : List ℕ → Type 0
 Distinct [] = Unit {0}
@@ -86,7 +86,7 @@ once-most : (m : ℕ) (before : List ℕ) (xs : List (Lined ArgRule)) → Distin
 once-most m before [] d b h all = let k = at-most m before d b in omega (arith, k)
 once-most m before (x ∷ xs) d b h all =
     let codes = map_empty-source (λ code. let f : ℕ × ℕ = (x.0, code) in f) (unless (not (is_among before x.1.0)) 14) (append_empty-left (on_line x.0 (unless (not (is_among before x.1.0)) 14)) (declared_once (x.1.0 ∷ before) xs) h) in
-    let new = not-true (is_among before x.1.0) (unless-met _ 14 codes) in
+    let new = not-true (is_among before x.1.0) (unless_met _ 14 codes) in
     let rest = once-most m (x.1.0 ∷ before) xs (new, d) (all.0, b) (append_empty-right (on_line x.0 (unless (not (is_among before x.1.0)) 14)) (declared_once (x.1.0 ∷ before) xs) h) all.1 in
     omega (arith, rest)
 

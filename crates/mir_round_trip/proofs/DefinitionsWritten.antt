@@ -11,17 +11,17 @@ use Rattle.mir_text.specs.GrammarTypes.{TypeRule, TypesRule, types_in}
 use Rattle.mir_text.specs.GrammarItems as m
 use Rattle.mir_text.specs.GrammarItems.{FieldRule, FieldsRule, VariantRule, ItemRule, FileRule}
 use Rattle.mir_text.specs.Names as n
-use Rattle.mir_text.specs.Names.{Strings, Names, names_of, string_at, path_bytes, type_named, is_known, are_known, field_named, part_named, form_of, fields_named, variant_of, variant_named, DefRule, def_path, def_in, defs_in, def_paths, def_named, function_paths_in, outside_paths_in}
+use Rattle.mir_text.specs.Names.{Strings, Names, names_of, string_at, path_bytes, type_named, is_known, are_known, field_named, part_named, form_of, fields_named, variant_named, DefRule, def_path, def_in, defs_in, def_paths, def_named, function_paths_in, outside_paths_in}
 use Rattle.mir_text.specs.Naming.{outside_in, outsides_in, functions_in, crate_named}
 use Rattle.mir_text.specs.NameFaults.{unless, each_item, type_codes, none_twice, fields_codes, other_codes}
 use Rattle.mir_text.specs.Nesting.{type_depth, types_depth, FieldGood, FieldsGood, VariantGood, ItemGood}
 use Rattle.mir_text.specs.TermText.{function_paths, outside_paths}
+use Rattle.mir_text.proofs.Codes.{unless_met}
 use Rattle.mir_rules.proofs.Lists.{append_empty-left, append_empty-right, and_true-left, and_true-right}
 use Rattle.mir_round_trip.proofs.Lists.{map-map}
 use Rattle.mir_round_trip.proofs.CratesBack.{map-same, as-names}
 use Rattle.mir_round_trip.proofs.Carried.{FieldNice, FieldsNice, VariantNice, ItemNice}
 use Rattle.mir_round_trip.proofs.TypesWritten.{PathsWritten, path_written, ty_written}
-use Rattle.mir_round_trip.proofs.PlacesWritten.{unless-met}
 use Rattle.mir_round_trip.proofs.FunctionsWritten.{max-left, max-right}
 
 -- ---- types in a tuple
@@ -45,7 +45,7 @@ parts-written c strings [] h = tt
 parts-written c strings (u ∷ us) h = (record { unnamed = refl; type = h.0 }, parts-written c strings us h.1)
 
 field-written : (c : Crate) (strings : Strings) → PathsWritten c → (f : FieldRule) → type_codes (names_at c strings) f.1 ≡ [] → FieldGood f → FieldNice strings f → IsField c (field_named strings (crate_paths c) f)
-field-written c strings paths f codes good nice = record { name = nice; type = ty_written c strings paths f.1 (unless-met _ 12 codes) good }
+field-written c strings paths f codes good nice = record { name = nice; type = ty_written c strings paths f.1 (unless_met _ 12 codes) good }
 
 items-fields : (c : Crate) (strings : Strings) → PathsWritten c → (fs : Items FieldRule) → each_item (λ f. type_codes (names_at c strings) f.1) fs ≡ [] → AllItems FieldGood fs → AllItems (FieldNice strings) fs
     → AllOf (IsField c) (items_of (field_named strings (crate_paths c)) fs)
@@ -64,11 +64,11 @@ map-items h f (G.more x xs) = ap (λ l. h (f x) ∷ l) (map-items h f xs)
 fields-written : (c : Crate) (strings : Strings) → PathsWritten c → (fs : FieldsRule) → fields_codes (names_at c strings) fs ≡ [] → FieldsGood fs → FieldsNice strings fs
     → IsFields c (form_of fs) (fields_named strings (crate_paths c) fs)
 fields-written c strings paths m.plain codes good nice = refl
-fields-written c strings paths (m.tupled us) codes good nice = parts-written c strings (types_in us) (types-right c strings paths us (unless-met _ 12 codes) good)
+fields-written c strings paths (m.tupled us) codes good nice = parts-written c strings (types_in us) (types-right c strings paths us (unless_met _ 12 codes) good)
 fields-written c strings paths (m.labelled fs) codes good nice =
     let N = names_at c strings in (
       items-fields c strings paths fs (append_empty-right (unless (none_twice [] (items_of (λ f. string_at strings f.0) fs)) 10) _ codes) good nice,
-      ap (none_twice []) (map-items (λ f. f.name) (field_named strings (crate_paths c)) fs) ∙ unless-met _ 10 (append_empty-left (unless (none_twice [] (items_of (λ f. string_at strings f.0) fs)) 10) _ codes),
+      ap (none_twice []) (map-items (λ f. f.name) (field_named strings (crate_paths c)) fs) ∙ unless_met _ 10 (append_empty-left (unless (none_twice [] (items_of (λ f. string_at strings f.0) fs)) 10) _ codes),
     )
 
 -- ---- variants
@@ -96,7 +96,7 @@ def-written c strings paths (m.enum q vs) h =
     let fields = append_empty-right (unless (none_twice [] (items_of (λ v. string_at strings v.0) vs)) 10) _ h.0 in (
       record {
         path = path_written strings q h.2.0;
-        shape = (variants-written c strings paths vs fields h.1 h.2.1, ap (none_twice []) (map-items (λ v. v.name) (variant_named strings (crate_paths c)) vs) ∙ unless-met _ 10 twice);
+        shape = (variants-written c strings paths vs fields h.1 h.2.1, ap (none_twice []) (map-items (λ v. v.name) (variant_named strings (crate_paths c)) vs) ∙ unless_met _ 10 twice);
       },
       tt,
     )
@@ -112,11 +112,11 @@ outside-written c strings paths (m.struct q fs) h = tt
 outside-written c strings paths (m.enum q vs) h = tt
 outside-written c strings paths (m.extern q us u) h =
     let N = names_at c strings in
-    let known = unless-met _ 12 (append_empty-left (unless (are_known strings (crate_paths c) us) 12) (type_codes N u) h.0) in (
+    let known = unless_met _ 12 (append_empty-left (unless (are_known strings (crate_paths c) us) 12) (type_codes N u) h.0) in (
       record {
         path = path_written strings q h.2;
         args = all-types c strings (types_in us) (types-right c strings paths us known h.1.0);
-        result = ty_written c strings paths u (unless-met _ 12 (append_empty-right (unless (are_known strings (crate_paths c) us) 12) (type_codes N u) h.0)) h.1.1;
+        result = ty_written c strings paths u (unless_met _ 12 (append_empty-right (unless (are_known strings (crate_paths c) us) 12) (type_codes N u) h.0)) h.1.1;
       },
       tt,
     )

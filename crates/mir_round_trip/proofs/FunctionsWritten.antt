@@ -1,12 +1,11 @@
 -- The functions that a derivation names are such as a canonical text writes.
 use Rattle.mir_round_trip.specs.Names.{IsTy}
 use Rattle.mir_round_trip.specs.Bodies.{names_at, IsFn}
-use Rattle.std.proofs.Common.{◌≡◌, ◌<◌, ◌≤◌, ◌+◌, ◌^◌, ℕ, suc, max, Bool, true, false, ◌||◌, nat_eq, List, [], ◌∷◌, ◌++◌, map, length, refl, sym, ap, subst, ◌∙◌, arith}
-use Rattle.std.proofs.lemmas.Bool.Decides.{nat_tests}
+use Rattle.std.proofs.Common.{◌≡◌, ◌<◌, ◌≤◌, ◌+◌, ◌^◌, ℕ, max, Bool, true, false, List, [], ◌∷◌, ◌++◌, map, length, refl, sym, ap, subst, ◌∙◌, arith}
 use Rattle.mir_syntax.specs.Tree.{Tree}
 use Rattle.mir_syntax.specs.Crate.{TypedStmt, TypedBlock, TypedFunction, Crate}
 use Rattle.mir_text.specs.Grammar as G
-use Rattle.mir_text.specs.Grammar.{Put, Items, items_of, AllItems, AllOf}
+use Rattle.mir_text.specs.Grammar.{Items, items_of, AllItems, AllOf}
 use Rattle.mir_text.specs.GrammarStatements.{StmtRule}
 use Rattle.mir_text.specs.GrammarTerms.{BlockRule, ended_put, block_put}
 use Rattle.mir_text.specs.GrammarItems as m
@@ -15,27 +14,26 @@ use Rattle.mir_text.specs.Names.{Strings, Names, ty_of}
 use Rattle.mir_text.specs.NamedBodies.{Declared, stmt_named, stmts_named, block_named}
 use Rattle.mir_text.specs.Naming.{lets_in, lets_of, declarations, declares, declared, locals_from, function_named}
 use Rattle.mir_text.specs.PartLines.{LinesFrom, past, Lined, items_lined, each_lined, lets_lined_in, lets_lined, blocks_lined, fn_lined}
-use Rattle.mir_text.specs.NameFaults.{Fault, on_line, unless, each, is_among, type_codes, stmt_codes, term_codes, stmt_faults, block_faults, declaration_faults, args_in_place, declared_once, result_faults, none_missing, in_order, blocks_in_order, labels_of, fn_faults}
+use Rattle.mir_text.specs.NameFaults.{unless, each, type_codes, stmt_codes, term_codes, stmt_faults, block_faults, declaration_faults, args_in_place, declared_once, result_faults, none_missing, blocks_in_order, labels_of, fn_faults}
 use Rattle.mir_text.specs.Nesting.{type_depth, ArgGood, decl_depth, decls_depth, BlockGood, FnGood}
 use Rattle.mir_text.specs.ReadLines.{stmt_places, term_places, any_wrong, line_if, wrong_stmt, wrong_in_block}
+use Rattle.mir_text.proofs.Counting.{labels_few, locals_from-length, blocks_lined-length}
+use Rattle.mir_text.proofs.Codes.{unless_met, no_codes}
 use Rattle.mir_rules.specs.Parts as mir
-use Rattle.mir_rules.proofs.Lists.{append_empty-left, append_empty-right, and_true-left, and_true-right, map_empty-source}
+use Rattle.mir_rules.proofs.Lists.{append_empty-left, append_empty-right}
 use Rattle.mir_round_trip.proofs.Spelling.{all-append}
 use Rattle.mir_round_trip.proofs.Rvalues.{two-same}
 use Rattle.mir_round_trip.proofs.Blocks.{all-left, all-right}
 use Rattle.mir_round_trip.proofs.FunctionsBack.{map-append, map-length}
 use Rattle.mir_round_trip.proofs.Carried.{PathNice, BlockNice, LocalNice}
 use Rattle.mir_round_trip.proofs.TypesWritten.{path_written, ty_written}
-use Rattle.mir_round_trip.proofs.PlacesWritten.{DefsKnown, unless-met, Typed, Given, Read}
+use Rattle.mir_round_trip.proofs.PlacesWritten.{DefsKnown, Typed, Given, Read}
 use Rattle.mir_round_trip.proofs.BodiesWritten.{CallsKnown, Labelled, BlockRead, blocks_written}
 use Rattle.mir_round_trip.proofs.PlacesRead.{places_of_stmt, AllTyped, stmt_read, term_read}
-use Rattle.mir_round_trip.proofs.LocalsWritten.{declared_there, declared_typed, locals_written, from-length}
+use Rattle.mir_round_trip.proofs.LocalsWritten.{declared_there, declared_typed, locals_written}
 use Rattle.mir_round_trip.proofs.Counting.{declared_most, order_most}
 
 -- ---- without lines
-
-pub line-codes : (n : ℕ) (codes : List ℕ) → on_line n codes ≡ [] → codes ≡ []
-line-codes n codes h = map_empty-source (λ code. let f : Fault = (n, code) in f) codes h
 
 line-right : (b : Bool) (n : ℕ) → line_if b n ≡ [] → b ≡ false
 line-right true n h = absurd cc
@@ -43,7 +41,7 @@ line-right false n h = refl
 
 stmts-clean : (N : Names) (L : Declared) (xs : List StmtRule) (lines : LinesFrom) → each (stmt_faults N L) (each_lined ended_put xs lines) ≡ [] → AllOf (λ x. stmt_codes N L x ≡ []) xs
 stmts-clean N L [] lines h = tt
-stmts-clean N L (x ∷ xs) lines h = (line-codes _ _ (append_empty-left _ _ h), stmts-clean N L xs (past ended_put x lines) (append_empty-right _ _ h))
+stmts-clean N L (x ∷ xs) lines h = (no_codes _ _ (append_empty-left _ _ h), stmts-clean N L xs (past ended_put x lines) (append_empty-right _ _ h))
 
 stmts-right : (N : Names) (L : Declared) (xs : List StmtRule) (lines : LinesFrom) → each (wrong_stmt N L) (each_lined ended_put xs lines) ≡ [] → AllOf (λ x. any_wrong N L (stmt_places x) ≡ false) xs
 stmts-right N L [] lines h = tt
@@ -57,7 +55,7 @@ blocks-clean : (N : Names) (L : Declared) (labels : List ℕ) (bs : List BlockRu
 blocks-clean N L labels [] lines h = tt
 blocks-clean N L labels (b ∷ bs) lines h =
     let here = append_empty-left _ _ h in
-    (record { stmts = stmts-clean N L b.stmts _ (append_empty-left _ _ here); term = line-codes _ _ (append_empty-right _ _ here) }, blocks-clean N L labels bs (past block_put b lines) (append_empty-right _ _ h))
+    (record { stmts = stmts-clean N L b.stmts _ (append_empty-left _ _ here); term = no_codes _ _ (append_empty-right _ _ here) }, blocks-clean N L labels bs (past block_put b lines) (append_empty-right _ _ h))
 
 record BlockRight (N : Names) (L : Declared) (b : BlockRule) : Type 0 where
   pub stmts : AllOf (λ x. any_wrong N L (stmt_places x) ≡ false) b.stmts
@@ -102,24 +100,6 @@ blocks-read c strings L locals typed labels (b ∷ bs) h clean right good nice =
 
 -- ---- labels
 
-label-by : (k l n b : ℕ) (x y : Bool) → nat_eq l b ≡ x → nat_eq l k ≡ true → (x || y) ≡ true → (y ≡ true → b < suc k + n) → b < k + suc n
-label-by k l n b true y e h o later = let p : l ≡ b = grind (arith, nat_tests) in let q : l ≡ k = grind (arith, nat_tests) in omega arith
-label-by k l n b false y e h o later = let less = later o in omega (arith, less)
-
-labels-below : (k : ℕ) (ls : List ℕ) (b : ℕ) → in_order k ls ≡ true → is_among ls b ≡ true → b < k + length ls
-labels-below k [] b h e = absurd cc
-labels-below k (l ∷ ls) b h e =
-    let first = and_true-left (nat_eq l k) (in_order (suc k) ls) h in
-    label-by k l (length ls) b (nat_eq l b) (is_among ls b) refl first e (λ f. labels-below (suc k) ls b (and_true-right (nat_eq l k) (in_order (suc k) ls) h) f)
-
-order-below : (ls : List ℕ) (b : ℕ) → blocks_in_order ls ≡ true → is_among ls b ≡ true → b < length ls
-order-below [] b h e = absurd cc
-order-below (l ∷ ls) b h e = let k = labels-below 0 (l ∷ ls) b h e in omega (arith, k)
-
-lined-length : (bs : List BlockRule) (lines : LinesFrom) → length (map (λ b. b.label) (blocks_lined bs lines)) ≡ length bs
-lined-length [] lines = refl
-lined-length (b ∷ bs) lines = ap suc (lined-length bs (past block_put b lines))
-
 lined-labels : (bs : List BlockRule) (lines : LinesFrom) → map (λ b. b.label) (blocks_lined bs lines) ≡ map (λ b. b.label) bs
 lined-labels [] lines = refl
 lined-labels (b ∷ bs) lines = ap (λ l. b.label ∷ l) (lined-labels bs (past block_put b lines))
@@ -158,7 +138,7 @@ mutual
 
 types-clean : (N : Names) (xs : List (Lined ArgRule)) → each (declaration_faults N) xs ≡ [] → AllOf (λ a. type_codes N a.1 ≡ []) (map (λ a. a.1) xs)
 types-clean N [] h = tt
-types-clean N (x ∷ xs) h = (line-codes _ _ (append_empty-left _ _ h), types-clean N xs (append_empty-right _ _ h))
+types-clean N (x ∷ xs) h = (no_codes _ _ (append_empty-left _ _ h), types-clean N xs (append_empty-right _ _ h))
 
 pub max-left : (a b n : ℕ) → max a b ≤ n → a ≤ n
 max-left a b n h = grind arith
@@ -185,7 +165,7 @@ items-all P (G.more x xs) h = (h.0, items-all P xs h.1)
 declared-types : (c : Crate) (strings : Strings) → DefsKnown c → (as' : List ArgRule) → AllOf (λ a. type_codes (names_at c strings) a.1 ≡ []) as' → AllOf (λ a. type_depth a.1 ≤ 65) as'
     → AllOf (λ d. IsTy c d.1) (map (declares (names_at c strings)) as')
 declared-types c strings known [] h good = tt
-declared-types c strings known (a ∷ others) h good = (ty_written c strings known.paths a.1 (unless-met _ 12 h.0) good.0, declared-types c strings known others h.1 good.1)
+declared-types c strings known (a ∷ others) h good = (ty_written c strings known.paths a.1 (unless_met _ 12 h.0) good.0, declared-types c strings known others h.1 good.1)
 
 -- ---- functions
 
@@ -217,9 +197,9 @@ function_written c strings known calls f read valid =
     let three = append_empty-left _ (declared_once [] (lined.args ++ lined.lets)) four in
     let two = append_empty-left _ (args_in_place 1 lined.args) three in
     let types = append_empty-right _ (each (declaration_faults N) (lined.args ++ lined.lets)) two in
-    let head = line-codes lined.head _ (append_empty-left _ (each (declaration_faults N) (lined.args ++ lined.lets)) two) in
-    let order = unless-met (blocks_in_order (labels_of lined)) 15 (append_empty-right _ (unless (blocks_in_order (labels_of lined)) 15) head) in
-    let missing = unless-met (none_missing L) 14 (append_empty-right _ (unless (none_missing L) 14) (append_empty-left _ (unless (blocks_in_order (labels_of lined)) 15) head)) in
+    let head = no_codes lined.head _ (append_empty-left _ (each (declaration_faults N) (lined.args ++ lined.lets)) two) in
+    let order = unless_met (blocks_in_order (labels_of lined)) 15 (append_empty-right _ (unless (blocks_in_order (labels_of lined)) 15) head) in
+    let missing = unless_met (none_missing L) 14 (append_empty-right _ (unless (none_missing L) 14) (append_empty-left _ (unless (blocks_in_order (labels_of lined)) 15) head)) in
     let rules : map (λ a. a.1) (lined.args ++ lined.lets) ≡ declarations f =
     map-append (λ a. a.1) lined.args lined.lets ∙ two-same (λ a b. a ++ b) (args-rules f.args _) (lets-rules f.locals _) in
     let codes : AllOf (λ a. type_codes N a.1 ≡ []) (declarations f) = subst (AllOf (λ a. type_codes N a.1 ≡ [])) rules (types-clean N (lined.args ++ lined.lets) types) in
@@ -228,14 +208,14 @@ function_written c strings known calls f read valid =
     let once = append_empty-right _ (declared_once [] (lined.args ++ lined.lets)) four in
     let listed = declared_most (2 ^ 32) (lined.args ++ lined.lets) once (subst (AllOf LocalNice) (sym rules) read.numbers) in
     let all-listed = sym (map-length (λ a. a.1) (lined.args ++ lined.lets)) ∙ ap length rules ∙ sym (map-length (declares N) (declarations f)) in
-    let from = from-length L 0 (length L) in
+    let from = locals_from-length L 0 (length L) in
     let few : length locals ≤ 2 ^ 32 = omega (arith, listed, all-listed, from) in
     let same : labels_of lined ≡ map (λ b. b.label) f.blocks = lined-labels f.blocks _ in
     let marks = labels-most strings f.blocks (labels_of lined) same read.nice order in
     let few-blocks : length (map (block_named N L) f.blocks) ≤ 2 ^ 32 = let n = map-length (block_named N L) f.blocks in omega (arith, n, marks) in
     let given : Given c strings L locals = record { defs = known; typed = declared_typed L; there = λ x h. declared_there L x missing h; few = few } in
-    let many : length (labels_of lined) ≡ length (map (block_named N L) f.blocks) = lined-length f.blocks _ ∙ sym (map-length (block_named N L) f.blocks) in
-    let labels : Labelled (labels_of lined) (length (map (block_named N L) f.blocks)) = record { below = λ b h. subst (λ n. b < n) many (order-below (labels_of lined) b order h); few = few-blocks } in
+    let many : length (labels_of lined) ≡ length (map (block_named N L) f.blocks) = blocks_lined-length f.blocks _ ∙ sym (map-length (block_named N L) f.blocks) in
+    let labels : Labelled (labels_of lined) (length (map (block_named N L) f.blocks)) = record { below = λ b h. subst (λ n. b < n) many (labels_few (labels_of lined) b order h); few = few-blocks } in
     let all = blocks-read c strings L locals (declared_typed L) (labels_of lined) f.blocks valid.typed (blocks-clean N L (labels_of lined) f.blocks _ blocks) (blocks-right N L f.blocks _ read.wrong) read.good.3 read.nice in
     record {
       path = path_written strings f.path read.path;

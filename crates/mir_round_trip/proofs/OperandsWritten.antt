@@ -1,72 +1,45 @@
 -- The operands and rvalues that a derivation names are such as a canonical text writes.
 use Rattle.mir_round_trip.specs.Names.{IsDef, crate_paths}
 use Rattle.mir_round_trip.specs.Bodies.{names_at, IsConst, IsOperand, AreFields, IsOne, AreAsMany, IsBuild, IsRvalue}
-use Rattle.std.proofs.Common.{◌≡◌, ◌<◌, ◌≤◌, ◌+◌, ◌-◌, ℕ, zero, suc, Bool, true, false, not, ◌==◌, nat_lt, List, [], ◌∷◌, ◌++◌, length, get_or, codes, refl, sym, ap, subst, ◌∙◌, arith, append_assoc, Option, Some, None, slice_get, bytes_eq, if◌then◌else◌}
-use Rattle.std.proofs.lemmas.Bool.Decides.{nat_tests}
-use Rattle.mir_syntax.specs.declared.types.IntTy.{IntTy}
+use Rattle.std.proofs.Common.{◌≡◌, ◌<◌, ◌+◌, ◌-◌, ℕ, zero, suc, Bool, true, false, List, [], ◌∷◌, ◌++◌, length, get_or, codes, refl, sym, ap, subst, ◌∙◌, arith, append_assoc, Option, Some, None, slice_get, bytes_eq, if◌then◌else◌}
+use Rattle.std.proofs.lemmas.Bool.{ltb-true}
 use Rattle.mir_syntax.specs.declared.types.Form.{Form}
 use Rattle.mir_syntax.specs.declared.types.Form.TheVariants as form
 use Rattle.mir_syntax.specs.Tree.{Tree}
 use Rattle.mir_syntax.specs.Crate.{TypedField, TypedVariant, TypedDef, Crate}
 use Rattle.mir_syntax.specs.Shapes.{◌>>=◌}
-use Rattle.mir_text.specs.Numbers.{is_signed, half, count, fits, bits_of, least, greatest}
+use Rattle.mir_text.specs.Numbers.{count, limit, fits, least}
 use Rattle.mir_text.specs.Words.{place_in}
 use Rattle.mir_text.specs.Grammar.{Items, end, last, more, items_of, AllItems, AllOf}
 use Rattle.mir_text.specs.GrammarTypes as t
 use Rattle.mir_text.specs.GrammarTypes.{PathRule}
 use Rattle.mir_text.specs.GrammarPlaces as p
-use Rattle.mir_text.specs.GrammarPlaces.{PlaceRule, ValueRule, OperandRule}
+use Rattle.mir_text.specs.GrammarPlaces.{ValueRule, OperandRule}
 use Rattle.mir_text.specs.GrammarStatements as r
-use Rattle.mir_text.specs.GrammarStatements.{NamedRule, BuildRule, RvalueRule}
+use Rattle.mir_text.specs.GrammarStatements.{BuildRule, RvalueRule}
 use Rattle.mir_text.specs.Names.{Strings, string_at, path_bytes, last_name, within, without_last}
 use Rattle.mir_text.specs.NamedBodies.{Declared, variant_in, value_named, operand_named, struct_at, enum_variant_at, built_by, or_first, parts_named, rvalue_named}
 use Rattle.mir_text.specs.NameFaults.{each_item, operand_codes, parts_codes, same_texts, field_names, has_form, variant_fits, variant_number, def_number, built_variant, build_codes, rvalue_codes}
-use Rattle.mir_text.specs.Nesting.{ValueFits, OperandGood, NamedGood, FirstGood, PartsGood, RvalueGood}
+use Rattle.mir_text.specs.Nesting.{ValueFits, OperandGood, NamedGood, PartsGood, RvalueGood}
 use Rattle.mir_text.specs.ReadLines.{operand_places, parts_places, rvalue_places}
 use Rattle.mir_text.specs.TypeText.{no_def, def_at}
 use Rattle.mir_text.specs.PlaceText.{no_variant, variant_at}
+use Rattle.mir_text.proofs.Fitting.{greatest_below, least_below, bits_below}
+use Rattle.mir_text.proofs.Codes.{unless_met, first_good}
 use Rattle.mir_rules.proofs.Lists.{append_empty-left, append_empty-right, and_true-right, bind_some}
-use Rattle.mir_round_trip.proofs.Operands.{halves}
 use Rattle.mir_round_trip.proofs.Rvalues.{two-same}
 use Rattle.mir_round_trip.proofs.Blocks.{all-left, all-right}
 use Rattle.mir_round_trip.proofs.TypesWritten.{def_there, path-of, ty_written}
-use Rattle.mir_round_trip.proofs.PlacesWritten.{DefsKnown, at-place, variant-by, unless-met, Given, Read, place_written}
+use Rattle.mir_round_trip.proofs.PlacesWritten.{DefsKnown, at-place, variant-by, Given, Read, place_written}
 
 -- ---- constants
 
-count-some : (x : IntTy) → 0 < count x
-count-some x = let h = halves x in let e = h.0 in let k = h.2 in omega (arith, e, k)
-
-negative-below : (n c : ℕ) (b : Bool) → (n == 0) ≡ b → 0 < c → (if b then 0 else c - n) < c
-negative-below n c true e h = h
-negative-below n c false e h = let some : 0 < n = grind (arith, nat_tests) in omega arith
-
-unfit : (b : Bool) → not b ≡ true → b ≡ false
-unfit true h = absurd cc
-unfit false h = refl
-
-positive-below : (signed : Bool) (n h c : ℕ) → c ≡ h + h → 0 < h → not (nat_lt (if signed then h - 1 else c - 1) n) ≡ true → n < c
-positive-below true n h c e some fit = let k : nat_lt (h - 1) n ≡ false = unfit (nat_lt (h - 1) n) fit in let l : n ≤ h - 1 = grind (arith, nat_tests) in omega arith
-positive-below false n h c e some fit = let k : nat_lt (c - 1) n ≡ false = unfit (nat_lt (c - 1) n) fit in let l : n ≤ c - 1 = grind (arith, nat_tests) in omega arith
-
-least-below : (signed : Bool) (x : IntTy) → is_signed x ≡ signed → least x < count x
-least-below true x e = let h = halves x in let k = h.0 in let l = h.2 in rw e (omega (arith, k, l))
-least-below false x e = rw e (count-some x)
-
-most-below : (signed : Bool) (x : IntTy) → is_signed x ≡ signed → greatest x < count x
-most-below true x e = let h = halves x in let k = h.0 in let l = h.2 in rw e (omega (arith, k, l))
-most-below false x e = let h = count-some x in rw e (omega (arith, h))
-
-bits-below : (negative : Bool) (n : ℕ) (x : IntTy) → fits negative n x ≡ true → bits_of negative n x < count x
-bits-below true n x h = negative-below n (count x) (n == 0) refl (count-some x)
-bits-below false n x h = let is = halves x in positive-below (is_signed x) n (half x) (count x) is.0 is.2 h
-
 const-written : (x : ValueRule) → ValueFits x → IsConst (value_named x)
-const-written (p.number negative n u) h = bits-below negative n u h
+const-written (p.number negative n u) h = bits_below negative n u h
 const-written (p.boolean x) h = tt
 const-written p.unit h = tt
-const-written (p.least u) h = least-below (is_signed u) u refl
-const-written (p.most u) h = most-below (is_signed u) u refl
+const-written (p.least u) h = ltb-true (least u) (count u) (least_below u)
+const-written (p.most u) h = ltb-true (limit false u) (count u) (greatest_below u)
 
 -- ---- operands
 
@@ -264,19 +237,13 @@ build-by c strings L locals given q x (Some (d, k)) e h all =
 
 -- ---- rvalues
 
-first-is : (x : OperandRule) → FirstGood x → OperandGood x
-first-is (p.copy q) h = h
-first-is (p.move q) h = h
-first-is (p.bare q) h = let k = h.0 in (omega (arith, k), h.1)
-first-is (p.const x) h = h
-
 pub rvalue_written : (c : Crate) (strings : Strings) (L : Declared) (locals : List Tree) → Given c strings L locals → (x : RvalueRule) → AllOf (Read c strings L) (rvalue_places x)
     → rvalue_codes (names_at c strings) L x ≡ [] → RvalueGood x → IsRvalue c locals (rvalue_named (names_at c strings) L x)
 unfolding IsRvalue IsOperand
 rvalue_written c strings L locals given (r.«use» x) h codes good = operand_written c strings L locals given x h codes good
 rvalue_written c strings L locals given (r.cast x u) h codes good = (
   operand_written c strings L locals given x h (append_empty-left (operand_codes (names_at c strings) L x) _ codes) good.0,
-  ty_written c strings given.defs.paths u (unless-met _ 12 (append_empty-right (operand_codes (names_at c strings) L x) _ codes)) good.1,
+  ty_written c strings given.defs.paths u (unless_met _ 12 (append_empty-right (operand_codes (names_at c strings) L x) _ codes)) good.1,
 )
 rvalue_written c strings L locals given (r.binary op x y) h codes good = (
   operand_written c strings L locals given x (all-left (Read c strings L) (operand_places x) (operand_places y) h) (append_empty-left (operand_codes (names_at c strings) L x) _ codes) good.0,
@@ -292,10 +259,10 @@ rvalue_written c strings L locals given (r.reference false q) h codes good = pla
 rvalue_written c strings L locals given (r.discriminant q) h codes good = place_written c strings L locals given q h.0 codes good
 rvalue_written c strings L locals given r.nothing h codes good = tt
 rvalue_written c strings L locals given (r.tuple_of x xs) h codes good = (
-  operand_written c strings L locals given x (all-left (Read c strings L) (operand_places x) (each_item operand_places xs) h) (append_empty-left (operand_codes (names_at c strings) L x) _ codes) (first-is x good.0),
+  operand_written c strings L locals given x (all-left (Read c strings L) (operand_places x) (each_item operand_places xs) h) (append_empty-left (operand_codes (names_at c strings) L x) _ codes) (first_good x good.0),
   operands_written c strings L locals given xs (all-right (Read c strings L) (operand_places x) (each_item operand_places xs) h) (append_empty-right (operand_codes (names_at c strings) L x) _ codes) good.1,
 )
 rvalue_written c strings L locals given (r.build q x) h codes good =
     let own = append_empty-left (build_codes (names_at c strings) q x) (parts_codes (names_at c strings) L x) codes in
     let parts = append_empty-right (build_codes (names_at c strings) q x) (parts_codes (names_at c strings) L x) codes in
-    build-by c strings L locals given q x (built_by (names_at c strings) q) refl (unless-met _ 13 own) (parts-written c strings L locals given x h parts good)
+    build-by c strings L locals given q x (built_by (names_at c strings) q) refl (unless_met _ 13 own) (parts-written c strings L locals given x h parts good)

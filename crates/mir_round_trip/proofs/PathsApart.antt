@@ -8,17 +8,16 @@ use Rattle.mir_text.specs.GrammarTypes.{PathRule}
 use Rattle.mir_text.specs.GrammarItems as m
 use Rattle.mir_text.specs.GrammarItems.{VariantRule, ItemRule, item_put, FileRule}
 use Rattle.mir_text.specs.Names as n
-use Rattle.mir_text.specs.Names.{Strings, Names, string_at, path_bytes, variant_named, def_in, defs_in, def_named}
+use Rattle.mir_text.specs.Names.{Strings, Names, path_bytes, variant_named, defs_in, def_named}
 use Rattle.mir_text.specs.Naming.{outsides_in, functions_in}
 use Rattle.mir_text.specs.PartLines.{LinesFrom, past, other, item_lined, file_lined}
 use Rattle.mir_text.specs.NameFaults.{unless, on_line, Defined, defined_by, same_flag, is_variant_path, clashes, any_clashes, path_faults}
+use Rattle.mir_text.proofs.Codes.{unless_met, no_codes}
 use Rattle.mir_round_trip.specs.Bodies.{names_at}
 use Rattle.mir_round_trip.specs.Names.{crate_paths}
 use Rattle.mir_rules.proofs.Lists.{append_empty-left, append_empty-right, or_false-left, or_false-right}
 use Rattle.mir_round_trip.proofs.ReadBack.{any-same, as-defined}
 use Rattle.mir_round_trip.proofs.Rvalues.{two-same}
-use Rattle.mir_round_trip.proofs.PlacesWritten.{unless-met}
-use Rattle.mir_round_trip.proofs.FunctionsWritten.{line-codes}
 use Rattle.mir_round_trip.proofs.DefinitionsWritten.{map-items}
 
 -- ---- to clash goes both ways
@@ -121,8 +120,8 @@ not-true false h = refl
 faults-apart : (before xs : List Defined) → path_faults before xs ≡ [] → AreApart (map unlined before) (map unlined xs)
 faults-apart before [] h = tt
 faults-apart before (a ∷ xs) h =
-    let codes = line-codes a.line _ (append_empty-left (on_line a.line (unless (not (any_clashes a before)) 10)) _ h) in
-    (sym (any-same a before) ∙ not-true (any_clashes a before) (unless-met _ 10 codes), faults-apart (a ∷ before) xs (append_empty-right (on_line a.line (unless (not (any_clashes a before)) 10)) _ h))
+    let codes = no_codes a.line _ (append_empty-left (on_line a.line (unless (not (any_clashes a before)) 10)) _ h) in
+    (sym (any-same a before) ∙ not-true (any_clashes a before) (unless_met _ 10 codes), faults-apart (a ∷ before) xs (append_empty-right (on_line a.line (unless (not (any_clashes a before)) 10)) _ h))
 
 -- ---- in the order of a crate
 

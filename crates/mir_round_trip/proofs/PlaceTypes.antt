@@ -6,15 +6,17 @@ use Rattle.mir_syntax.specs.declared.body.Proj.TheVariants.{Field, Downcast, Der
 use Rattle.mir_syntax.specs.Tree.{Tree, empty}
 use Rattle.mir_syntax.specs.Crate.{Crate}
 use Rattle.mir_syntax.specs.Shapes.{Shape, ◌>>=◌, pointee, proj_ty, path_ty, place_ty, shapes_of}
+use Rattle.mir_syntax.proofs.Binds.{bind_bind, bind_back}
 use Rattle.mir_text.specs.GrammarPlaces as p
 use Rattle.mir_text.specs.GrammarPlaces.{PlaceRule}
 use Rattle.mir_text.specs.Names.{Strings, string_at}
 use Rattle.mir_text.specs.NamedBodies.{Declared, declared_ty, variant_of_ty, place_ty_of, downcast_ty, variant_at_place, or_zero, local_in, projs_named, place_named}
 use Rattle.mir_text.specs.NameFaults.{unless, type_codes, place_codes}
 use Rattle.mir_text.specs.PlaceText.{local_ty}
+use Rattle.mir_text.proofs.Codes.{unless_met}
 use Rattle.mir_rules.proofs.Lists.{append_empty-left, append_empty-right, bind_some}
 use Rattle.mir_round_trip.proofs.Meaning.{proj-same}
-use Rattle.mir_round_trip.proofs.PlacesWritten.{at-place, unless-met}
+use Rattle.mir_round_trip.proofs.PlacesWritten.{at-place}
 
 -- ---- options
 
@@ -23,16 +25,6 @@ unfolding ◌>>=◌
 bind-same None f g h = refl
 bind-same (Some a) f g h = h a
 
-bind-bind : {A B C : Type 0} (o : Option A) (f : A → Option B) (g : B → Option C) → ((o >>= f) >>= g) ≡ (o >>= λ a. f a >>= g)
-unfolding ◌>>=◌
-bind-bind None f g = refl
-bind-bind (Some a) f g = refl
-
-bind-back : {A : Type 0} (o : Option A) → (o >>= λ a. Some a) ≡ o
-unfolding ◌>>=◌
-bind-back None = refl
-bind-back (Some a) = refl
-
 -- ---- paths
 
 path-append : (D : List Shape) (t : Tree) (ps qs : List Proj) → path_ty D t (ps ++ qs) ≡ (path_ty D t ps >>= λ u. path_ty D u qs)
@@ -40,7 +32,7 @@ unfolding ◌>>=◌
 path-append D t [] qs = refl
 path-append D t (p ∷ ps) qs =
     bind-same (proj_ty D t p) (λ u. path_ty D u (ps ++ qs)) (λ u. path_ty D u ps >>= λ w. path_ty D w qs) (λ u. path-append D u ps qs)
-    ∙ sym (bind-bind (proj_ty D t p) (λ u. path_ty D u ps) (λ w. path_ty D w qs))
+    ∙ sym (bind_bind (proj_ty D t p) (λ u. path_ty D u ps) (λ w. path_ty D w qs))
 
 path-same : (c : Crate) (t : Tree) (ps : List Proj) → path_ty (shapes_of c) t ps ≡ path_ty (plain_shapes c) t ps
 path-same c t [] = refl
@@ -54,10 +46,10 @@ path-same c t (p ∷ ps) =
 further : (D : List Shape) (o P : Option Tree) (ps qs : List Proj) → (o >>= λ t. path_ty D t ps) ≡ P → (o >>= λ t. path_ty D t (ps ++ qs)) ≡ (P >>= λ u. path_ty D u qs)
 further D o P ps qs h =
     bind-same o (λ t. path_ty D t (ps ++ qs)) (λ t. path_ty D t ps >>= λ u. path_ty D u qs) (λ t. path-append D t ps qs)
-    ∙ sym (bind-bind o (λ t. path_ty D t ps) (λ u. path_ty D u qs)) ∙ ap (λ x. x >>= λ u. path_ty D u qs) h
+    ∙ sym (bind_bind o (λ t. path_ty D t ps) (λ u. path_ty D u qs)) ∙ ap (λ x. x >>= λ u. path_ty D u qs) h
 
 one-step : (D : List Shape) (u : Tree) (s : Proj) → path_ty D u (s ∷ []) ≡ proj_ty D u s
-one-step D u s = bind-back (proj_ty D u s)
+one-step D u s = bind_back (proj_ty D u s)
 
 two-steps : (D : List Shape) (u : Tree) (k n : ℕ) → path_ty D u (Downcast k ∷ Field n ∷ []) ≡ (proj_ty D u (Downcast k) >>= λ w. proj_ty D w (Field n))
 two-steps D u k n = bind-same (proj_ty D u (Downcast k)) (λ w. path_ty D w (Field n ∷ [])) (λ w. proj_ty D w (Field n)) (λ w. one-step D w (Field n))
@@ -71,7 +63,7 @@ variant-link c strings (Some u) bytes n (Some k) e h = two-steps (plain_shapes c
 
 link : (c : Crate) (strings : Strings) (L : Declared) (q : PlaceRule) → place_codes (names_at c strings) L q ≡ []
     → (declared_ty L (local_in q) >>= λ t. path_ty (plain_shapes c) t (projs_named (names_at c strings) L q)) ≡ place_ty_of (names_at c strings) L q
-link c strings L (p.local x) codes = bind-back (declared_ty L x)
+link c strings L (p.local x) codes = bind_back (declared_ty L x)
 link c strings L (p.deref q) codes =
     let P = place_ty_of (names_at c strings) L q in
     further (plain_shapes c) _ P (projs_named (names_at c strings) L q) (Deref ∷ []) (link c strings L q codes)
@@ -86,11 +78,11 @@ link c strings L (p.variant_field q v n u) codes =
     let at = variant_at_place N L q v in
     let front = append_empty-left (place_codes N L q ++ unless (is_some at) 13) (type_codes N u) codes in
     further (plain_shapes c) _ P (projs_named N L q) (Downcast (or_zero at) ∷ Field n ∷ []) (link c strings L q (append_empty-left (place_codes N L q) (unless (is_some at) 13) front))
-    ∙ variant-link c strings P (string_at strings v) n at refl (unless-met _ 13 (append_empty-right (place_codes N L q) (unless (is_some at) 13) front))
+    ∙ variant-link c strings P (string_at strings v) n at refl (unless_met _ 13 (append_empty-right (place_codes N L q) (unless (is_some at) 13) front))
 
 -- the first local of a place without fault is declared
 local-declared : (c : Crate) (strings : Strings) (L : Declared) (q : PlaceRule) → place_codes (names_at c strings) L q ≡ [] → is_some (declared_ty L (local_in q)) ≡ true
-local-declared c strings L (p.local x) codes = unless-met _ 14 codes
+local-declared c strings L (p.local x) codes = unless_met _ 14 codes
 local-declared c strings L (p.deref q) codes = local-declared c strings L q codes
 local-declared c strings L (p.field q n u) codes = local-declared c strings L q (append_empty-left (place_codes (names_at c strings) L q) _ codes)
 local-declared c strings L (p.variant_field q v n u) codes =

@@ -18,11 +18,13 @@ use Rattle.mir_text.specs.Nesting.{type_depth, place_depth, Small, PlaceGood}
 use Rattle.mir_text.specs.ReadLines.{differs, is_wrong}
 use Rattle.mir_text.specs.TypeText.{no_def, def_at}
 use Rattle.mir_text.specs.PlaceText.{or_unit, local_ty, type_after, no_variant, variant_at}
+use Rattle.mir_text.proofs.Numbered.{place_from-there}
+use Rattle.mir_text.proofs.Codes.{unless_met}
 use Rattle.mir_rules.proofs.Lists.{append_empty-left, append_empty-right, or_false-left, or_false-right, bind_some}
 use Rattle.mir_round_trip.proofs.Numbering.{stands-at}
 use Rattle.mir_round_trip.proofs.Meaning.{proj-same}
 use Rattle.mir_round_trip.proofs.Rvalues.{two-same}
-use Rattle.mir_round_trip.proofs.TypesWritten.{PathsWritten, place-there, type_proper, type_depth_same, same_type_is}
+use Rattle.mir_round_trip.proofs.TypesWritten.{PathsWritten, type_proper, type_depth_same, same_type_is}
 
 -- ---- paths, one more step behind
 
@@ -121,7 +123,7 @@ variant-by d bytes k true e h =
     let n : place_in (variant_names d) bytes ≡ Some k = rw e at h in
     let at = stands-at 0 k (variant_names d) bytes n in
     let same : at.0 ≡ k = omega (arith, at.1) in
-    let less = place-there 0 k (variant_names d) bytes n in
+    let less = place_from-there 0 k (variant_names d) bytes n in
     let all = names-length d.variants in
     record { enum = e; there = omega (arith, less, all); name = sym (name-at d.variants k) ∙ ap (λ j. get_or (variant_names d) j []) (sym same) ∙ at.2 }
 
@@ -173,10 +175,6 @@ one-more c t0 t u m d ps qs a b =
       depth = depth-more c t0 1 ps qs a.path ∙ two-same (λ x y. path_depth c x y qs) a.end a.depth ∙ b.depth;
     }
 
-pub unless-met : (b : Bool) (code : ℕ) → unless b code ≡ [] → b ≡ true
-unless-met true code h = refl
-unless-met false code h = absurd cc
-
 unnot : (b : Bool) → not b ≡ false → b ≡ true
 unnot true h = refl
 unnot false h = absurd cc
@@ -187,7 +185,7 @@ not-wrong o t u e h = let n : not (same_type t u) ≡ false = ap (λ x. differs 
 -- a type that a place is written with is that of the field
 field-type : (c : Crate) (strings : Strings) → DefsKnown c → (t : Tree) (u : TypeRule) → t ≡ type_named strings (crate_paths c) u → type_codes (names_at c strings) u ≡ [] → Proper c t × (tree_depth t ≡ type_depth u)
 field-type c strings known t u e h =
-    (subst (Proper c) (sym e) (type_proper c strings known.paths u (unless-met _ 12 h)), ap tree_depth e ∙ type_depth_same strings (crate_paths c) u)
+    (subst (Proper c) (sym e) (type_proper c strings known.paths u (unless_met _ 12 h)), ap tree_depth e ∙ type_depth_same strings (crate_paths c) u)
 
 variant-placed : (c : Crate) (strings : Strings) (L : Declared) (locals : List Tree) → Given c strings L locals → (q : PlaceRule) (v n : ℕ) (u : TypeRule) (s t : Tree) → Placed c strings L locals q s
     → place_ty_of (names_at c strings) L q ≡ Some s → (o : Option ℕ) → variant_of_ty (names_at c strings) (string_at strings v) s ≡ o → downcast_ty (names_at c strings) s n o ≡ Some t

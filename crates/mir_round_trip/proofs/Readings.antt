@@ -21,6 +21,7 @@ use Rattle.mir_text.specs.TermText.{function_paths, outside_paths}
 use Rattle.mir_text.specs.Text.{text}
 use Rattle.mir_text.specs.TypeText.{no_def, def_at}
 use Rattle.mir_text.specs.PlaceText.{no_variant}
+use Rattle.mir_text.proofs.Codes.{no_codes}
 use Rattle.mir_rules.specs.Valid.{Valid}
 use Rattle.mir_rules.proofs.Lists.{append_empty-left, append_empty-right}
 use Rattle.mir_round_trip.proofs.Spelling.{all-map, all-append}
@@ -33,7 +34,7 @@ use Rattle.mir_round_trip.proofs.Carried.{ItemNice, file_nice, LocalNice}
 use Rattle.mir_round_trip.proofs.TypesWritten.{PathsWritten, path_written}
 use Rattle.mir_round_trip.proofs.PlacesWritten.{DefsKnown}
 use Rattle.mir_round_trip.proofs.BodiesWritten.{CallsKnown}
-use Rattle.mir_round_trip.proofs.FunctionsWritten.{line-codes, FnValid, function_written, items-all}
+use Rattle.mir_round_trip.proofs.FunctionsWritten.{FnValid, function_written, items-all}
 use Rattle.mir_round_trip.proofs.DefinitionsWritten.{Sound, def-written, outside-written, names-is}
 use Rattle.mir_round_trip.proofs.ValidParts.{functions_valid}
 use Rattle.mir_round_trip.proofs.PathsApart.{paths_apart}
@@ -64,9 +65,9 @@ all-known c strings [] h k l = tt
 all-known c strings (x ∷ xs) h k l = (record { clean = h.0; good = k.0; nice = l.0 }, all-known c strings xs h.1 k.1 l.1)
 
 no-codes-of : (N : Names) (item : ItemRule) → Clean N item → other_codes N item ≡ []
-no-codes-of N (m.struct q fs) h = line-codes _ _ h.faults
-no-codes-of N (m.enum q vs) h = line-codes _ _ h.faults
-no-codes-of N (m.extern q us u) h = line-codes _ _ h.faults
+no-codes-of N (m.struct q fs) h = no_codes _ _ h.faults
+no-codes-of N (m.enum q vs) h = no_codes _ _ h.faults
+no-codes-of N (m.extern q us u) h = no_codes _ _ h.faults
 no-codes-of N (m.function f) h = refl
 
 sound : (c : Crate) (strings : Strings) (item : ItemRule) → Known c strings item → Sound c strings item

@@ -1,6 +1,6 @@
 -- The paths and types that a derivation writes are such as a canonical text writes.
 use Rattle.mir_round_trip.specs.Names.{IsName, PathNames, one, more, joined, in_front, split, AllNames, IsPath, crate_paths, IsDef, Proper, AreProper, tree_depth, parts_depth, IsTy}
-use Rattle.std.proofs.Common.{◌≡◌, ◌<◌, ◌≤◌, ◌+◌, ℕ, zero, suc, max, Bool, true, false, ◌==◌, nat_eq, bytes_eq, List, [], ◌∷◌, ◌++◌, map, length, get_or, codes, refl, sym, ap, subst, ◌∙◌, arith, append_assoc, Option, Some, None, is_some}
+use Rattle.std.proofs.Common.{◌≡◌, ◌<◌, ◌≤◌, ◌+◌, ℕ, zero, suc, max, Bool, true, false, ◌==◌, nat_eq, List, [], ◌∷◌, ◌++◌, map, length, get_or, codes, refl, sym, ap, subst, ◌∙◌, arith, append_assoc, Option, Some, None, is_some}
 use Rattle.std.proofs.lemmas.Bool.Decides.{nat_tests}
 use Rattle.std.specs.Char.{is_ascii_alphabetic}
 use Rattle.mir_syntax.specs.declared.types.IntTy.{IntTy}
@@ -12,13 +12,14 @@ use Rattle.mir_syntax.specs.Tree.{Tree}
 use Rattle.mir_syntax.specs.Crate.{TypedDef, Crate}
 use Rattle.mir_text.specs.Bytes.{AreAll, is_name_byte}
 use Rattle.mir_text.specs.Pieces.{Piece, blank, line, comment, local, number, typed, text, word, under, mark, spelled, IsPiece}
-use Rattle.mir_text.specs.Words.{place_from, place_in}
+use Rattle.mir_text.specs.Words.{place_in}
 use Rattle.mir_text.specs.Symbols.{name, token_of}
 use Rattle.mir_text.specs.GrammarTypes as t
 use Rattle.mir_text.specs.GrammarTypes.{PathRule, TypeRule, TypesRule}
 use Rattle.mir_text.specs.Names.{Strings, string_at, path_bytes, named_or, type_named, types_named, is_known, are_known, int_number, same_scalar, same_type}
 use Rattle.mir_text.specs.Nesting.{type_depth, types_depth}
 use Rattle.mir_text.specs.TypeText.{no_def, def_at}
+use Rattle.mir_text.proofs.Numbered.{place_from-there}
 use Rattle.mir_rules.specs.Same as rule
 use Rattle.mir_rules.proofs.Same.{same_scalar_is}
 use Rattle.mir_rules.proofs.Lists.{and_true-left, and_true-right}
@@ -89,14 +90,6 @@ path_written strings q h =
 
 -- ---- definitions that a path names
 
-place-by : (k n : ℕ) (x : List ℕ) (xs : List (List ℕ)) (bytes : List ℕ) (b : Bool) → bytes_eq x bytes ≡ b → place_from k (x ∷ xs) bytes ≡ Some n → (place_from (suc k) xs bytes ≡ Some n → n < suc k + length xs) → n < k + length (x ∷ xs)
-place-by k n x xs bytes true e h later = let first = rw e at h in let here : k ≡ n = cc in omega (arith, here)
-place-by k n x xs bytes false e h later = let first = rw e at h in let less = later first in omega (arith, less)
-
-pub place-there : (k n : ℕ) (paths : List (List ℕ)) (bytes : List ℕ) → place_from k paths bytes ≡ Some n → n < k + length paths
-place-there k n [] bytes h = absurd cc
-place-there k n (x ∷ xs) bytes h = place-by k n x xs bytes (bytes_eq x bytes) refl h (λ e. place-there (suc k) n xs bytes e)
-
 path-at : (ds : List TypedDef) (d : ℕ) → get_or (map (λ x. x.path) ds) d [] ≡ (get_or ds d no_def).path
 path-at [] d = refl
 path-at (x ∷ xs) zero = refl
@@ -122,7 +115,7 @@ def_there c bytes d paths h =
     let at = stands-at 0 d (crate_paths c) bytes h in
     let same : at.0 ≡ d = omega (arith, at.1) in
     let path : (def_at c d).path ≡ bytes = sym (path-at c.defs d) ∙ ap (λ n. get_or (crate_paths c) n []) (sym same) ∙ at.2 in
-    let less = place-there 0 d (crate_paths c) bytes h in
+    let less = place_from-there 0 d (crate_paths c) bytes h in
     let all = paths-length c.defs in
     let there : d < length c.defs = omega (arith, less, all) in
     record { there = there; path = paths d there; place = ap (place_in (crate_paths c)) path ∙ h }

@@ -2,8 +2,9 @@
 use Rattle.std.proofs.Common.{◌≡◌, refl, sym, ap, ap₂, ◌∙◌, subst, ℕ, zero, suc, Bool, true, false, ◌||◌, ◌==◌, List, [], ◌∷◌, length, Option, Some, None, is_some, slice_get, arith}
 use Rattle.std.proofs.Common.{eqb-true, eq-eqb}
 use Rattle.mir_syntax.specs.Tree.{Tree, more, named}
-use Rattle.mir_syntax.specs.Crate.{TypedDef, TypedFunction, Crate}
+use Rattle.mir_syntax.specs.Crate.{TypedDef, Crate}
 use Rattle.mir_syntax.specs.Shapes.{Shape, shapes_from, shapes_of, needs_by, any_needs, needs_of, needs_def, needs_drop}
+use Rattle.mir_syntax.proofs.Places.{shapes_from-past}
 use Rattle.mir_rules.specs.DefinitionRules.{holds}
 use Rattle.mir_rules.specs.Valid.{Valid}
 use Rattle.mir_rules.proofs.Depth.{any_mono, or_first, or_second, is_deep, not_deep}
@@ -43,11 +44,6 @@ module _ (D : List Shape) (apart : (d : ℕ) → holds D (length D) d d ≡ fals
 
 -- ---- in a valid crate no definition holds itself
 
-shape_missing : (functions : List TypedFunction) (i : ℕ) (defs : List TypedDef) (d : ℕ) → slice_get defs d ≡ None → slice_get (shapes_from functions i defs) d ≡ None
-shape_missing functions i [] d e = refl
-shape_missing functions i (def ∷ defs) zero e = absurd (grind arith)
-shape_missing functions i (def ∷ defs) (suc d) e = shape_missing functions (suc i) defs d e
-
 holds_nothing : (D : List Shape) (n e d : ℕ) → slice_get D d ≡ None → holds D n e d ≡ false
 holds_nothing D zero e d h = refl
 holds_nothing D (suc n) e d h = rw h refl
@@ -57,7 +53,7 @@ unfolding shapes_of
 apart_in C valid d = go (slice_get C.defs d) refl
   where
     go : (o : Option TypedDef) → slice_get C.defs d ≡ o → holds (shapes_from C.functions 0 C.defs) (length (shapes_from C.functions 0 C.defs)) d d ≡ false
-    go None e = holds_nothing (shapes_from C.functions 0 C.defs) (length (shapes_from C.functions 0 C.defs)) d d (shape_missing C.functions 0 C.defs d e)
+    go None e = holds_nothing (shapes_from C.functions 0 C.defs) (length (shapes_from C.functions 0 C.defs)) d d (shapes_from-past C.functions 0 C.defs d e)
     go (Some def) e = (keeps C valid).defs d def e
 
 -- ---- needs drop

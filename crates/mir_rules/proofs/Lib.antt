@@ -1,4 +1,5 @@
 pub mod Lists
+pub mod Whole
 pub mod Same
 pub mod Keeps
 pub mod Typed

@@ -39,7 +39,7 @@ callee_there C (callee.Outside o) h =
     let (g, e) = slice_get_there C.outsides o.0 (ltb-true o.0 (length C.outsides) h) in
     (tuple_of g.args, g.result, some_bind _ e refl, some_bind _ e refl)
 
-scalar_of_is : (t : Tree) (s : ScalarTy) → scalar_of t ≡ Some s → t ≡ scalar s
+pub scalar_of_is : (t : Tree) (s : ScalarTy) → scalar_of t ≡ Some s → t ≡ scalar s
 scalar_of_is (scalar u) s e = ap scalar (let k : u ≡ s = grind arith in k)
 scalar_of_is t s e = absurd (grind arith)
 

@@ -1,10 +1,12 @@
 -- What a valid crate gives at each of its places, and how a body is valid in it.
-use Rattle.std.proofs.Common.{◌≡◌, ◌⊎◌, inl, inr, refl, ap, subst, ℕ, zero, suc, ◌<◌, ◌≤◌, Bool, true, nat_lt, ◌&&◌, List, [], ◌∷◌, length, take, set, Some, slice_get, arith}
+use Rattle.std.proofs.Common.{◌≡◌, ◌⊎◌, inl, inr, refl, subst, ℕ, suc, ◌<◌, ◌≤◌, Bool, true, nat_lt, ◌&&◌, length, take, set, Some, slice_get, arith}
 use Rattle.std.proofs.Common.{ltb-true}
 use Rattle.std.specs.List.{list_all}
+use Rattle.std.proofs.lemmas.List.{set-set}
 use Rattle.mir_syntax.specs.Tree.{Tree}
 use Rattle.mir_syntax.specs.Crate.{TypedStmt, TypedBlock, TypedBody, TypedFunction, Crate}
 use Rattle.mir_syntax.specs.Shapes.{shapes_of}
+use Rattle.mir_syntax.proofs.Lists.{set_there}
 use Rattle.mir_rules.specs.Parts.{term_operands, term_places, targets}
 use Rattle.mir_rules.specs.Formed.{type_formed, place_formed, operand_formed, call_formed, block_there, stmt_formed, term_formed, block_formed, has_start, body_formed, function_formed, def_formed, outside_formed, is_formed}
 use Rattle.mir_rules.specs.Limits.{most_in_body}
@@ -101,16 +103,6 @@ valid_put C f g b v e alike formed kept = valid_with C (set C.functions f (with_
 pub valid_at : (C : Crate) (f : ℕ) (g : TypedFunction) (b : TypedBody) → Valid C → slice_get C.functions f ≡ Some g → Alike (with_body g b) g → body_formed C b ≡ true → BodyKeeps C b → length b.blocks ≤ most_in_body → length b.locals ≤ most_in_body → ValidAt C f b
 valid_at C f g b v e alike formed kept few_blocks few_locals = record { function = g; is = e; valid = valid_put C f g b v e alike formed kept; blocks = few_blocks; locals = few_locals }
 
-set_again : {A : Type 0} (xs : List A) (f : ℕ) (v w : A) → set (set xs f v) f w ≡ set xs f w
-set_again [] f v w = refl
-set_again (x ∷ xs) zero v w = refl
-set_again (x ∷ xs) (suc f) v w = ap (λ ys. x ∷ ys) (set_again xs f v w)
-
-set_there : {A : Type 0} (xs : List A) (f : ℕ) (v x : A) → slice_get xs f ≡ Some x → slice_get (set xs f v) f ≡ Some v
-set_there [] f v x e = absurd (grind arith)
-set_there (y ∷ xs) zero v x e = refl
-set_there (y ∷ xs) (suc f) v x e = set_there xs f v x e
-
 -- the crate in which a body is valid has it at its function
 pub holds_body : (C : Crate) (f : ℕ) (b : TypedBody) (h : ValidAt C f b) → slice_get (at_function C f h.function b).functions f ≡ Some (with_body h.function b)
 holds_body C f b h = set_there C.functions f (with_body h.function b) h.function h.is
@@ -122,7 +114,7 @@ valid_again C f b b2 h args start formed kept few_blocks few_locals =
     record {
       function = h.function;
       is = h.is;
-      valid = subst (λ fs. Valid (record C { functions = fs })) (set_again C.functions f (with_body h.function b) (with_body h.function b2)) put;
+      valid = subst (λ fs. Valid (record C { functions = fs })) (set-set C.functions f (with_body h.function b) (with_body h.function b2)) put;
       blocks = few_blocks;
       locals = few_locals;
     }

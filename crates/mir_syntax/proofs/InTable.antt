@@ -12,8 +12,8 @@ use Rattle.mir_syntax.specs.declared.program.Program.{Program}
 use Rattle.mir_syntax.specs.Table.{IsTable, all_below, ids_below}
 use Rattle.mir_syntax.specs.Ids.{field_below, variant_below, def_below, block_below, BodyInTable, IdsInTable}
 use Rattle.mir_syntax.specs.Shapes.{field_id}
-use Rattle.mir_syntax.proofs.Trees.{slice_get-below}
 use Rattle.mir_syntax.proofs.OneId.{ids_below-more}
+use Rattle.std.proofs.lemmas.Option.{slice_get_within}
 
 pub all-at : {X : Type 0} (test : X → Bool) (xs : List X) (k : ℕ) (x : X) → IsTrue (list_all test xs) → slice_get xs k ≡ Some x → IsTrue (test x)
 all-at test [] k x h at = absurd cc
@@ -56,7 +56,7 @@ field-read n (f ∷ fields) (suc k) (Some id) h is =
 pub ty-made : (types : List Ty) (k : ℕ) (o : Option (Bor Ty)) → IsTable types → option_copied o ≡ slice_get types k → IfSome o (λ ty. IsTrue (ids_below (length types) ty.now))
 ty-made types k None table is = tt
 ty-made types k (Some ty) table is =
-    let below = slice_get-below types k ty.now (sym is) in
+    let below = slice_get_within types k ty.now (sym is) in
     ids_below-more k (length types) (omega arith) ty.now (table.made k ty.now (sym is))
 
 -- the fields of a variant

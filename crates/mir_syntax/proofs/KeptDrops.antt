@@ -2,7 +2,7 @@
 use Rattle.std.proofs.Common.{◌≡◌, ℕ, zero, suc, ◌<◌, Bool, false, List, [], ◌∷◌, map, length, get_or, slice_get, Option, Some, None, refl, sym, ap, ◌∙◌, arith, rules}
 use Rattle.std.specs.Option.{option_map}
 use Rattle.std.proofs.lemmas.List.{get_or-map}
-use Rattle.std.proofs.lemmas.Option.{slice_get-map}
+use Rattle.std.proofs.lemmas.Option.{slice_get-map, slice_get_within}
 use Rattle.mir_syntax.specs.declared.types.FnId.{FnId}
 use Rattle.mir_syntax.specs.declared.types.TyId.{TyId}
 use Rattle.mir_syntax.specs.declared.types.Ty.{Ty}
@@ -12,7 +12,7 @@ use Rattle.mir_syntax.specs.Tree.{Tree, scalar, ref_mut, named, at_id, node, tre
 use Rattle.mir_syntax.specs.Table.{IsTable}
 use Rattle.mir_syntax.specs.Shapes.{Shape, needs_drop, destructor_of, ◌>>=◌}
 use Rattle.mir_syntax.specs.Drops.{fn_number, own_destructor}
-use Rattle.mir_syntax.proofs.Trees.{length-trees_of, Stands-at, slice_get-below}
+use Rattle.mir_syntax.proofs.Trees.{length-trees_of, Stands-at}
 use Rattle.mir_syntax.proofs.OneId.{ids_below-more, node-injective}
 
 pub needs-length : (D : List Shape) (types : List Ty) (kept : List Bool) → kept ≡ map (needs_drop D) (trees_of types) → length kept ≡ length types
@@ -70,7 +70,7 @@ pub ref_mut-there : (types : List Ty) (id there : TyId) → IsTable types → id
 ref_mut-there types id there table below stands = found (slice_get types there.0) refl
   where
     here : there.0 < length types
-    here = let in_trees = slice_get-below (trees_of types) there.0 (ref_mut (at_id (trees_of types) id)) stands in omega (arith, in_trees, length-trees_of types)
+    here = let in_trees = slice_get_within (trees_of types) there.0 (ref_mut (at_id (trees_of types) id)) stands in omega (arith, in_trees, length-trees_of types)
 
     found : (o : Option Ty) → slice_get types there.0 ≡ o → o ≡ Some (RefMut id)
     found None none = absurd (past types there.0 none here)

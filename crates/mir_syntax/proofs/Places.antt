@@ -1,5 +1,5 @@
 -- Laws of the types of places.
-use Rattle.std.proofs.Common.{◌≡◌, ℕ, suc, zero, ◌+◌, ◌<◌, ◌≤◌, ◌⊎◌, inl, inr, Bool, true, false, cond, List, [], ◌∷◌, map, length, slice_get, Option, Some, None, MatchOption, option_copied, Bor, refl, sym, ap, ◌∙◌, arith}
+use Rattle.std.proofs.Common.{◌≡◌, ℕ, suc, zero, ◌+◌, ◌<◌, ◌⊎◌, inl, inr, Bool, true, false, cond, List, [], ◌∷◌, map, length, slice_get, Option, Some, None, MatchOption, option_copied, Bor, refl, sym, ap, ◌∙◌, arith}
 use Rattle.std.specs.Option.{option_map, unwrap_or}
 use Rattle.std.proofs.lemmas.Option.{slice_get-map, slice_get_past, unwrap_or-slice_get}
 use Rattle.mir_syntax.specs.declared.types.TyId.{TyId}
@@ -18,11 +18,7 @@ use Rattle.mir_syntax.specs.Tree.{Tree, scalar, empty, more, ref, ref_mut, named
 use Rattle.mir_syntax.specs.Crate.{TypedDef, TypedFunction, field_of, variant_of, def_of, crate_of}
 use Rattle.mir_syntax.specs.Shapes.{Shape, shapes_of, shapes_from, shape_of, fields_tuple, fields_tree, field_id, field_ty_of, fields_of, first_variant, field_ty, variant_ty, pointee, proj_ty, ends_in_downcast, whole_path_ty, whole_place_ty, ◌>>=◌}
 use Rattle.mir_syntax.proofs.Trees.{length-trees_of, at_id-node}
-
-slice_get-none : {X : Type 0} (xs : List X) (k : ℕ) → slice_get xs k ≡ None → length xs ≤ k
-slice_get-none [] k h = omega arith
-slice_get-none (x ∷ xs) zero h = absurd cc
-slice_get-none (x ∷ xs) (suc k) h = let past = slice_get-none xs k h in omega arith
+use Rattle.mir_syntax.proofs.Lists.{slice_get-none}
 
 -- an id past the table stands for a type that has no parts
 pub at_id-past : (types : List Ty) (id : TyId) → slice_get types id.0 ≡ None → at_id (trees_of types) id ≡ scalar scalar_ty.Bool
@@ -44,10 +40,15 @@ shapes_from-at functions n (x ∷ defs) (suc d) def h =
     let later : suc n + d ≡ n + suc d = omega arith in
     shapes_from-at functions (suc n) defs d def h ∙ ap (λ m. Some (shape_of functions m def)) later
 
-shapes_from-past : (functions : List TypedFunction) (n : ℕ) (defs : List TypedDef) (d : ℕ) → slice_get defs d ≡ None → slice_get (shapes_from functions n defs) d ≡ None
+pub shapes_from-past : (functions : List TypedFunction) (n : ℕ) (defs : List TypedDef) (d : ℕ) → slice_get defs d ≡ None → slice_get (shapes_from functions n defs) d ≡ None
 shapes_from-past functions n [] d h = refl
 shapes_from-past functions n (x ∷ defs) zero h = absurd cc
 shapes_from-past functions n (x ∷ defs) (suc d) h = shapes_from-past functions (suc n) defs d h
+
+-- there are as many shapes as definitions
+pub shapes_from-length : (functions : List TypedFunction) (n : ℕ) (defs : List TypedDef) → length (shapes_from functions n defs) ≡ length defs
+shapes_from-length functions n [] = refl
+shapes_from-length functions n (d ∷ defs) = ap suc (shapes_from-length functions (suc n) defs)
 
 -- the shape of a definition
 pub shape-at : (p : Program) (d : ℕ) (def : Def) → slice_get p.defs d ≡ Some def
@@ -73,11 +74,11 @@ field_ty-tuple [] i = refl
 field_ty-tuple (t ∷ ts) zero = refl
 field_ty-tuple (t ∷ ts) (suc i) = field_ty-tuple ts i
 
-fields_of-tuple : (D : List Shape) (ts : List Tree) → fields_of D (tuple_of ts) ≡ Some (tuple_of ts)
+pub fields_of-tuple : (D : List Shape) (ts : List Tree) → fields_of D (tuple_of ts) ≡ Some (tuple_of ts)
 fields_of-tuple D [] = refl
 fields_of-tuple D (t ∷ ts) = refl
 
-at_ids-tuple : (trees : List Tree) (ids : List TyId) → at_ids trees ids ≡ tuple_of (map (at_id trees) ids)
+pub at_ids-tuple : (trees : List Tree) (ids : List TyId) → at_ids trees ids ≡ tuple_of (map (at_id trees) ids)
 at_ids-tuple trees [] = refl
 at_ids-tuple trees (id ∷ ids) = ap (more (at_id trees id)) (at_ids-tuple trees ids)
 
@@ -88,7 +89,7 @@ unfolding ◌>>=◌
 tuple-field D trees ids i =
     rw (at_ids-tuple trees ids, fields_of-tuple D (map (at_id trees) ids), field_ty-tuple (map (at_id trees) ids) i) (sym (slice_get-map (at_id trees) ids i))
 
-field_ty-fields : (trees : List Tree) (fields : List Field) (i : ℕ) → field_ty (fields_tree trees fields) i ≡ option_map (at_id trees) (option_map field_id (slice_get fields i))
+pub field_ty-fields : (trees : List Tree) (fields : List Field) (i : ℕ) → field_ty (fields_tree trees fields) i ≡ option_map (at_id trees) (option_map field_id (slice_get fields i))
 field_ty-fields trees [] i = refl
 field_ty-fields trees (f ∷ fields) zero = refl
 field_ty-fields trees (f ∷ fields) (suc i) = field_ty-fields trees fields i

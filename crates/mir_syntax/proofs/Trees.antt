@@ -86,9 +86,3 @@ Stands-at types k ty table h =
 
 pub at_id-node : (types : List Ty) (id : TyId) (ty : Ty) → IsTable types → slice_get types id.0 ≡ Some ty → at_id (trees_of types) id ≡ node (trees_of types) ty
 at_id-node types id ty table h = get_or_from_slice_get (trees_of types) id.0 (node (trees_of types) ty) (scalar scalar_ty.Bool) (Stands-at types id.0 ty table h)
-
--- a place of a list lies before its end
-pub slice_get-below : {X : Type 0} (xs : List X) (k : ℕ) (x : X) → slice_get xs k ≡ Some x → k < length xs
-slice_get-below [] k x h = absurd cc
-slice_get-below (y ∷ xs) zero x h = omega arith
-slice_get-below (y ∷ xs) (suc k) x h = let below = slice_get-below xs k x h in omega arith

@@ -3,10 +3,9 @@ use Rattle.std.proofs.Common.{◌≡◌, ℕ, suc, zero, ◌+◌, ◌<◌, ◌�
 use Rattle.std.proofs.lemmas.Bool.{false≢true, cases_lt, eqb-false, eqb-true}
 use Rattle.std.proofs.lemmas.List.{get_or_append_left, get_or-set_same, get_or-set_other, get_or-replicate, length-replicate, map-append, length-map, take_more}
 use Rattle.std.proofs.lemmas.Grind.{get_or_default_zero}
-use Rattle.std.proofs.lemmas.Option.{slice_get_read}
+use Rattle.std.proofs.lemmas.Option.{slice_get_read, slice_get_within}
 use Rattle.std.proofs.Math.Seq.{get_or-append_seam}
 use Rattle.mir_syntax.specs.declared.types.Ty.{Ty}
-use Rattle.mir_syntax.proofs.Trees.{slice_get-below}
 use Rattle.mir_syntax.specs.TypeIndex.{type_hash, slot_of, slots_of, latest, is_at, IsIndex}
 
 cond-cases : {A : Type 0} (b : Bool) (x y : A) → ((b ≡ true) × (cond b x y ≡ x)) ⊎ ((b ≡ false) × (cond b x y ≡ y))
@@ -69,7 +68,7 @@ pub passed-first : (types : List Ty) (heads next : List ℕ) (ty : Ty) → IsInd
     → Passed types (length heads) ty (get_or heads (slot_of (length heads) ty) 0)
 passed-first types heads next ty index h =
     rw (index.begins (slot_of (length heads) ty) (omega arith))
-    (passed-latest types (length heads) ty (length types) (omega arith) (λ k past here. absurd (let below = slice_get-below types k ty here in omega arith)))
+    (passed-latest types (length heads) ty (length types) (omega arith) (λ k past here. absurd (let below = slice_get_within types k ty here in omega arith)))
 
 pub passed-next : (types : List Ty) (heads next : List ℕ) (ty : Ty) (k : ℕ) → IsIndex types heads next → Passed types (length heads) ty (suc k)
     → (slice_get types k ≡ Some ty → ⊥) → Passed types (length heads) ty (get_or next k 0)

@@ -1,26 +1,19 @@
 -- What operators and casts make of types that are scalars.
-use Rattle.std.proofs.Common.{◌≡◌, Some, None, refl, ap}
+use Rattle.std.proofs.Common.{◌≡◌, Some, None, refl}
 use Rattle.std.specs.Bool.{then_some}
 use Rattle.mir_syntax.specs.declared.types.ScalarTy.{ScalarTy}
 use Rattle.mir_syntax.specs.declared.body.BinOp.{BinOp}
 use Rattle.mir_syntax.specs.Tree.{Tree, scalar, empty, more, ref, ref_mut, named}
 use Rattle.mir_syntax.specs.Shapes.{◌>>=◌}
 use Rattle.mir_rules.specs.Typing.{scalar_of, is_int, takes, made_by, kind_of, binary_ty, cast_ty}
-
-pub scalar_is : (t : Tree) (a : ScalarTy) → scalar_of t ≡ Some a → t ≡ scalar a
-scalar_is (scalar s) a h = let same : s ≡ a = cc in ap scalar same
-scalar_is empty a h = absurd cc
-scalar_is (more t ts) a h = absurd cc
-scalar_is (ref t) a h = absurd cc
-scalar_is (ref_mut t) a h = absurd cc
-scalar_is (named d) a h = absurd cc
+use Rattle.mir_rules.proofs.Terminators.{scalar_of_is}
 
 pub binary_is : (op : BinOp) (t u : Tree) (a b : ScalarTy) → scalar_of t ≡ Some a → scalar_of u ≡ Some b → binary_ty op t u ≡ then_some (takes (kind_of op) a b) (made_by (kind_of op) a)
-binary_is op t u a b e f = rw (scalar_is t a e, scalar_is u b f) refl
+binary_is op t u a b e f = rw (scalar_of_is t a e, scalar_of_is u b f) refl
 
 pub cast_is : (to t : Tree) (a s : ScalarTy) → scalar_of t ≡ Some a → scalar_of to ≡ Some s → cast_ty to t ≡ then_some (is_int s) to
 unfolding ◌>>=◌
-cast_is to t a s e f = rw (scalar_is t a e, f) refl
+cast_is to t a s e f = rw (scalar_of_is t a e, f) refl
 
 pub cast_unfit : (to t : Tree) → scalar_of to ≡ None → cast_ty to t ≡ None
 unfolding ◌>>=◌

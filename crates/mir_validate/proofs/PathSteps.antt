@@ -1,5 +1,5 @@
 -- Paths, step by step: a downcast with the field behind it is one step.
-use Rattle.std.proofs.Common.{◌≡◌, ℕ, zero, suc, Bool, true, false, ◌⊎◌, inl, inr, List, [], ◌∷◌, map, slice_get, Option, Some, None, refl, sym, ap, ◌∙◌}
+use Rattle.std.proofs.Common.{◌≡◌, ℕ, Bool, true, false, ◌⊎◌, inl, inr, List, [], ◌∷◌, map, slice_get, Option, Some, None, refl, sym, ap, ◌∙◌}
 use Rattle.std.specs.Option.{option_map}
 use Rattle.std.proofs.lemmas.Option.{slice_get-map}
 use Rattle.mir_syntax.specs.declared.types.TyId.{TyId}
@@ -14,15 +14,12 @@ use Rattle.mir_syntax.specs.declared.program.Program.{Program}
 use Rattle.mir_syntax.specs.Tree.{Tree, scalar, empty, more, ref, ref_mut, named, at_id, node, trees_of, tuple_of}
 use Rattle.mir_syntax.specs.Shapes.{Shape, field_ty, variant_ty, fields_tree, field_id, field_ty_of, ◌>>=◌}
 use Rattle.mir_syntax.specs.Crate.{field_of}
-use Rattle.mir_syntax.proofs.Places.{variant-none, variant-struct, variant-fields}
+use Rattle.mir_syntax.proofs.Places.{variant-none, variant-struct, variant-fields, field_ty-fields}
 use Rattle.mir_rules.specs.Formed.{path_formed}
 use Rattle.mir_rules.specs.BodyRules.{path_through}
+use Rattle.mir_rules.proofs.Destructors.{through_none}
 use Rattle.mir_validate.specs.Inside.{shapes}
 use Rattle.mir_validate.specs.Codes.{variant_field}
-
-pub through_none : (D : List Shape) (ps : List Proj) → path_through D None ps ≡ false
-through_none D [] = refl
-through_none D (p ∷ ps) = refl
 
 -- the fields of a variant of an enum make a tuple
 variant_is : (p : Program) (t : Tree) (k : ℕ) → (variant_ty (shapes p) t k ≡ None) ⊎ ((ts : List Tree) × (variant_ty (shapes p) t k ≡ Some (tuple_of ts)))
@@ -85,12 +82,7 @@ pub variant_past : (D : List Shape) (t : Tree) (k i : ℕ) → None ≡ variant_
 unfolding ◌>>=◌
 variant_past D t k i h = rw (← h) refl
 
-fields_at : (trees : List Tree) (fields : List Field) (i : ℕ) → field_ty (fields_tree trees fields) i ≡ option_map (at_id trees) (option_map field_id (slice_get fields i))
-fields_at trees [] i = refl
-fields_at trees (f ∷ fields) zero = refl
-fields_at trees (f ∷ fields) (suc i) = fields_at trees fields i
-
 pub variant_here : (D : List Shape) (trees : List Tree) (t : Tree) (fields : List Field) (k i : ℕ) → Some (fields_tree trees fields) ≡ variant_ty D t k
     → option_map (at_id trees) (option_map field_id (slice_get fields i)) ≡ variant_field D t k i
 unfolding ◌>>=◌
-variant_here D trees t fields k i h = rw (← h) (sym (fields_at trees fields i))
+variant_here D trees t fields k i h = rw (← h) (sym (field_ty-fields trees fields i))

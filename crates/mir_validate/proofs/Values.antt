@@ -1,5 +1,5 @@
 -- What a value breaks whose parts have types.
-use Rattle.std.proofs.Common.{◌≡◌, ℕ, zero, suc, ◌<◌, ◌≤◌, Bool, true, false, not, ◌||◌, is_none, List, [], ◌∷◌, ◌++◌, map, flat_map, length, slice_get, Option, Some, None, refl, sym, ap, ◌∙◌, arith}
+use Rattle.std.proofs.Common.{◌≡◌, ℕ, zero, suc, ◌<◌, ◌≤◌, Bool, true, false, not, ◌||◌, is_none, List, [], ◌∷◌, ◌++◌, flat_map, length, slice_get, Option, Some, None, refl, sym, ap, ◌∙◌, arith}
 use Rattle.std.specs.Bool.{then_some}
 use Rattle.std.specs.List.{list_any}
 use Rattle.std.specs.Option.{option_map}
@@ -11,7 +11,7 @@ use Rattle.mir_syntax.specs.declared.body.Operand.{Operand}
 use Rattle.mir_syntax.specs.declared.body.Operand.TheVariants as operand
 use Rattle.mir_syntax.specs.declared.body.Rvalue.{Rvalue}
 use Rattle.mir_syntax.specs.declared.body.Rvalue.TheVariants as rvalue
-use Rattle.mir_syntax.specs.Tree.{Tree, more, at_id, at_ids, node, tuple_of}
+use Rattle.mir_syntax.specs.Tree.{Tree, more, node}
 use Rattle.mir_syntax.specs.Crate.{TypedRvalue, rvalue_of, assign, set_discriminant}
 use Rattle.mir_syntax.specs.Shapes.{Shape, place_ty, needs_drop, ◌>>=◌}
 use Rattle.mir_rules.specs.Same.{same_tree}
@@ -184,10 +184,6 @@ pub no_tuple : (D : List Shape) (locals trees : List Tree) (parts : List Operand
 unfolding operands_ty
 no_tuple D locals trees [] ty h = not_unit trees ty h
 no_tuple D locals trees (a ∷ parts) ty h = tuple_made (operand_ty D locals a) (operands_ty D locals parts) trees ty h
-
-pub ids_tuple : (trees : List Tree) (ids : List TyId) → at_ids trees ids ≡ tuple_of (map (at_id trees) ids)
-ids_tuple trees [] = refl
-ids_tuple trees (id ∷ ids) = ap (more (at_id trees id)) (ids_tuple trees ids)
 
 -- ---- an assignment
 

@@ -5,6 +5,7 @@ use Rattle.std.specs.List.{All, list_all}
 use Rattle.std.proofs.lemmas.List.{length-map}
 use Rattle.std.proofs.lemmas.Option.{slice_get-get_or}
 use Rattle.std.proofs.lemmas.Bool.{ltb-false}
+use Rattle.mir_syntax.proofs.Lists.{map_back, map_there}
 use Rattle.mir_syntax.specs.declared.types.TyId.{TyId}
 use Rattle.mir_syntax.specs.declared.body.Function.{Function}
 use Rattle.mir_syntax.specs.Tree.{Tree, at_id}
@@ -63,21 +64,6 @@ pub front_of_front : {A B : Type 0} (f : A → B) (n : ℕ) (xs : List A) → ta
 front_of_front f zero xs = refl
 front_of_front f (suc n) [] = refl
 front_of_front f (suc n) (x ∷ xs) = ap (λ ys. f x ∷ ys) (front_of_front f n xs)
-
-pub map_back : {A B : Type 0} (f : A → B) (xs : List A) (i : ℕ) (y : B) → slice_get (map f xs) i ≡ Some y → (x : A) × (slice_get xs i ≡ Some x) × (f x ≡ y)
-map_back f [] i y e = absurd (grind arith)
-map_back f (x ∷ xs) zero y e = (x, refl, (let k : f x ≡ y = grind arith in k))
-map_back f (x ∷ xs) (suc i) y e = map_back f xs i y e
-
-pub map_there : {A B : Type 0} (f : A → B) (xs : List A) (i : ℕ) (x : A) → slice_get xs i ≡ Some x → slice_get (map f xs) i ≡ Some (f x)
-map_there f [] i x e = absurd (grind arith)
-map_there f (y ∷ xs) zero x e = ap (λ y. Some (f y)) (let z : y ≡ x = grind arith in z)
-map_there f (y ∷ xs) (suc i) x e = map_there f xs i x e
-
-set_there : {A : Type 0} (xs : List A) (f : ℕ) (v x : A) → slice_get xs f ≡ Some x → slice_get (set xs f v) f ≡ Some v
-set_there [] f v x e = absurd (grind arith)
-set_there (y ∷ xs) zero v x e = refl
-set_there (y ∷ xs) (suc f) v x e = set_there xs f v x e
 
 -- ---- headers
 

@@ -17,6 +17,7 @@ use Rattle.mir_syntax.specs.declared.body.Body.{Body}
 use Rattle.mir_syntax.specs.Tree.{Tree, at_id}
 use Rattle.mir_syntax.specs.Crate.{TypedBody, TypedFunction, Crate, rvalue_of, stmt_of, block_of, body_of}
 use Rattle.mir_syntax.specs.Ids.{BodyInTable}
+use Rattle.mir_syntax.proofs.Lists.{map_there}
 use Rattle.mir_rules.specs.Parts as parts
 use Rattle.mir_rules.specs.Formed.{path_formed, place_formed, rvalue_formed, stmt_formed, body_formed}
 use Rattle.mir_rules.specs.Valid.{with_body, at_function}
@@ -28,7 +29,6 @@ use Rattle.cfg_simplify.specs.Edges.{Closed}
 use Rattle.cfg_simplify.specs.Simple.{term_of}
 use Rattle.cfg_simplify.specs.Code.{block_term}
 use Rattle.simple_refines.proofs.Rearranged.{targets_same}
-use Rattle.simple_refines.proofs.Hopped.{map_at}
 use Rattle.simple_refines.proofs.Valid as simple
 use Rattle.dead_store.specs.Rounds.{set_locals, BlockSetsBelow, IsReady}
 use Rattle.pass_order.specs.Stepped.{FitsAt}
@@ -89,8 +89,8 @@ module _ (C : Crate) (f : ℕ) (g : TypedFunction) (trees : List Tree) (body : B
   sets j d l i e m =
       let k : Block = get_or body.blocks j d in
       let s : Stmt = get_or k.stmts i e in
-      let at = map_at (block_of trees) body.blocks j k (slice_get-get_or body.blocks j d l) in
-      let there = map_at (stmt_of trees) k.stmts i s (slice_get-get_or k.stmts i e m) in
+      let at = map_there (block_of trees) body.blocks j k (slice_get-get_or body.blocks j d l) in
+      let there = map_there (stmt_of trees) k.stmts i s (slice_get-get_or k.stmts i e m) in
       set_below s (stmt_formed_at C2 typed formed j i (block_of trees k) (stmt_of trees s) at there)
 
   pub ready : (types : List Ty) → BodyInTable types body → IsReady types body

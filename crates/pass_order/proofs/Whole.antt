@@ -11,6 +11,7 @@ use Rattle.mir_syntax.specs.Shapes.{Shape, shapes_of, needs_drop}
 use Rattle.mir_syntax.specs.Drops.{own_destructor, KnowsDrops}
 use Rattle.mir_syntax.specs.Table.{IsTable}
 use Rattle.mir_syntax.specs.Ids.{function_below, IdsInTable}
+use Rattle.mir_syntax.proofs.Lists.{map_back}
 use Rattle.mir_rules.specs.Valid.{Valid, Within}
 use Rattle.mir_rules.proofs.Lists.{list_all_true, list_all_true-at}
 use Rattle.mir_rules.proofs.Bodies.{Alike, AllAlike, shapes_alike}
@@ -18,7 +19,7 @@ use Rattle.mir_rules.proofs.Terminators.{slice_get_there}
 use Rattle.pass_order.specs.Stepped.{IsStepped, AllStepped, FitsAt}
 use Rattle.pass_order.specs.Programs.{CanStep, StepsTo, header_function}
 use Rattle.pass_order.proofs.Fits.{fits_stepped}
-use Rattle.pass_order.proofs.Alone.{front_of_front, map_back, headers_below, shapes_alone, body_fits}
+use Rattle.pass_order.proofs.Alone.{front_of_front, headers_below, shapes_alone, body_fits}
 
 -- lists of functions that are alike one by one
 each_alike : (gs2 gs : List TypedFunction) → length gs2 ≡ length gs → ((i : ℕ) (g2 g : TypedFunction) → slice_get gs2 i ≡ Some g2 → slice_get gs i ≡ Some g → Alike g2 g) → AllAlike gs2 gs

@@ -2,6 +2,7 @@
 use Rattle.std.proofs.Common.{◌≡◌, ◌⊎◌, inl, inr, refl, sym, ap, ap₂, ◌∙◌, subst, ℕ, zero, suc, Bool, true, false, not, ◌&&◌, ◌||◌, if◌then◌else◌, List, [], ◌∷◌, ◌++◌, map, set, Some, slice_get, arith}
 use Rattle.std.proofs.Common.{eq-eqb}
 use Rattle.std.specs.List.{list_any, flat_map}
+use Rattle.mir_syntax.proofs.Lists.{set_there}
 use Rattle.mir_syntax.specs.declared.body.Proj.{Proj}
 use Rattle.mir_syntax.specs.declared.body.Proj.TheVariants.{Field, Downcast, Deref}
 use Rattle.mir_syntax.specs.declared.body.Place.{Place}
@@ -154,11 +155,6 @@ module _ (C : Crate) (valid : Valid C) where
       subst (λ y. needs_drop (shapes_of C) y ≡ false) (let z : Some sets.ty ≡ Some t = sym sets.place ∙ e4 in grind arith) sets.needs_none
 
 -- ---- the list of functions with another in a place
-
-pub set_there : {A : Type 0} (xs : List A) (f : ℕ) (v x : A) → slice_get xs f ≡ Some x → slice_get (set xs f v) f ≡ Some v
-set_there [] f v x e = absurd (grind arith)
-set_there (y ∷ xs) zero v x e = refl
-set_there (y ∷ xs) (suc f) v x e = set_there xs f v x e
 
 bodies_other : (fs : List TypedFunction) (f h : ℕ) (v : TypedFunction) → (h ≡ f → ⊥) → slice_get (map body_in (set fs f v)) h ≡ slice_get (map body_in fs) h
 bodies_other [] f h v ne = refl

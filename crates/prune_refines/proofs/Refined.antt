@@ -1,6 +1,8 @@
 -- A crate with a pruned body refines the crate.
 use Rattle.std.proofs.Common.{◌≡◌, refl, sym, ap, ◌∙◌, subst, ℕ, zero, suc, ◌≤◌, Bool, true, List, [], ◌∷◌, map, set, take, length, Some, slice_get, arith}
+use Rattle.std.proofs.lemmas.List.{set-set}
 use Rattle.mir_syntax.specs.Crate.{TypedStmt, TypedBlock, TypedBody, TypedFunction, Crate}
+use Rattle.mir_syntax.proofs.Lists.{set_there}
 use Rattle.mir_syntax.specs.Shapes.{Shape, shapes_of}
 use Rattle.mir_rules.specs.Formed.{body_formed}
 use Rattle.mir_rules.specs.Limits.{most_in_body}
@@ -27,18 +29,8 @@ use Rattle.prune_refines.specs.Drops.{NoDrops}
 use Rattle.dead_store.specs.Pruned.{IsPrunedOnce, IsPruned}
 use Rattle.prune_refines.proofs.Gone.{Judged, decided}
 use Rattle.prune_refines.proofs.Needs.{needs_ok}
-use Rattle.prune_refines.proofs.Laws.{plain, calm_sets, set_there, bodies2, is1, is2, others, laws}
+use Rattle.prune_refines.proofs.Laws.{plain, calm_sets, bodies2, is1, is2, others, laws}
 use Rattle.prune_refines.proofs.Kept.{blocks_long, formed_left, keeps_left, drops_left}
-
-set_again : (xs : List TypedFunction) (f : ℕ) (v w : TypedFunction) → set (set xs f v) f w ≡ set xs f w
-set_again [] f v w = refl
-set_again (x ∷ xs) zero v w = refl
-set_again (x ∷ xs) (suc f) v w = ap (λ ys. x ∷ ys) (set_again xs f v w)
-
-set_same : (xs : List TypedFunction) (f : ℕ) (v : TypedFunction) → slice_get xs f ≡ Some v → set xs f v ≡ xs
-set_same [] f v e = refl
-set_same (x ∷ xs) zero v e = ap (λ (y : TypedFunction). y ∷ xs) (let z : v ≡ x = grind arith in z)
-set_same (x ∷ xs) (suc f) v e = ap (λ ys. x ∷ ys) (set_same xs f v e)
 
 headers_set : (fs : List TypedFunction) (f : ℕ) (g g2 : TypedFunction) → slice_get fs f ≡ Some g → header g2 ≡ header g → map header (set fs f g2) ≡ map header fs
 headers_set [] f g g2 e h = refl
@@ -124,7 +116,7 @@ module _ (C : Crate) (valid : Valid C) (f : ℕ) (g : TypedFunction) (there : sl
       let D1 : shapes_of C1 ≡ shapes_of C = shapes_alike C (set C.functions f (with_body g b)) (set_alike C.functions f g (with_body g b) there alike) in
       let p1 : IsPrunedOnce (shapes_of C1) b b2 = subst (λ D. IsPrunedOnce D b b2) (sym D1) p in
       let step = once_at C1 v1 f (with_body g b) at (s.no_drops no_drops) b2 p1 in
-      let again : Refines (at_function C f g b2) C1 = subst (λ fs. Refines (record C { functions = fs }) C1) (set_again C.functions f (with_body g b) (with_body g b2)) step in
+      let again : Refines (at_function C f g b2) C1 = subst (λ fs. Refines (record C { functions = fs }) C1) (set-set C.functions f (with_body g b) (with_body g b2)) step in
       refines_trans (at_function C f g b2) C1 C again r
 
   pub three_refine : (b : TypedBody) → IsPruned (shapes_of C) g.body b → Refines (at_function C f g b) C
@@ -141,7 +133,7 @@ pruned_refines C v f g e n b p = three_refine C v f g e n b p
 pub pruned_refines_again : (C : Crate) (f : ℕ) (b : TypedBody) (v : ValidAt C f b) → NoDrops b → (b2 : TypedBody) → IsPruned (shapes_of (at_function C f v.function b)) b b2 → Refines (at_function C f v.function b2) (at_function C f v.function b)
 pruned_refines_again C f b v n b2 p =
     let C2 = at_function C f v.function b in
-    subst (λ fs. Refines (record C { functions = fs }) C2) (set_again C.functions f (with_body v.function b) (with_body v.function b2))
+    subst (λ fs. Refines (record C { functions = fs }) C2) (set-set C.functions f (with_body v.function b) (with_body v.function b2))
     (pruned_refines C2 v.valid f (with_body v.function b) (holds_body C f b v) n b2 p)
 
 pub pruned_stays_valid : (C : Crate) (f : ℕ) (b : TypedBody) (v : ValidAt C f b) → (b2 : TypedBody) → IsPruned (shapes_of (at_function C f v.function b)) b b2 → ValidAt C f b2

@@ -15,9 +15,9 @@ use Rattle.mir_text.specs.NamedBodies.{Declared, declared_ty}
 use Rattle.mir_text.specs.Naming.{lets_in, lets_of, declarations, declares, or_unit, locals_from}
 use Rattle.mir_text.specs.PartLines.{LinesFrom, past, Lined, items_lined, lets_lined_in, lets_lined, fn_lined}
 use Rattle.mir_text.specs.NameFaults.{on_line, unless, each, type_codes, declaration_faults, args_in_place}
+use Rattle.mir_text.proofs.Codes.{unless_met, no_codes}
 use Rattle.mir_rules.specs.Formed.{type_formed}
 use Rattle.mir_rules.proofs.Lists.{append_empty-left, append_empty-right}
-use Rattle.read_formed.proofs.Tests.{unless_met, no_codes}
 use Rattle.read_formed.proofs.Types.{ty_formed}
 use Rattle.read_formed.proofs.Knows.{Knows}
 
@@ -71,10 +71,6 @@ local-formed C (d ∷ ds) x h =
 pub locals_formed : (C : Crate) (L : Declared) (k n : ℕ) → list_all (declared_formed C) L ≡ true → list_all (type_formed C) (locals_from L k n) ≡ true
 locals_formed C L k zero h = refl
 locals_formed C L k (suc n) h = and_from (type_formed C (or_unit (declared_ty L k))) (list_all (type_formed C) (locals_from L (suc k) n)) (local-formed C L k h) (locals_formed C L (suc k) n h)
-
-pub locals_many : (L : Declared) (k n : ℕ) → length (locals_from L k n) ≡ n
-locals_many L k zero = refl
-locals_many L k (suc n) = ap suc (locals_many L (suc k) n)
 
 -- ---- arguments
 

@@ -14,9 +14,10 @@ use Rattle.mir_text.specs.Naming.{outside_in, outsides_in, functions_in, functio
 use Rattle.mir_text.specs.PartLines.{LinesFrom, past, item_lined, file_lined}
 use Rattle.mir_text.specs.NameFaults.{each, other_codes, item_faults, path_faults, defined_by, name_faults}
 use Rattle.mir_text.specs.Reads.{ReadsWith, symbol_lines}
+use Rattle.mir_text.proofs.Codes.{no_codes}
 use Rattle.mir_rules.specs.Formed.{def_formed, outside_formed, function_formed, is_formed}
 use Rattle.mir_rules.proofs.Lists.{append_empty-left, append_empty-right}
-use Rattle.read_formed.proofs.Tests.{no_codes, all_append}
+use Rattle.read_formed.proofs.Tests.{all_append}
 use Rattle.read_formed.proofs.Types.{def_item_formed, outside_item_formed}
 use Rattle.read_formed.proofs.Knows.{Knows, named_knows}
 use Rattle.read_formed.proofs.Functions.{function_is_formed}

@@ -1,26 +1,25 @@
 -- A function whose names have no fault is formed.
-use Rattle.std.proofs.Common.{◌≡◌, ◌∙◌, ◌<◌, suc, true, ◌&&◌, nat_lt, List, [], ◌∷◌, ◌++◌, map, length, is_some, refl, sym, ap, subst, arith}
+use Rattle.std.proofs.Common.{◌≡◌, ◌∙◌, ◌<◌, true, ◌&&◌, nat_lt, [], ◌++◌, map, length, is_some, sym, ap, subst, arith}
 use Rattle.std.specs.List.{list_all}
 use Rattle.std.proofs.lemmas.Bool.{and_from, and_parts, lt-ltb}
 use Rattle.std.proofs.lemmas.List.{map-append, length-map}
 use Rattle.mir_syntax.specs.Crate.{TypedBody, Crate}
 use Rattle.mir_text.specs.Grammar.{items_of}
-use Rattle.mir_text.specs.GrammarTerms.{BlockRule, block_put}
 use Rattle.mir_text.specs.GrammarItems.{FnRule}
 use Rattle.mir_text.specs.Names.{Names, ty_of}
 use Rattle.mir_text.specs.NamedBodies.{Declared, declared_ty, block_named}
 use Rattle.mir_text.specs.Naming.{declares, declared, body_named, function_named}
-use Rattle.mir_text.specs.PartLines.{LinesFrom, past, LinedFn, blocks_lined, fn_lined}
+use Rattle.mir_text.specs.PartLines.{LinesFrom, LinedFn, fn_lined}
 use Rattle.mir_text.specs.NameFaults.{on_line, unless, each, type_codes, none_missing, none_missing_in, blocks_in_order, labels_of, declaration_faults, args_in_place, declared_once, result_faults, block_faults, fn_faults}
 use Rattle.mir_text.specs.Nesting.{FnGood}
 use Rattle.mir_rules.specs.Formed.{type_formed, block_formed, has_start, body_formed, function_formed}
 use Rattle.mir_rules.proofs.Lists.{append_empty-left, append_empty-right}
-use Rattle.read_formed.proofs.Tests.{unless_met, no_codes}
 use Rattle.read_formed.proofs.Knows.{Knows}
 use Rattle.read_formed.proofs.Places.{Holds}
 use Rattle.read_formed.proofs.Terms.{blocks_formed}
-use Rattle.read_formed.proofs.Counting.{declared_few, labels_few, labels_some}
-use Rattle.read_formed.proofs.Declarations.{unlined, args_unlined, declarations_unlined, declared_formed, declared_types, locals_formed, locals_many, args_fewer}
+use Rattle.mir_text.proofs.Counting.{declared_few, labels_few, labels_some, locals_from-length, blocks_lined-length}
+use Rattle.mir_text.proofs.Codes.{unless_met, no_codes}
+use Rattle.read_formed.proofs.Declarations.{unlined, args_unlined, declarations_unlined, declared_formed, declared_types, locals_formed, args_fewer}
 
 -- what of the faults of a function there is not
 record Clean (N : Names) (f : LinedFn) : Type 0 where
@@ -49,10 +48,6 @@ clean N f h =
       blocks = blocks;
     }
 
-labels-many : (bs : List BlockRule) (lines : LinesFrom) → length (map (λ b. b.label) (blocks_lined bs lines)) ≡ length bs
-labels-many [] lines = refl
-labels-many (b ∷ bs) lines = ap suc (labels-many bs (past block_put b lines))
-
 module _ (C : Crate) (N : Names) (knows : Knows C N) (f : FnRule) (lines : LinesFrom) (good : FnGood f) (faultless : fn_faults N (fn_lined f lines) ≡ []) where
   abbrev L : Declared
   L = declared N f
@@ -68,10 +63,10 @@ module _ (C : Crate) (N : Names) (knows : Knows C N) (f : FnRule) (lines : Lines
 
   -- so many locals are there, and so many blocks
   locals-there : length body.locals ≡ length L
-  locals-there = locals_many L 0 (length L)
+  locals-there = locals_from-length L 0 (length L)
 
   blocks-there : length body.blocks ≡ length (labels_of lined)
-  blocks-there = length-map f.blocks (block_named N L) ∙ sym (labels-many f.blocks _)
+  blocks-there = length-map f.blocks (block_named N L) ∙ sym (blocks_lined-length f.blocks _)
 
   holds : Holds L (labels_of lined) body
   holds = record {

@@ -6,7 +6,6 @@ pub mod Knows
 pub mod Operands
 pub mod Rvalues
 pub mod Terms
-pub mod Counting
 pub mod Declarations
 pub mod Functions
 pub mod Files

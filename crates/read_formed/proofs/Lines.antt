@@ -8,7 +8,7 @@ use Rattle.mir_text.specs.GrammarStatements as r
 use Rattle.mir_text.specs.GrammarStatements.{StmtRule}
 use Rattle.mir_text.specs.GrammarTerms.{BlockRule, ended_put, block_put}
 use Rattle.mir_text.specs.GrammarItems as m
-use Rattle.mir_text.specs.GrammarItems.{ArgRule, FnRule, item_put, FileRule}
+use Rattle.mir_text.specs.GrammarItems.{ArgRule, FnRule, FileRule}
 use Rattle.mir_text.specs.Symbols.{strings_of}
 use Rattle.mir_text.specs.Names.{Strings, Names, names_of, defs_in, def_paths, def_named}
 use Rattle.mir_text.specs.NamedBodies.{Declared, stmts_named, block_named}
@@ -17,8 +17,9 @@ use Rattle.mir_text.specs.PartLines.{LinesFrom, past, Lined, each_lined, blocks_
 use Rattle.mir_text.specs.NameFaults.{each}
 use Rattle.mir_text.specs.ReadLines.{stmt_line_in, block_lines, local_lines, fn_lines, def_line_in, outside_line_in, fn_lines_in, lines_named}
 use Rattle.mir_text.specs.Reads.{ReadsWith, symbol_lines}
+use Rattle.mir_text.proofs.Counting.{locals_from-length}
 use Rattle.mir_rules.specs.Faults.{same_lengths, block_fits, function_fits, lines_fit}
-use Rattle.read_formed.proofs.Declarations.{unlined, declarations_unlined, locals_many}
+use Rattle.read_formed.proofs.Declarations.{unlined, declarations_unlined}
 
 -- ---- blocks
 
@@ -44,7 +45,7 @@ locals-fit : (N : Names) (f : FnRule) (lines : LinesFrom) → length (fn_lines (
 locals-fit N f lines =
     let found = (fn_lined f lines).args ++ (fn_lined f lines).lets in
     let L = declared N f in
-    lines-many found 0 (length found) ∙ sym (length-map found unlined) ∙ ap length (declarations_unlined f lines) ∙ sym (length-map (declarations f) (declares N)) ∙ sym (locals_many L 0 (length L))
+    lines-many found 0 (length found) ∙ sym (length-map found unlined) ∙ ap length (declarations_unlined f lines) ∙ sym (length-map (declarations f) (declares N)) ∙ sym (locals_from-length L 0 (length L))
 
 function-fits : (N : Names) (f : FnRule) (lines : LinesFrom) → function_fits (fn_lines (fn_lined f lines)) (function_named N f) ≡ true
 function-fits N f lines = and_from _ _ (eq-eqb _ _ (locals-fit N f lines)) (blocks-fit N (declared N f) f.blocks _)

@@ -11,10 +11,10 @@ use Rattle.mir_text.specs.Names.{Names}
 use Rattle.mir_text.specs.NamedBodies.{Declared, declared_ty, variant_at_place, or_zero, local_in, projs_named, place_named, operand_named}
 use Rattle.mir_text.specs.NameFaults.{unless, is_among, type_codes, place_codes, operand_codes}
 use Rattle.mir_text.specs.Nesting.{OperandGood}
+use Rattle.mir_text.proofs.Codes.{unless_met}
 use Rattle.mir_rules.specs.Parts.{operand_places}
 use Rattle.mir_rules.specs.Formed.{begins_with_field, path_formed, place_formed, operand_formed}
 use Rattle.mir_rules.proofs.Lists.{append_empty-left}
-use Rattle.read_formed.proofs.Tests.{unless_met}
 use Rattle.read_formed.proofs.Values.{value_formed}
 
 -- ---- projections

@@ -1,23 +1,24 @@
 -- Rvalues and statements whose names have no fault are formed.
-use Rattle.std.proofs.Common.{◌≡◌, ◌∙◌, ℕ, zero, suc, true, false, List, [], ◌∷◌, slice_get, Option, Some, None, is_some, refl, sym, ap, arith}
+use Rattle.std.proofs.Common.{◌≡◌, ◌∙◌, ℕ, true, false, List, [], ◌∷◌, slice_get, Option, Some, None, is_some, refl, sym, ap}
 use Rattle.std.specs.List.{list_all}
 use Rattle.std.proofs.lemmas.Bool.{and_from}
 use Rattle.mir_syntax.specs.Crate as c
 use Rattle.mir_syntax.specs.Crate.{TypedVariant, TypedDef, TypedRvalue, TypedBody, Crate}
 use Rattle.mir_syntax.specs.Shapes.{◌>>=◌}
 use Rattle.mir_text.specs.Grammar.{items_of, AllOf}
-use Rattle.mir_text.specs.GrammarPlaces as p
-use Rattle.mir_text.specs.GrammarPlaces.{PlaceRule, OperandRule}
+use Rattle.mir_text.specs.GrammarPlaces.{PlaceRule}
 use Rattle.mir_text.specs.GrammarStatements as r
 use Rattle.mir_text.specs.GrammarStatements.{BuildRule, RvalueRule, StmtRule}
 use Rattle.mir_text.specs.Names.{Names}
 use Rattle.mir_text.specs.NamedBodies.{Declared, declared_ty, place_named, operand_named, built_by, or_first, rvalue_named, stmt_named, stmts_named}
 use Rattle.mir_text.specs.NameFaults.{local_codes, place_codes, operand_codes, parts_codes, variant_fits, variant_number, def_number, built_variant, build_codes, rvalue_codes, stmt_codes}
-use Rattle.mir_text.specs.Nesting.{OperandGood, FirstGood, RvalueGood, StmtGood}
+use Rattle.mir_text.specs.Nesting.{RvalueGood, StmtGood}
 use Rattle.mir_rules.specs.Parts.{rvalue_operands, rvalue_places}
 use Rattle.mir_rules.specs.Formed.{place_formed, operand_formed, has_variant, shape_formed, rvalue_formed, local_formed, stmt_formed}
 use Rattle.mir_rules.proofs.Lists.{append_empty-left, append_empty-right}
-use Rattle.read_formed.proofs.Tests.{unless_met, all_append}
+use Rattle.mir_text.proofs.Numbered.{def_numbered, variant_numbered}
+use Rattle.mir_text.proofs.Codes.{unless_met, first_good}
+use Rattle.read_formed.proofs.Tests.{all_append}
 use Rattle.read_formed.proofs.Types.{ty_formed}
 use Rattle.read_formed.proofs.Knows.{Knows}
 use Rattle.read_formed.proofs.Places.{Holds, place_named_formed}
@@ -25,20 +26,10 @@ use Rattle.read_formed.proofs.Operands.{one_placed, more_placed, items_placed, p
 
 -- ---- what is built
 
-def-get : (xs : List TypedDef) (d : ℕ) → slice_get xs d ≡ def_number xs d
-def-get [] d = refl
-def-get (x ∷ xs) zero = refl
-def-get (x ∷ xs) (suc d) = def-get xs d
-
-variant-get : (xs : List TypedVariant) (k : ℕ) → slice_get xs k ≡ variant_number xs k
-variant-get [] k = refl
-variant-get (x ∷ xs) zero = refl
-variant-get (x ∷ xs) (suc k) = variant-get xs k
-
 variant-of : (o : Option TypedDef) (k : ℕ) → (o >>= λ d. slice_get d.variants k) ≡ (o >>= λ d. variant_number d.variants k)
 unfolding ◌>>=◌
 variant-of None k = refl
-variant-of (Some d) k = variant-get d.variants k
+variant-of (Some d) k = variant_numbered d.variants k
 
 fits-some : (N : Names) (x : BuildRule) (o : Option TypedVariant) → variant_fits N x o ≡ true → is_some o ≡ true
 fits-some N x None h = absurd cc
@@ -49,16 +40,10 @@ unfolding ◌>>=◌
 build-there C N knows x None h = absurd cc
 build-there C N knows x (Some (d, k)) h =
     let same : (slice_get C.defs d >>= λ def. slice_get def.variants k) ≡ built_variant N (d, k) =
-    variant-of (slice_get C.defs d) k ∙ ap (λ o. o >>= λ def. variant_number def.variants k) (def-get C.defs d ∙ ap (λ ds. def_number ds d) (sym knows.defs)) in
+    variant-of (slice_get C.defs d) k ∙ ap (λ o. o >>= λ def. variant_number def.variants k) (def_numbered C.defs d ∙ ap (λ ds. def_number ds d) (sym knows.defs)) in
     ap is_some same ∙ fits-some N x (built_variant N (d, k)) h
 
 -- ---- rvalues
-
-first-good : (x : OperandRule) → FirstGood x → OperandGood x
-first-good (p.copy q) h = h
-first-good (p.move q) h = h
-first-good (p.bare q) h = let k = h.0 in (omega (arith, k), h.1)
-first-good (p.const v) h = h
 
 module _ (C : Crate) (N : Names) (knows : Knows C N) (L : Declared) (labels : List ℕ) (b : TypedBody) (holds : Holds L labels b) where
   formed-by : (x : TypedRvalue) → shape_formed C x ≡ true → list_all operand_formed (rvalue_operands x) ≡ true → list_all (place_formed b) (rvalue_places x) ≡ true → rvalue_formed C b x ≡ true
@@ -86,7 +71,7 @@ module _ (C : Crate) (N : Names) (knows : Knows C N) (L : Declared) (labels : Li
   rvalue-formed (r.discriminant q) h good = of-place (c.discriminant (place_named N L q)) refl refl q refl h
   rvalue-formed r.nothing h good = refl
   rvalue-formed (r.tuple_of x xs) h good =
-      formed-by (rvalue_named N L (r.tuple_of x xs)) refl (more_fitting N L x (items_of (operand_named N L) xs) (first-good x good.0) (items_fitting N L xs good.1))
+      formed-by (rvalue_named N L (r.tuple_of x xs)) refl (more_fitting N L x (items_of (operand_named N L) xs) (first_good x good.0) (items_fitting N L xs good.1))
       (more_placed N L labels b holds x (items_of (operand_named N L) xs) (append_empty-left (operand_codes N L x) _ h) (items_placed N L labels b holds xs (append_empty-right (operand_codes N L x) _ h)))
   rvalue-formed (r.build path x) h good =
       let own = unless_met (variant_fits N x (built_by N path >>= built_variant N)) 13 (append_empty-left (build_codes N path x) (parts_codes N L x) h) in

@@ -17,10 +17,11 @@ use Rattle.mir_text.specs.NamedBodies.{Declared, place_named, operand_named, fun
 use Rattle.mir_text.specs.PartLines.{LinesFrom, past, each_lined, block_lined, blocks_lined}
 use Rattle.mir_text.specs.NameFaults.{on_line, each, each_item, is_among, place_codes, operand_codes, stmt_codes, target_codes, call_codes, arm_codes, term_codes, stmt_faults, block_faults}
 use Rattle.mir_text.specs.Nesting.{OperandGood, TermGood, BlockGood}
+use Rattle.mir_text.proofs.Codes.{unless_met, no_codes}
 use Rattle.mir_rules.specs.Parts.{operand_places, term_operands, term_places, arm_block, targets}
 use Rattle.mir_rules.specs.Formed.{place_formed, operand_formed, callee_formed, call_formed, block_there, stmt_formed, term_formed, block_formed}
 use Rattle.mir_rules.proofs.Lists.{append_empty-left, append_empty-right}
-use Rattle.read_formed.proofs.Tests.{unless_met, no_codes, all_append, all_each, all_good}
+use Rattle.read_formed.proofs.Tests.{all_append, all_each, all_good}
 use Rattle.read_formed.proofs.Types.{place_there}
 use Rattle.read_formed.proofs.Knows.{Knows}
 use Rattle.read_formed.proofs.Places.{Holds, place_named_formed, operand_named_formed}

@@ -1,18 +1,11 @@
--- What no codes and no faults say, and tests of whole lists.
-use Rattle.std.proofs.Common.{◌≡◌, ◌∙◌, ℕ, Bool, true, false, List, [], ◌∷◌, ◌++◌, map, refl}
+-- Tests of whole lists, by their codes and faults.
+use Rattle.std.proofs.Common.{◌≡◌, ◌∙◌, Bool, true, List, [], ◌∷◌, ◌++◌, map, refl}
 use Rattle.std.specs.List.{list_all, flat_map}
 use Rattle.std.proofs.lemmas.Bool.{and_from, and_parts}
 use Rattle.std.proofs.lemmas.List.Folds.{list_all-append}
 use Rattle.mir_text.specs.Grammar.{Items, end, last, more, items_of, AllItems, AllOf}
-use Rattle.mir_text.specs.NameFaults.{Fault, on_line, unless, each, each_item}
-use Rattle.mir_rules.proofs.Lists.{append_empty-left, append_empty-right, map_empty-source}
-
-pub unless_met : (b : Bool) (code : ℕ) → unless b code ≡ [] → b ≡ true
-unless_met true code h = refl
-unless_met false code h = absurd cc
-
-pub no_codes : (n : ℕ) (codes : List ℕ) → on_line n codes ≡ [] → codes ≡ []
-no_codes n codes h = map_empty-source (λ code. let f : Fault = (n, code) in f) codes h
+use Rattle.mir_text.specs.NameFaults.{each, each_item}
+use Rattle.mir_rules.proofs.Lists.{append_empty-left, append_empty-right}
 
 -- ---- lists
 

@@ -1,33 +1,26 @@
 -- A type whose paths are known is formed; so are the structs and enums, and the outside functions, that a file names.
-use Rattle.std.proofs.Common.{◌≡◌, ◌<◌, ◌+◌, ℕ, suc, Bool, true, false, nat_lt, bytes_eq, List, [], ◌∷◌, map, length, Option, Some, None, is_some, refl, subst, arith}
+use Rattle.std.proofs.Common.{◌≡◌, ℕ, Bool, true, false, nat_lt, List, [], map, length, Option, Some, None, is_some, refl, subst, arith}
 use Rattle.std.specs.List.{list_all}
 use Rattle.std.proofs.lemmas.Bool.{and_from, and_parts, lt-ltb}
 use Rattle.mir_syntax.specs.Crate.{Crate}
-use Rattle.mir_text.specs.Words.{place_from, place_in}
+use Rattle.mir_text.specs.Words.{place_in}
 use Rattle.mir_text.specs.GrammarTypes as t
 use Rattle.mir_text.specs.GrammarTypes.{TypeRule, TypesRule, types_in}
 use Rattle.mir_text.specs.GrammarItems as m
-use Rattle.mir_text.specs.GrammarItems.{FieldRule, FieldsRule, VariantRule, ItemRule}
+use Rattle.mir_text.specs.GrammarItems.{FieldsRule, VariantRule, ItemRule}
 use Rattle.mir_text.specs.Grammar.{Items, items_of}
 use Rattle.mir_text.specs.Names.{Names, string_at, path_bytes, named_or, ty_of, type_named, types_named, is_known, are_known, part_named, field_named, fields_named, variant_named, def_in, def_named}
 use Rattle.mir_text.specs.Naming.{outside_in}
 use Rattle.mir_text.specs.NameFaults.{unless, each_item, none_twice, type_codes, fields_codes, other_codes}
 use Rattle.mir_rules.specs.Formed.{type_formed, field_formed, variant_formed, def_formed, outside_formed}
 use Rattle.mir_rules.proofs.Lists.{append_empty-left, append_empty-right}
-use Rattle.read_formed.proofs.Tests.{unless_met, all_items}
+use Rattle.mir_text.proofs.Numbered.{place_from-there}
+use Rattle.mir_text.proofs.Codes.{unless_met}
+use Rattle.read_formed.proofs.Tests.{all_items}
 
--- ---- the place of a text in a list
-
-place-by : (k n : ℕ) (x : List ℕ) (xs : List (List ℕ)) (bytes : List ℕ) (b : Bool) → bytes_eq x bytes ≡ b → place_from k (x ∷ xs) bytes ≡ Some n → (place_from (suc k) xs bytes ≡ Some n → n < suc k + length xs) → n < k + length (x ∷ xs)
-place-by k n x xs bytes true e h later = let first = rw e at h in let here : k ≡ n = cc in omega (arith, here)
-place-by k n x xs bytes false e h later = let first = rw e at h in let less = later first in omega (arith, less)
-
-place-from-there : (k n : ℕ) (texts : List (List ℕ)) (bytes : List ℕ) → place_from k texts bytes ≡ Some n → n < k + length texts
-place-from-there k n [] bytes h = absurd cc
-place-from-there k n (x ∷ xs) bytes h = place-by k n x xs bytes (bytes_eq x bytes) refl h (λ e. place-from-there (suc k) n xs bytes e)
-
+-- the place of a text in a list
 pub place_there : (n : ℕ) (texts : List (List ℕ)) (bytes : List ℕ) → place_in texts bytes ≡ Some n → nat_lt n (length texts) ≡ true
-place_there n texts bytes h = let less = place-from-there 0 n texts bytes h in lt-ltb n (length texts) (omega (arith, less))
+place_there n texts bytes h = let less = place_from-there 0 n texts bytes h in lt-ltb n (length texts) (omega (arith, less))
 
 module _ (C : Crate) (N : Names) (many : length N.paths ≡ length C.defs) where
   -- ---- types

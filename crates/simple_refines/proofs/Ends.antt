@@ -12,9 +12,8 @@ use Rattle.mir_syntax.specs.declared.body.Term.TheVariants.{Goto, Unreachable}
 use Rattle.cfg_simplify.specs.Edges.{edges, goto_block, Closed}
 use Rattle.cfg_simplify.specs.Simple.{numbers, onward, walk, reached, incoming, joins_to, only_if, joined, is_at, is_joined, stays, line}
 use Rattle.cfg_simplify.specs.Code.{at}
-use Rattle.cfg_simplify.proofs.Counts.{ends_of, ends-step}
 use Rattle.cfg_simplify.proofs.Kept.{joined-below}
-use Rattle.cfg_simplify.proofs.Lines.{joined-tells, cases-link, on-line, fresh}
+use Rattle.cfg_simplify.proofs.Lines.{joined-tells, cases-link, on-line, fresh, seen, seen-step, seen-up}
 use Rattle.cfg_simplify.proofs.Lists.{walk-below}
 use Rattle.cfg_simplify.proofs.Paths.{any-place}
 use Rattle.simple_refines.proofs.Hopped.{goto_is}
@@ -64,21 +63,6 @@ start_alone terms = false_from_ne_true (is_joined terms 0) (λ on.
 
 -- ---- one edge comes from one block
 
-abbrev seen : List Term → ℕ → ℕ → ℕ
-seen terms b i = count_by (λ e. e == b) (ends_of terms i)
-
-seen_step : (terms : List Term) (b i : ℕ) → seen terms b (i + 1) ≡ seen terms b i + count_by (λ e. e == b) (flat_map (edges terms) (cond (reached terms i) (i ∷ []) []))
-seen_step terms b i =
-    ap (count_by (λ e. e == b)) (ends-step terms i) ∙ sum_by-append (λ (e : ℕ). cond (e == b) 1 0) (ends_of terms i) (flat_map (edges terms) (cond (reached terms i) (i ∷ []) []))
-
-seen_up : (terms : List Term) (b i k : ℕ) → seen terms b i ≤ seen terms b (i + k)
-seen_up terms b i zero = (let e : i + 0 ≡ i = omega arith in rw e (let l : seen terms b i ≤ seen terms b i = omega arith in l))
-seen_up terms b i (suc k) =
-    let e : i + suc k ≡ (i + k) + 1 = omega arith in
-    let step = seen_step terms b (i + k) in
-    let low = seen_up terms b i k in
-    rw e (omega (arith, step, low))
-
 count_hit : (xs : List ℕ) (b k : ℕ) → k < length xs → at xs k ≡ b → 0 < count_by (λ e. e == b) xs
 count_hit [] b k l e = absurd (omega arith)
 count_hit (x ∷ xs) b zero l e =
@@ -98,7 +82,7 @@ module _ (terms : List Term) (b : ℕ) (once : incoming terms b ≡ 1) where
   seen_here : (a : ℕ) → Hits a → seen terms b a < seen terms b (a + 1)
   seen_here a (r, l, hit) =
       let e : flat_map (edges terms) (cond (reached terms a) (a ∷ []) []) ≡ edges terms a = ap (flat_map (edges terms)) (cond-true (reached terms a) (a ∷ []) [] r) ∙ append-nil (edges terms a) in
-      let step = seen_step terms b a in
+      let step = seen-step terms b a in
       let all : count_by (λ x. x == b) (flat_map (edges terms) (cond (reached terms a) (a ∷ []) [])) ≡ count_by (λ x. x == b) (edges terms a) = ap (count_by (λ x. x == b)) e in
       omega (arith, step, all, hit)
 
@@ -109,8 +93,8 @@ module _ (terms : List Term) (b : ℕ) (once : incoming terms b ≡ 1) where
       let inside : c < length terms = k.1 in
       let e1 : (a + 1) + (c - (a + 1)) ≡ c = omega arith in
       let e2 : (c + 1) + (length terms - (c + 1)) ≡ length terms = omega (arith, inside) in
-      let up1 : seen terms b (a + 1) ≤ seen terms b c = rw e1 at (seen_up terms b (a + 1) (c - (a + 1))) in
-      let up2 : seen terms b (c + 1) ≤ seen terms b (length terms) = rw e2 at (seen_up terms b (c + 1) (length terms - (c + 1))) in
+      let up1 : seen terms b (a + 1) ≤ seen terms b c = rw e1 at (seen-up terms b (a + 1) (c - (a + 1))) in
+      let up2 : seen terms b (c + 1) ≤ seen terms b (length terms) = rw e2 at (seen-up terms b (c + 1) (length terms - (c + 1))) in
       let all : seen terms b (length terms) ≡ 1 = once in
       omega (arith, first, second, up1, up2, all)
 

@@ -7,6 +7,7 @@ use Rattle.mir_syntax.specs.declared.body.Arm.{Arm}
 use Rattle.mir_syntax.specs.declared.body.Term.{Term}
 use Rattle.mir_syntax.specs.declared.body.Term.TheVariants.{Goto, Switch, Return, Unreachable, Drop, Call, Assert}
 use Rattle.mir_syntax.specs.Crate.{TypedStmt, TypedBlock, TypedBody}
+use Rattle.mir_syntax.proofs.Lists.{map_there}
 use Rattle.mir_semantics.specs.Step.{take_arm}
 use Rattle.mir_relate.specs.Jumps.{SameTerm}
 use Rattle.mir_relate.specs.Hops.{Chain, Hops}
@@ -97,11 +98,6 @@ module _ (b : TypedBody) where
       let end = walk (onward link) (length (map empty_goto b.blocks)) t in
       settle_chain (is_some (link end)) t end (walk_chain (length (map empty_goto b.blocks)) t)
 
-pub map_at : {A B : Type 0} (f : A → B) (xs : List A) (i : ℕ) (x : A) → slice_get xs i ≡ Some x → slice_get (map f xs) i ≡ Some (f x)
-map_at f [] i x e = absurd cc
-map_at f (y ∷ ys) zero x e = ap Some (ap f (let k : y ≡ x = cc in k))
-map_at f (y ∷ ys) (suc i) x e = map_at f ys i x e
-
 abbrev pub hopped_body : TypedBody → TypedBody
 hopped_body b = record { args = b.args; locals = b.locals; blocks = hopped b.blocks }
 
@@ -111,5 +107,5 @@ hopped_hops b =
     let gotos = map empty_goto b.blocks in
     record {
       locals = refl;
-      blocks = λ i k e. (hopped_block gotos k, map_at (hopped_block gotos) b.blocks i k e, refl, same_term_led (λ t2 t1. (n : ℕ) × Chain b n t1 t2) (landing gotos) k.term (λ j d l. landing_chain b (get_or (targets k.term) j d)));
+      blocks = λ i k e. (hopped_block gotos k, map_there (hopped_block gotos) b.blocks i k e, refl, same_term_led (λ t2 t1. (n : ℕ) × Chain b n t1 t2) (landing gotos) k.term (λ j d l. landing_chain b (get_or (targets k.term) j d)));
     }

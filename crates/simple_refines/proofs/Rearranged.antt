@@ -1,5 +1,5 @@
 -- A body that holds the statements and terminators of another one, with edges to blocks of its own, keeps the rules that the other keeps.
-use Rattle.std.proofs.Common.{◌≡◌, refl, sym, ap, ◌∙◌, subst, ℕ, zero, suc, ◌<◌, true, false, ◌==◌, ◌&&◌, nat_lt, List, [], ◌∷◌, ◌++◌, map, length, Some, slice_get, arith}
+use Rattle.std.proofs.Common.{◌≡◌, refl, sym, ap, ◌∙◌, subst, ℕ, ◌<◌, true, false, ◌==◌, ◌&&◌, nat_lt, List, [], ◌∷◌, ◌++◌, map, length, Some, slice_get, arith}
 use Rattle.std.proofs.Common.{lt-ltb}
 use Rattle.std.specs.List.{All, list_all}
 use Rattle.std.proofs.lemmas.Bool.{ne_eqb}
@@ -9,6 +9,7 @@ use Rattle.mir_syntax.specs.declared.body.Term.{Term}
 use Rattle.mir_syntax.specs.declared.body.Term.TheVariants.{Goto, Switch, Return, Unreachable, Drop, Call, Assert}
 use Rattle.mir_syntax.specs.Crate.{TypedStmt, assign, storage_live, storage_dead, set_discriminant, TypedBlock, TypedBody, Crate}
 use Rattle.mir_syntax.specs.Shapes.{Shape, shapes_of}
+use Rattle.mir_syntax.proofs.Lists.{map_back}
 use Rattle.mir_rules.specs.Parts.{term_operands, term_places}
 use Rattle.mir_rules.specs.Parts as parts
 use Rattle.mir_rules.specs.BodyRules.{breaks_v05, arm_value, has_twice, has_too_wide}
@@ -75,12 +76,6 @@ values_led : (f : ℕ → ℕ) (arms : List Arm) → map arm_value (map (retarge
 values_led f [] = refl
 values_led f (a ∷ arms) = ap (λ xs. a.value ∷ xs) (values_led f arms)
 
--- what stands at a place of a list that was mapped
-pub map_tells : {A B : Type 0} (f : A → B) (xs : List A) (i : ℕ) (y : B) → slice_get (map f xs) i ≡ Some y → (x : A) × (slice_get xs i ≡ Some x) × (f x ≡ y)
-map_tells f [] i y e = absurd cc
-map_tells f (x ∷ xs) zero y e = (x, refl, (let k : f x ≡ y = cc in k))
-map_tells f (x ∷ xs) (suc i) y e = map_tells f xs i y e
-
 pub all_at : {A : Type 0} (P : A → Type 0) (xs : List A) (i : ℕ) (x : A) → All P xs → slice_get xs i ≡ Some x → P x
 all_at P xs i x h e = subst P (get_or_from_slice_get xs i x x e) (h i x (slice_get_within xs i x e))
 
@@ -90,7 +85,7 @@ Inside n f t = All (λ c. (0 < f c) × (f c < n)) (targets t)
 
 each_inside : (n : ℕ) (f : ℕ → ℕ) (t : Term) (i c : ℕ) → Inside n f t → slice_get (parts.targets (retarget f t)) i ≡ Some c → (0 < c) × (c < n)
 each_inside n f t i c h e =
-    let (x, at, same) = map_tells f (targets t) i c (ap (λ xs. slice_get xs i) (sym (targets_led f t)) ∙ e) in
+    let (x, at, same) = map_back f (targets t) i c (ap (λ xs. slice_get xs i) (sym (targets_led f t)) ∙ e) in
     let both = all_at (λ x. (0 < f x) × (f x < n)) (targets t) i x h at in
     rw same at both
 

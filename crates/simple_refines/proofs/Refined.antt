@@ -1,5 +1,6 @@
 -- A crate with a cleaned body refines the crate with the body.
 use Rattle.std.proofs.Common.{◌≡◌, refl, ap, ◌∙◌, subst, ℕ, zero, suc, true, List, [], ◌∷◌, set, Some, slice_get}
+use Rattle.std.proofs.lemmas.List.{set-set}
 use Rattle.mir_syntax.specs.Crate.{TypedBody, TypedFunction, Crate}
 use Rattle.mir_rules.specs.Formed.{body_formed}
 use Rattle.mir_rules.specs.Valid as rules
@@ -33,11 +34,6 @@ change_there f b [] g e = absurd cc
 change_there zero b (x ∷ xs) g e = ap (λ (z : TypedFunction). Some (rules.with_body z b)) (let k : x ≡ g = cc in k)
 change_there (suc f) b (x ∷ xs) g e = change_there f b xs g e
 
-set_again : (fns : List TypedFunction) (f : ℕ) (v w : TypedFunction) → set (set fns f v) f w ≡ set fns f w
-set_again [] f v w = refl
-set_again (x ∷ xs) zero v w = refl
-set_again (x ∷ xs) (suc f) v w = ap (λ fs. x ∷ fs) (set_again xs f v w)
-
 -- ---- the cleaned body
 
 module _ (C : Crate) (f : ℕ) (g : TypedFunction) (there : slice_get C.functions f ≡ Some g) (formed : body_formed C g.body ≡ true) (kept : BodyKeeps C g.body) where
@@ -69,5 +65,5 @@ simple_refines C v f g e = both_refine C f g e (body_formed_at C v f g e) ((keep
 pub simple_refines_again : (C : Crate) (f : ℕ) (b : TypedBody) (v : ValidAt C f b) → Refines (at_function C f v.function (simple b)) (at_function C f v.function b)
 simple_refines_again C f b v =
     let C2 = at_function C f v.function b in
-    subst (λ fns. Refines (record C { functions = fns }) C2) (set_again C.functions f (rules.with_body v.function b) (rules.with_body v.function (simple b)))
+    subst (λ fns. Refines (record C { functions = fns }) C2) (set-set C.functions f (rules.with_body v.function b) (rules.with_body v.function (simple b)))
     (simple_refines C2 v.valid f (rules.with_body v.function b) (holds_body C f b v))

@@ -8,6 +8,7 @@ use Rattle.std.proofs.lemmas.Option.{get_or_from_slice_get}
 use Rattle.mir_syntax.specs.declared.body.Term.{Term}
 use Rattle.mir_syntax.specs.declared.body.Term.TheVariants.{Unreachable}
 use Rattle.mir_syntax.specs.Crate.{TypedStmt, TypedBlock, TypedBody}
+use Rattle.mir_syntax.proofs.Lists.{map_there}
 use Rattle.mir_rules.proofs.Terminators.{slice_get_there}
 use Rattle.mir_relate.specs.Jumps.{SameTerm}
 use Rattle.mir_relate.specs.Lines.{Begins, IsLine, Joins}
@@ -15,7 +16,7 @@ use Rattle.cfg_simplify.specs.Edges.{edges, Closed}
 use Rattle.cfg_simplify.specs.Simple.{numbers, onward, walk, reached, joined, stays, line, new_number, term_of, no_block, stmts_at, whole_block, regrouped}
 use Rattle.cfg_simplify.proofs.Lines.{joined-tells, cases-link}
 use Rattle.cfg_simplify.proofs.Paths.{edges-within}
-use Rattle.simple_refines.proofs.Hopped.{same_term_led, map_at}
+use Rattle.simple_refines.proofs.Hopped.{same_term_led}
 use Rattle.simple_refines.proofs.Reached.{start_reached}
 use Rattle.simple_refines.proofs.Ends.{joined_goto, start_alone, line_below, line_ends, line_reached, end_stays}
 use Rattle.simple_refines.proofs.Numbers.{kept_there, kept_is}
@@ -132,4 +133,4 @@ module _ (b : TypedBody) (closed : Closed (map term_of b.blocks)) (some : 0 < le
       go j t (Some a) e h =
           let (s, l) = kept_is keep (length b.blocks) j a e in
           let k = whole_block b.blocks a in
-          (k, map_at (whole_block b.blocks) kept j a e, rw e (line_is (line (joined terms) (length b.blocks) a) (walk (onward (joined terms)) (length b.blocks) a) k.term (line_linked (joined terms) (length b.blocks) a) (last_below a s l) (led a s l)))
+          (k, map_there (whole_block b.blocks) kept j a e, rw e (line_is (line (joined terms) (length b.blocks) a) (walk (onward (joined terms)) (length b.blocks) a) k.term (line_linked (joined terms) (length b.blocks) a) (last_below a s l) (led a s l)))

@@ -10,6 +10,7 @@ use Rattle.mir_syntax.specs.declared.body.Term.{Term}
 use Rattle.mir_syntax.specs.declared.body.Term.TheVariants.{Unreachable}
 use Rattle.mir_syntax.specs.Crate.{TypedStmt, TypedBlock, TypedBody, Crate}
 use Rattle.mir_syntax.specs.Shapes.{shapes_of}
+use Rattle.mir_syntax.proofs.Lists.{map_there, map_back}
 use Rattle.mir_rules.specs.Parts as parts
 use Rattle.mir_rules.specs.Formed.{call_formed, term_formed, body_formed}
 use Rattle.mir_rules.specs.Valid.{at_function, ValidAt}
@@ -19,10 +20,10 @@ use Rattle.mir_rules.proofs.Terminators.{slice_get_there, term_typed, not_to_sta
 use Rattle.mir_rules.proofs.ValidCrates.{first_block, term_formed_at, target_there, body_formed_at, keeps, holds_body, valid_again}
 use Rattle.cfg_simplify.specs.Edges.{targets, retarget, Closed}
 use Rattle.cfg_simplify.specs.Simple.{numbers, onward, walk, empty_goto, goto_link, landing, hopped_block, hopped, joined, stays, line, new_number, term_of, stmts_at, whole_block, regrouped, simple}
-use Rattle.simple_refines.proofs.Hopped.{link_tells, map_at, hopped_body}
+use Rattle.simple_refines.proofs.Hopped.{link_tells, hopped_body}
 use Rattle.simple_refines.proofs.Numbers.{kept_there, kept_is, few_kept}
 use Rattle.simple_refines.proofs.Regrouped.{term_at, start_stays, last_below, last_stays}
-use Rattle.simple_refines.proofs.Rearranged.{targets_same, map_tells, Rearranged, rearranged_formed, rearranged_keeps}
+use Rattle.simple_refines.proofs.Rearranged.{targets_same, Rearranged, rearranged_formed, rearranged_keeps}
 
 -- ---- what the rules say of edges
 
@@ -51,7 +52,7 @@ pub closed : (b : TypedBody) → Leads b → Closed (map term_of b.blocks)
 closed b h i d l j e m =
     let long : length (map term_of b.blocks) ≡ length b.blocks = length-map b.blocks term_of in
     let (k, at) = slice_get_there b.blocks i (omega (arith, long, l)) in
-    let term : get_or (map term_of b.blocks) i d ≡ k.term = get_or_from_slice_get (map term_of b.blocks) i k.term d (map_at term_of b.blocks i k at) in
+    let term : get_or (map term_of b.blocks) i d ≡ k.term = get_or_from_slice_get (map term_of b.blocks) i k.term d (map_there term_of b.blocks i k at) in
     let all : All (λ c. (0 < c) × (c < length b.blocks)) (targets (get_or (map term_of b.blocks) i d)) = rw term (h i k at) in
     let here = (all j e m).1 in
     omega (arith, long, here)
@@ -87,10 +88,10 @@ module _ (b : TypedBody) (some : 0 < length b.blocks) (h : Leads b) where
   hopped_rearranged = record {
     some = rw long some;
     stmts = λ j i k2 s e e2.
-        let (k, at, same) = map_tells (hopped_block gotos) b.blocks j k2 e in
+        let (k, at, same) = map_back (hopped_block gotos) b.blocks j k2 e in
         (j, i, k, at, ap (λ (z : TypedBlock). slice_get z.stmts i) same ∙ e2);
     terms = λ j k2 e.
-        let (k, at, same) = map_tells (hopped_block gotos) b.blocks j k2 e in
+        let (k, at, same) = map_back (hopped_block gotos) b.blocks j k2 e in
         (j, k, landing gotos, at, sym (ap (λ (z : TypedBlock). z.term) same), (λ i d l. rw long (landing_in (get_or (targets k.term) i d) (h j k at i d l))));
   }
 
@@ -143,10 +144,10 @@ module _ (b : TypedBody) (some : 0 < length b.blocks) (h : Leads b) where
   regrouped_rearranged = record {
     some = let first = kept_there keep (length b.blocks) 0 some (start_stays b (closed b h) some) in rw regrouped_long (slice_get_within kept 0 0 first);
     stmts = λ j i k2 s e e2.
-        let (a, at, same) = map_tells (whole_block b.blocks) kept j k2 e in
+        let (a, at, same) = map_back (whole_block b.blocks) kept j k2 e in
         flat_tells b.blocks (line (joined terms) (length b.blocks) a) i s (ap (λ (z : TypedBlock). slice_get z.stmts i) same ∙ e2);
     terms = λ j k2 e.
-        let (a, at, same) = map_tells (whole_block b.blocks) kept j k2 e in
+        let (a, at, same) = map_back (whole_block b.blocks) kept j k2 e in
         let (s, l) = kept_is keep (length b.blocks) j a at in
         let x = walk (onward (joined terms)) (length b.blocks) a in
         let (k, here) = slice_get_there b.blocks x (last_below b (closed b h) some a s l) in

@@ -2,6 +2,7 @@
 use Rattle.std.proofs.Common.{◌≡◌, refl, sym, ap, ◌∙◌, subst, ℕ, zero, suc, ◌<◌, ◌≤◌, List, [], ◌∷◌, set, length, Some, slice_get, arith}
 use Rattle.mir_syntax.specs.Crate.{TypedBody, TypedFunction, Crate}
 use Rattle.mir_syntax.specs.Shapes.{Shape, shapes_of}
+use Rattle.mir_syntax.proofs.Lists.{set_same}
 use Rattle.mir_semantics.specs.Refines.{Refines}
 use Rattle.mir_rules.specs.Limits.{most_in_body}
 use Rattle.mir_rules.specs.Valid.{Valid, Within, with_body, at_function}
@@ -19,11 +20,6 @@ use Rattle.pass_order.specs.Stepped.{IsStepped, AllStepped, FitsAt}
 use Rattle.pass_order.proofs.Fits.{as_valid, shapes_fit, fits_simple, fits_pruned, fits_stepped}
 use Rattle.pass_order.proofs.Alone.{blocks_within, locals_within}
 use Rattle.steps_refine.proofs.Cleaned.{simple_no_drops}
-
-set_same : (xs : List TypedFunction) (f : ℕ) (v : TypedFunction) → slice_get xs f ≡ Some v → set xs f v ≡ xs
-set_same [] f v e = refl
-set_same (x ∷ xs) zero v e = ap (λ (y : TypedFunction). y ∷ xs) (let z : v ≡ x = grind arith in z)
-set_same (x ∷ xs) (suc f) v e = ap (λ ys. x ∷ ys) (set_same xs f v e)
 
 -- ---- one function
 

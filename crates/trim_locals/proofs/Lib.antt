@@ -1,3 +1,3 @@
-pub mod Taken
+pub mod Kept
 pub mod Same
 mod InTable

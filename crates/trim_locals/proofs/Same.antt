@@ -1,13 +1,11 @@
 -- The code's body, seen with its types, is the defined one.
-use Rattle.std.proofs.Common.{◌≡◌, refl, sym, ap, ap₂, ◌∙◌, ℕ, zero, suc, ◌+◌, ◌<◌, ◌≤◌, Bool, true, false, cond, if◌then◌else◌, List, [], ◌∷◌, ◌++◌, map, take, drop, length, get_or, set, replicate, length-append, arith}
-use Rattle.std.specs.List.{filter, flat_map, count_by, range_with_len}
+use Rattle.std.proofs.Common.{◌≡◌, refl, sym, ap, ap₂, ◌∙◌, ℕ, zero, suc, ◌+◌, ◌<◌, Bool, true, false, cond, if◌then◌else◌, List, [], ◌∷◌, ◌++◌, map, take, drop, length, get_or, set, replicate, length-append, arith}
+use Rattle.std.specs.List.{filter, flat_map, range_with_len}
 use Rattle.std.proofs.lemmas.List.{map-append, append-nil, length-map, length-take, length-drop, length-replicate, get_or_default}
 use Rattle.std.proofs.lemmas.List.Edits.{map_over_more}
-use Rattle.std.proofs.lemmas.List.FromFn.{map-range_with_len_more}
 use Rattle.std.proofs.lemmas.List.Sums.{count_by_more_yes, count_by_more_no}
 use Rattle.bit_rows.specs.Rows.{row_at, marked, stands, HasSize}
 use Rattle.bit_rows.proofs.Marks.{marked-blank, length-marked}
-use Rattle.mir_syntax.specs.declared.body.Operand.{Operand}
 use Rattle.mir_syntax.specs.declared.body.Rvalue.{Rvalue}
 use Rattle.mir_syntax.specs.declared.body.Rvalue.TheVariants as rvalue
 use Rattle.mir_syntax.specs.declared.body.Stmt.{Stmt}
@@ -18,19 +16,14 @@ use Rattle.mir_syntax.specs.declared.body.Block.{Block}
 use Rattle.mir_syntax.specs.declared.body.Body.{Body}
 use Rattle.mir_syntax.specs.declared.types.TyId.{TyId}
 use Rattle.mir_syntax.specs.Tree.{Tree, at_id}
-use Rattle.mir_syntax.specs.Crate.{TypedRvalue, TypedStmt, assign, TypedBlock, TypedBody, rvalue_of, stmt_of, block_of, body_of}
-use Rattle.mir_rules.specs.Parts.{operand_places, term_places}
+use Rattle.mir_syntax.specs.Crate.{TypedStmt, assign, TypedBlock, TypedBody, rvalue_of, stmt_of, block_of, body_of}
+use Rattle.mir_rules.specs.Parts.{operand_places}
 use Rattle.liveness.specs.Live.{place_local, operand_locals}
-use Rattle.liveness.specs.Rows.{bare_rvalue_reads}
-use Rattle.liveness.proofs.Carried.{reads_same}
+use Rattle.liveness.proofs.Carried.{operands_locals, reads_same}
 use Rattle.trim_locals.specs.Trimmed.{stmt_uses, term_uses, block_uses, used_locals, used_marks, self, new_number, new_numbers, number_in, renamed_rvalue, renamed_stmt, renamed_term, marked_items, stays, trimmed_block, trimmed}
 use Rattle.trim_locals.specs.Code.{bare_stmt_uses, bare_term_uses, bare_block_uses, bare_renamed_rvalue, bare_renamed_stmt, bare_stays, bare_trimmed_stmts, bare_trimmed_block}
 
 -- ---- uses
-
-locals_of : (args : List Operand) → map place_local (flat_map operand_places args) ≡ flat_map operand_locals args
-locals_of [] = refl
-locals_of (a ∷ args) = map-append place_local (operand_places a) (flat_map operand_places args) ∙ ap (λ xs. operand_locals a ++ xs) (locals_of args)
 
 stmt_same : (trees : List Tree) (s : Stmt) → stmt_uses (stmt_of trees s) ≡ bare_stmt_uses s
 stmt_same trees (stmt.Assign p r) = ap (λ xs. xs ++ p.local ∷ []) (reads_same trees r)
@@ -44,8 +37,8 @@ term_same (term.Switch a arms other) = ap (map place_local) (append-nil (operand
 term_same term.Return = refl
 term_same term.Unreachable = refl
 term_same (term.Drop p next) = refl
-term_same (term.Call p callee args next) = ap (λ xs. p.local ∷ xs) (locals_of args)
-term_same (term.Assert a expected text args next) = map-append place_local (operand_places a) (flat_map operand_places args) ∙ ap (λ xs. operand_locals a ++ xs) (locals_of args)
+term_same (term.Call p callee args next) = ap (λ xs. p.local ∷ xs) (operands_locals args)
+term_same (term.Assert a expected text args next) = map-append place_local (operand_places a) (flat_map operand_places args) ∙ ap (λ xs. operand_locals a ++ xs) (operands_locals args)
 
 stmts_same : (trees : List Tree) (ss : List Stmt) → flat_map stmt_uses (map (stmt_of trees) ss) ≡ flat_map bare_stmt_uses ss
 stmts_same trees [] = refl
@@ -149,13 +142,6 @@ is_trimmed trees body marks numbers locals blocks em en el eb =
     ∙ ap (λ ms. (let b : TypedBody = record { args = body.args; locals = marked_items ms (map (at_id trees) body.locals); blocks = map (trimmed_block ms) (map (block_of trees) body.blocks) } in b)) em
 
 -- ---- loops
-
-map_same : (xs : List ℕ) → map (λ k. k) xs ≡ xs
-map_same [] = refl
-map_same (x ∷ xs) = ap (λ ys. x ∷ ys) (map_same xs)
-
-pub range_more : (n : ℕ) → range_with_len 0 (n + 1) ≡ range_with_len 0 n ++ n ∷ []
-range_more n = sym (map_same (range_with_len 0 (n + 1))) ∙ map-range_with_len_more (λ k. k) 0 n n (omega arith) ∙ ap (λ xs. xs ++ n ∷ []) (map_same (range_with_len 0 n))
 
 -- an item is written over
 pub over_more : {X : Type 0} (f : X → X) (xs ys : List X) (i : ℕ) (d v : X) → i < length ys → ys ≡ map f (take i xs) ++ drop i xs → v ≡ f (get_or ys i d) → set ys i v ≡ map f (take (i + 1) xs) ++ drop (i + 1) xs

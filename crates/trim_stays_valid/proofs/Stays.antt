@@ -1,5 +1,5 @@
 -- A trimmed body is valid in the place of a valid body.
-use Rattle.std.proofs.Common.{◌≡◌, ◌⊎◌, inl, inr, refl, sym, ap, ◌∙◌, subst, ℕ, zero, suc, ◌<◌, ◌≤◌, Bool, true, false, ◌&&◌, nat_lt, List, [], ◌∷◌, map, length, Option, Some, slice_get, arith}
+use Rattle.std.proofs.Common.{◌≡◌, ◌⊎◌, inl, inr, refl, sym, ap, ◌∙◌, subst, ℕ, zero, suc, ◌<◌, ◌≤◌, Bool, true, false, ◌&&◌, nat_lt, List, [], ◌∷◌, length, Option, Some, slice_get, arith}
 use Rattle.std.proofs.Common.{lt-ltb}
 use Rattle.std.specs.List.{list_all}
 use Rattle.std.proofs.lemmas.Bool.{cases_lt}
@@ -9,6 +9,7 @@ use Rattle.mir_syntax.specs.declared.body.Term.{Term}
 use Rattle.mir_syntax.specs.declared.body.Term.TheVariants.{Goto, Switch, Return, Unreachable, Drop, Call, Assert}
 use Rattle.mir_syntax.specs.Crate.{TypedStmt, assign, storage_live, storage_dead, set_discriminant, TypedBlock, TypedBody, Crate}
 use Rattle.mir_syntax.specs.Shapes.{Shape, shapes_of}
+use Rattle.mir_syntax.proofs.Lists.{map_back}
 use Rattle.mir_rules.specs.Formed.{type_formed, stmt_formed, term_formed, call_formed, block_formed, has_start, body_formed}
 use Rattle.mir_rules.specs.Valid.{at_function, ValidAt}
 use Rattle.mir_rules.proofs.Lists.{and_true-left, and_true-right, list_all_true}
@@ -158,14 +159,9 @@ drop_same f (Drop p u) = refl
 drop_same f (Call p g os u) = refl
 drop_same f (Assert o e x os u) = refl
 
-mapped_back : {A B : Type 0} (f : A → B) (xs : List A) (i : ℕ) (y : B) → slice_get (map f xs) i ≡ Some y → (x : A) × (slice_get xs i ≡ Some x) × (f x ≡ y)
-mapped_back f [] i y e = absurd (grind arith)
-mapped_back f (x ∷ xs) zero y e = (x, refl, (let k : f x ≡ y = grind arith in k))
-mapped_back f (x ∷ xs) (suc i) y e = mapped_back f xs i y e
-
 pub trimmed_no_drops : (b : TypedBody) → NoDrops b → NoDrops (trimmed b)
 trimmed_no_drops b h = record {
   none = λ i k2 e.
-      let (k, at, is) = mapped_back (trimmed_block (used_marks b)) b.blocks i k2 e in
+      let (k, at, is) = map_back (trimmed_block (used_marks b)) b.blocks i k2 e in
       ap (λ (k : TypedBlock). is_drop k.term) (sym is) ∙ drop_same (number_in (new_numbers (used_marks b))) k.term ∙ h.none i k at;
 }

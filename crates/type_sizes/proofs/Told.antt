@@ -1,5 +1,5 @@
 -- Lists of sizes that grow, and rounds that change nothing.
-use Rattle.std.proofs.Common.{◌≡◌, ℕ, zero, suc, ◌+◌, ◌-◌, ◌<◌, ◌≤◌, List, [], ◌∷◌, ◌++◌, length, None, slice_get, refl, sym, ap, subst, ◌∙◌, arith}
+use Rattle.std.proofs.Common.{◌≡◌, ℕ, zero, suc, ◌+◌, ◌-◌, ◌<◌, ◌≤◌, List, [], ◌∷◌, ◌++◌, length, slice_get, refl, sym, ap, subst, ◌∙◌, arith}
 use Rattle.std.proofs.lemmas.List.{get_or_past, get_or_push}
 use borrow.Author.Count.{below_more}
 use Rattle.mir_syntax.specs.Tree.{named}
@@ -57,8 +57,3 @@ module _ (D : List Shape) (m : Measure) (sizes : List ℕ) where
   settled kept n j below here =
       let far : (j - n) + n ≡ j = omega arith in
       subst (λ i. Told m sizes (level D m i)) far (still kept n (j - n) here)
-
-pub none_there : {A : Type 0} (xs : List A) (i : ℕ) → slice_get xs i ≡ None → length xs ≤ i
-none_there [] i e = omega arith
-none_there (x ∷ xs) zero e = absurd cc
-none_there (x ∷ xs) (suc i) e = let later = none_there xs i e in omega (arith, later)

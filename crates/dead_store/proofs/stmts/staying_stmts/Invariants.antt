@@ -4,7 +4,7 @@ use Rattle.mir_syntax.specs.Crate.{stmt_of}
 use Rattle.bit_rows.specs.Rows.{row_at}
 use Rattle.liveness.specs.Rows.{before_all}
 use Rattle.dead_store.specs.Rounds.{staying}
-use Rattle.dead_store.proofs.Staying.{Taken}
+use Rattle.mir_syntax.proofs.Taken.{Taken}
 use Rattle.dead_store.proofs.stmts.staying_stmts.Given as goal
 
 abbrev pub invariant-loop-stmt : goal.invariant-loop-stmt

@@ -8,7 +8,8 @@ use Rattle.mir_syntax.proofs.InTable.{local-in-table}
 use Rattle.mir_syntax.specs.declared.body.Proj.{Proj}
 use Rattle.mir_syntax.specs.declared.body.Proj.TheVariants as proj
 use Rattle.mir_rules.specs.BodyRules.{path_through}
-use Rattle.liveness.proofs.Destructors.{through_none, is_some-map, through_here, through_nowhere}
+use Rattle.mir_rules.proofs.Destructors.{through_none}
+use Rattle.liveness.proofs.Destructors.{is_some-map, through_here, through_nowhere}
 use Rattle.liveness.proofs.terminator.goes_through_destructor.Goals as goal
 
 pub returns-in_default : goal.returns-in_default

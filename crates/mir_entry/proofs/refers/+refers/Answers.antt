@@ -4,7 +4,7 @@ use Rattle.mir_syntax.specs.Crate.{variant_of}
 use Rattle.mir_syntax.specs.Shapes.{fields_tuple}
 use Rattle.mir_semantics.specs.Entry.{refers_def, any_refers}
 use Rattle.mir_meaning.specs.Programs.{shapes_in}
-use Rattle.mir_meaning.proofs.Blanks.{id_below}
+use Rattle.mir_syntax.proofs.Lists.{id_below}
 use Rattle.mir_entry.proofs.Referring.{refers_at, refers_past}
 use Rattle.mir_entry.proofs.refers.+refers.Goals as goal
 

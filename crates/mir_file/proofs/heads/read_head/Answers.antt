@@ -1,7 +1,6 @@
-use Rattle.std.proofs.Common.{◌≡◌, ◌<◌, ◌++◌, map, length, get_or, Option, IfSome, option_map, ap, ap₂, sym, subst, ◌∙◌}
+use Rattle.std.proofs.Common.{◌≡◌, ◌++◌, map, length, get_or, option_map, ap, ap₂, sym, ◌∙◌}
 use Rattle.std.proofs.lemmas.List.{length-map}
 use Rattle.std.proofs.lemmas.Simd.{map-map}
-use Rattle.mir_syntax.specs.declared.types.TyId.{TyId}
 use Rattle.mir_syntax.specs.Tree.{at_id, trees_of}
 use Rattle.mir_syntax.proofs.Growth.{map-same, all-weaker, length-extends, at_id-extends}
 use Rattle.mir_text.specs.NamedBodies.{declared_ty}
@@ -13,17 +12,15 @@ use Rattle.mir_tree.specs.Bodies.{lined, lined_block}
 use Rattle.mir_tree.specs.Rules.{arg_rule}
 use Rattle.mir_resolve.specs.Definitions.{before_defs}
 use Rattle.mir_resolve.proofs.Growing.{grown_then}
+use Rattle.mir_bodies.proofs.TellsOn.{first_declared, first_inside}
 use Rattle.mir_file.specs.Declarations.{declared_below, declared_as, label_in}
 use Rattle.mir_file.proofs.Declaring.{declared_keep}
-use Rattle.mir_file.proofs.TypesOf.{first_told, first_inside}
 use Rattle.mir_file.proofs.HeadFaults.{first_lined, head_length, head_went}
 use Rattle.mir_file.proofs.heads.read_head.Goals as goal
 
 pub note_result-requires-clause-inside : goal.note_result-requires-clause-inside
 note_result-requires-clause-inside c =
-    let mid = c.read_locals.new.draft.program.types in
-    let P : Option TyId → Type 0 = λ o. IfSome o (λ k. k.0 < length mid) in
-    subst P (sym c.get.ensures) (first_inside (length mid) c.in_ok-locals.locals 0 c.in_ok-locals.ensures.inside)
+    first_inside (length c.read_locals.new.draft.program.types) c.in_ok-locals.locals 0 _ c.in_ok-locals.ensures.inside c.get.ensures
 
 pub returns-clause-declared : goal.returns-clause-declared
 returns-clause-declared c =
@@ -79,6 +76,6 @@ returns-clause-went c =
           (c.are_in_order.ensures ∙ ap (λ l. blocks_in_order (map label_in l)) c.as_slice.ensures ∙ ap blocks_in_order (sym (map-map (λ (b : LinedBlock). b.label) lined_block x.blocks)))
           c.as_slice-2.ensures
           (at_id-extends old mid c.in_ok-answer.answer second.went.grown.types first.inside ∙ first.stands)
-          (ap (option_map (at_id trees)) c.get.ensures ∙ first_told trees locals 0 ∙ ap (λ ds. declared_ty ds 0) second.declared)
+          (ap (option_map (at_id trees)) c.get.ensures ∙ first_declared trees locals 0 ∙ ap (λ ds. declared_ty ds 0) second.declared)
           (c.first_line-first.ensures ∙ ap (λ l. get_or l 0 0) (c.as_slice-4.ensures ∙ c.in_ok-lines.ensures ∙ ap (local_lines all 0) size) ∙ first_lined all);
     }

@@ -1,8 +1,9 @@
 use Rattle.std.proofs.Common.{◌≡◌, length, slice_get, Some, None, refl, sym, ap, ◌∙◌, arith, eqb-true}
 use Rattle.std.proofs.lemmas.Option.{slice_get_within}
+use Rattle.mir_syntax.proofs.Lists.{slice_get-none}
 use Rattle.mir_rules.specs.Broken.{statement}
 use Rattle.mir_rules.specs.Limits.{statement_spot}
-use Rattle.mir_limits.proofs.Counted.{absent, single_at, single_long}
+use Rattle.mir_limits.proofs.Counted.{single_at, single_long}
 use Rattle.mir_limits.proofs.Fitting.{statement_line}
 use Rattle.mir_limits.proofs.statements.in_block.Goals as goal
 
@@ -22,7 +23,7 @@ returns-in-Some c = λ all f block g k typed e h same fits.
 pub returns-in-None : goal.returns-in-None
 returns-in-None c = λ all f block g k typed e h same fits.
     let at : slice_get c.args.lines.now c.args.left ≡ None = sym (c.copied.ensures ∙ c.get.ensures) ∙ c.in-None.is in
-    let beyond = absent c.args.lines.now c.args.left at in
+    let beyond = slice_get-none c.args.lines.now c.args.left at in
     let long : length k.stmts ≡ length typed.stmts = eqb-true (length k.stmts) (length typed.stmts) fits in
     let found = single_long (statement_spot f block) (statement f block) (λ i x. refl) typed.stmts in
     let alike = ap length same in

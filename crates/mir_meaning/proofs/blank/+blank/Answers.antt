@@ -3,7 +3,8 @@ use Rattle.mir_syntax.specs.Tree.{trees_of}
 use Rattle.mir_semantics.specs.Values.{blank_def}
 use Rattle.mir_meaning.specs.Programs.{shapes_in}
 use Rattle.mir_meaning.specs.Views.{value_of}
-use Rattle.mir_meaning.proofs.Blanks.{id_below, made_ids, made_fields}
+use Rattle.mir_syntax.proofs.Lists.{id_below}
+use Rattle.mir_meaning.proofs.Blanks.{made_ids, made_fields}
 use Rattle.mir_meaning.proofs.blank.+blank.Goals as goal
 
 pub tuple_blank-blank_within-requires : goal.tuple_blank-blank_within-requires

@@ -2,7 +2,8 @@ use Rattle.std.proofs.Common.{arith}
 use Rattle.mir_print.specs.Seen.{crate_in}
 use Rattle.mir_syntax.specs.Tree.{at_ids, trees_of}
 use Rattle.mir_text.specs.TypeText.{type_text, parts_text, rest_text}
-use Rattle.mir_print.proofs.Texts.{remains_next, remains_end, first_part, no_parts, opened_copy, past_table, id_below}
+use Rattle.mir_syntax.proofs.Lists.{id_below}
+use Rattle.mir_print.proofs.Texts.{remains_next, remains_end, first_part, no_parts, opened_copy, past_table}
 use Rattle.mir_print.proofs.Printing.{goes_then}
 use Rattle.mir_print.proofs.types.+types.Goals as goal
 

@@ -1,7 +1,7 @@
 use Rattle.std.proofs.Common.{◌≡◌, drop, reverse, length}
 use Rattle.bit_rows.specs.Rows.{row_at}
 use Rattle.trim_locals.specs.Code.{bare_trimmed_stmts}
-use Rattle.trim_locals.proofs.Taken.{Taken}
+use Rattle.mir_syntax.proofs.Taken.{Taken}
 use Rattle.trim_locals.proofs.blocks.trimmed_stmts.Given as goal
 
 abbrev pub invariant-loop-stmt : goal.invariant-loop-stmt

@@ -2,7 +2,7 @@ use Rattle.std.proofs.Common.{◌≡◌, ℕ, ◌+◌, [], ◌∷◌, sym, ap, �
 use Rattle.std.specs.List.{range_with_len}
 use Rattle.bit_rows.specs.Rows.{row_at, marked}
 use Rattle.bit_rows.proofs.Marks.{marks_then}
-use Rattle.trim_locals.proofs.Same.{range_more}
+use Rattle.mir_syntax.proofs.Lists.{range_more}
 use Rattle.trim_locals.proofs.marks.mark_header.Goals as goal
 
 pub loop-local-preserved : goal.loop-local-preserved

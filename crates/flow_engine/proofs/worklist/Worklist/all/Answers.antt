@@ -5,7 +5,7 @@ use Rattle.std.proofs.lemmas.List.FromFn.{length-range_with_len, get_or-range_wi
 use Rattle.std.proofs.lemmas.Bool.{cases_lt, both_ways}
 use Rattle.std.proofs.lemmas.List.{get_or_past}
 use Rattle.flow_engine.specs.Solving.{IsWork}
-use Rattle.flow_engine.proofs.Lists.{range_more}
+use Rattle.mir_syntax.proofs.Lists.{range_more}
 use Rattle.flow_engine.proofs.worklist.Worklist.all.Goals as goal
 
 pub loop-block-preserved : goal.loop-block-preserved

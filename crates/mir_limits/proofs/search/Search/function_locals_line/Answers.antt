@@ -18,7 +18,7 @@ use Rattle.mir_rules.specs.Limits.{is_large_type, local_passed}
 use Rattle.mir_limits.specs.Answer.{at_code, either}
 use Rattle.mir_limits.proofs.Answered.{spot_passed}
 use Rattle.mir_limits.proofs.Gathered.{gathered_more}
-use Rattle.mir_limits.proofs.Weighed.{id_below}
+use Rattle.mir_syntax.proofs.Lists.{id_below}
 use Rattle.mir_limits.proofs.Fitting.{functions_long, function_locals, local_line}
 use Rattle.mir_limits.proofs.search.Search.function_locals_line.Goals as goal
 

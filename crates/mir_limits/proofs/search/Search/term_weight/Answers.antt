@@ -6,7 +6,7 @@ use Rattle.mir_syntax.specs.Shapes.{shapes_of, place_ty}
 use Rattle.mir_rules.specs.Formed.{path_formed, term_formed}
 use Rattle.mir_rules.specs.Limits.{weight_of, term_weight}
 use Rattle.type_sizes.specs.UpTo.{Tells}
-use Rattle.mir_limits.proofs.Places.{whole_place}
+use Rattle.mir_rules.proofs.Whole.{whole_place}
 use Rattle.mir_limits.proofs.Weighed.{drop_whole}
 use Rattle.mir_limits.proofs.search.Search.term_weight.Goals as goal
 

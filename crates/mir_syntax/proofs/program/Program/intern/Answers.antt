@@ -1,9 +1,9 @@
 use Rattle.std.proofs.Common.{rules, refl}
 use Rattle.mir_syntax.specs.declared.program.Program.{Program}
 use Rattle.mir_syntax.specs.Table.{IsTable}
-use Rattle.mir_syntax.proofs.Trees.{slice_get-below}
 use Rattle.mir_syntax.proofs.Growth.{Grows-Extends, at_id-extends, at_id-grown, crate_of-extends, IdsInTable-extends}
 use Rattle.mir_syntax.proofs.program.Program.intern.Goals as goal
+use Rattle.std.proofs.lemmas.Option.{slice_get_within}
 
 pub returns-clause-stands : goal.returns-clause-stands
 returns-clause-stands c =
@@ -15,7 +15,7 @@ pub returns-clause-kept : goal.returns-clause-kept
 returns-clause-kept c = λ id h. at_id-extends c.args.self.now.types c.place.new.self id (Grows-Extends c.args.self.now.types c.place.new.self c.args.ty c.place.ensures.types) h
 
 pub returns-clause-within : goal.returns-clause-within
-returns-clause-within c = slice_get-below c.place.new.self c.in_ok-place.field-0 c.args.ty c.in_ok-place.ensures.found
+returns-clause-within c = slice_get_within c.place.new.self c.in_ok-place.field-0 c.args.ty c.in_ok-place.ensures.found
 
 pub returns-clause-same_crate : goal.returns-clause-same_crate
 returns-clause-same_crate c = λ h.

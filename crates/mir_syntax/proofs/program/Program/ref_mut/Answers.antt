@@ -1,8 +1,9 @@
 use Rattle.std.proofs.Common.{◌≡◌, ℕ, rules, slice_get, Some}
 use Rattle.mir_syntax.specs.declared.types.Ty.TheVariants.{RefMut}
-use Rattle.mir_syntax.proofs.Trees.{at_id-node, slice_get-below}
+use Rattle.mir_syntax.proofs.Trees.{at_id-node}
 use Rattle.mir_syntax.proofs.KeptDrops.{ref_mut-there}
 use Rattle.mir_syntax.proofs.program.Program.ref_mut.Goals as goal
+use Rattle.std.proofs.lemmas.Option.{slice_get_within}
 
 pub returns-in-Some-clause-stands : goal.returns-in-Some-clause-stands
 returns-in-Some-clause-stands c =
@@ -14,7 +15,7 @@ pub returns-in-Some-clause-in_table : goal.returns-in-Some-clause-in_table
 returns-in-Some-clause-in_table c =
     let p = c.args.self.now in
     let found : slice_get p.types c.in-Some.at ≡ Some (RefMut c.args.id) = search rules in
-    slice_get-below p.types c.in-Some.at (RefMut c.args.id) found
+    slice_get_within p.types c.in-Some.at (RefMut c.args.id) found
 
 pub returns-clause-stands : goal.returns-clause-stands
 returns-clause-stands c =

@@ -1,6 +1,6 @@
 use Rattle.std.proofs.Common.{◌∙◌}
 use Rattle.mir_validate.specs.Inside.{shapes, local_types}
-use Rattle.mir_limits.proofs.Places.{whole_place}
+use Rattle.mir_rules.proofs.Whole.{whole_place}
 use Rattle.mir_validate.proofs.inside.Inside.place_ty.Goals as goal
 
 pub returns-clause-ty : goal.returns-clause-ty

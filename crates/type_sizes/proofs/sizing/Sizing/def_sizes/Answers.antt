@@ -8,10 +8,11 @@ use Rattle.mir_syntax.specs.Tree.{named, trees_of}
 use Rattle.mir_syntax.specs.Crate.{crate_of, variant_of}
 use Rattle.mir_syntax.specs.Shapes.{shapes_of, fields_tuple, needs_drop}
 use Rattle.mir_syntax.proofs.Places.{shape-at, shape-past}
+use Rattle.mir_syntax.proofs.Lists.{slice_get-none}
 use Rattle.drop_tables.specs.Marks.{own_of}
 use Rattle.type_sizes.specs.UpTo.{Tells}
 use Rattle.type_sizes.specs.Measures.{most, told, whole, shape_size, with_destructor, Told, TypesTold}
-use Rattle.type_sizes.proofs.Told.{bounded_more, one_more, told_past, leaf_told, none_there}
+use Rattle.type_sizes.proofs.Told.{bounded_more, one_more, told_past, leaf_told}
 use Rattle.type_sizes.proofs.sizing.Sizing.def_sizes.Goals as goal
 
 pub loop-at-preserved : goal.loop-at-preserved
@@ -53,5 +54,5 @@ returns-clause-tells c = λ g t d.
         → (d < length p.defs → Tells (most m) (told m sizes d) (whole (shapes_of (crate_of p)) m g (needs_drop (shapes_of (crate_of p)) (named d)) (slice_get (shapes_of (crate_of p)) d)))
         → Tells (most m) (told m sizes d) (whole (shapes_of (crate_of p)) m g (needs_drop (shapes_of (crate_of p)) (named d)) (slice_get (shapes_of (crate_of p)) d))
     go p m g sizes d None e long inside =
-        rw (shape-past p d e, told_past m sizes d (omega (arith, long, none_there p.defs d e))) (leaf_told m)
+        rw (shape-past p d e, told_past m sizes d (omega (arith, long, slice_get-none p.defs d e))) (leaf_told m)
     go p m g sizes d (Some def) e long inside = inside (slice_get_within p.defs d def e)

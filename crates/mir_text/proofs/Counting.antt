@@ -1,9 +1,12 @@
--- Where no local is missing the declared ones are among as many as are declared; and where blocks are in order so are their labels.
-use Rattle.std.proofs.Common.{◌≡◌, ◌∙◌, ◌<◌, ◌≤◌, ◌+◌, ℕ, zero, suc, Bool, true, false, ◌||◌, nat_eq, List, [], ◌∷◌, length, is_some, refl, sym, ap, subst, arith}
+-- How many locals and blocks there are: where no local is missing the declared ones are among as many as are declared; and where blocks are in order so are their labels.
+use Rattle.std.proofs.Common.{◌≡◌, ◌∙◌, ◌<◌, ◌≤◌, ◌+◌, ℕ, zero, suc, Bool, true, false, ◌||◌, nat_eq, List, [], ◌∷◌, map, length, is_some, refl, sym, ap, subst, arith}
 use Rattle.std.proofs.lemmas.Bool.{and_parts, eqb-true}
 use Rattle.std.proofs.lemmas.Bool.Decides.{nat_tests}
 use Rattle.mir_syntax.specs.Tree.{Tree}
+use Rattle.mir_text.specs.GrammarTerms.{BlockRule, block_put}
 use Rattle.mir_text.specs.NamedBodies.{Declared, declared_ty}
+use Rattle.mir_text.specs.Naming.{locals_from}
+use Rattle.mir_text.specs.PartLines.{LinesFrom, past, blocks_lined}
 use Rattle.mir_text.specs.NameFaults.{is_among, below_declared, none_missing_in, none_missing, in_order, blocks_in_order}
 
 abbrev IsDeclared : Declared → ℕ → Type 0
@@ -103,3 +106,13 @@ labels_few (l ∷ ls) b h e = let k = labels-below 0 (l ∷ ls) b h e in omega (
 pub labels_some : (ls : List ℕ) → blocks_in_order ls ≡ true → 0 < length ls
 labels_some [] h = absurd cc
 labels_some (l ∷ ls) h = omega arith
+
+-- ---- as many as there are
+
+pub locals_from-length : (L : Declared) (k n : ℕ) → length (locals_from L k n) ≡ n
+locals_from-length L k zero = refl
+locals_from-length L k (suc n) = ap suc (locals_from-length L (suc k) n)
+
+pub blocks_lined-length : (bs : List BlockRule) (lines : LinesFrom) → length (map (λ b. b.label) (blocks_lined bs lines)) ≡ length bs
+blocks_lined-length [] lines = refl
+blocks_lined-length (b ∷ bs) lines = ap suc (blocks_lined-length bs (past block_put b lines))
