@@ -1,4 +1,5 @@
 pub mod Steps
+pub mod Taking
 pub mod Bodies
 pub mod FirstItems
 pub mod Clashing

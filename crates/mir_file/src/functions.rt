@@ -148,33 +148,32 @@ fn read_item(
     }
 }
 
-/// The functions of a file, over a program with its definitions. Their faults are noted on their lines.
+/// The functions of a file, over a program with its definitions. Their faults are noted on their lines. Each item is let go once it is read.
 pub fn read_functions(
     alloc: Global,
     strings: &Names,
     paths: &FilePaths,
     draft: &mut Draft,
-    items: &[Lined<ItemText>],
+    items: List<Lined<ItemText>>,
 ) -> Result<ReadFunctions, OutOfMemory>
     ghost names: { n.Names }
     requires { Knows strings.now paths.now draft.old.program names }
-    ensures functions { IfOk result (λ found. map (function_of (trees_of draft.new.program.types)) found.functions ≡ functions_in names (rules_of items.now)) }
+    ensures functions { IfOk result (λ found. map (function_of (trees_of draft.new.program.types)) found.functions ≡ functions_in names (rules_of items)) }
     ensures inside { IfOk result (λ found. IsTrue (list_all (function_below (length draft.new.program.types)) found.functions)) }
-    ensures lines { IfOk result (λ found. found.lines ≡ each fn_lines_in (map lined_item items.now)) }
-    ensures wrong { IfOk result (λ found. found.wrong_field ≡ wrong_field_in names (map lined_item items.now)) }
-    ensures went { OnOk result (Noticed draft.old draft.new (each (fn_text_faults names) items.now)) }
+    ensures lines { IfOk result (λ found. found.lines ≡ each fn_lines_in (map lined_item items)) }
+    ensures wrong { IfOk result (λ found. found.wrong_field ≡ wrong_field_in names (map lined_item items)) }
+    ensures went { OnOk result (Noticed draft.old draft.new (each (fn_text_faults names) items)) }
 {
     let mut found = ReadFunctions {
         functions: List::new(alloc),
         lines: List::new(alloc),
         wrong_field: None,
     };
-    let mut left = items;
-    'items: while let [item, rest @ ..] = left {
+    'items: for item in items.into_vec() {
         read_item(
             alloc, strings, paths, draft, &mut found, item.line, &item.part,
         )?;
-        left = rest;
+        drop(item);
     }
     Ok(found)
 }

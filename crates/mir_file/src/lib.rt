@@ -10,7 +10,8 @@
 //! - `read_head`: the locals that a function declares (`declared`), their types (`locals_from`) and lines (`fn_lines`), with the faults of a
 //!   function but for those of its blocks (`head_faults`, `specs/Declarations.antt`).
 //! - `read_functions`: the functions of a file over a program with its definitions (`functions_in`), their lines, the first field that is written
-//!   with another type than the definition's (`wrong_field_in`), and their faults (`fn_faults`).
+//!   with another type than the definition's (`wrong_field_in`), and their faults (`fn_faults`). It takes the items one by one and lets each go
+//!   once it is read, so that the tree and the program don't stand whole in memory at one time.
 //! - `scopes_name_nothing`: the law that `debug` lines and scopes change nothing of what a file names, so that each derivation that a tree
 //!   is one of names the same.
 //!

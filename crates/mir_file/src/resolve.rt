@@ -15,7 +15,7 @@ use crate::front::{Front, read_front};
 use crate::functions::read_functions;
 use mir_names::Names;
 use mir_resolve::NameFault;
-use mir_syntax::{Lines, OutOfMemory, Program};
+use mir_syntax::{Lines, List, OutOfMemory, Program};
 use mir_tree::{FileText, ItemText, Lined};
 use std::alloc::Global;
 
@@ -45,16 +45,16 @@ impl From<OutOfMemory> for Unresolved {
 fn resolve_items(
     alloc: Global,
     strings: &Names,
-    items: &[Lined<ItemText>],
+    items: List<Lined<ItemText>>,
 ) -> Result<Resolved, Unresolved>
-    ensures named { IfOk result (λ read. crate_of read.program ≡ crate_named strings.now (rules_of items.now)) }
-    ensures lined { IfOk result (λ read. read.lines ≡ lines_named (names_of strings.now (rules_of items.now)) (map lined_item items.now)) }
-    ensures faultless { IfOk result (λ read. name_faults (names_of strings.now (rules_of items.now)) (map lined_item items.now) ≡ []) }
+    ensures named { IfOk result (λ read. crate_of read.program ≡ crate_named strings.now (rules_of items)) }
+    ensures lined { IfOk result (λ read. read.lines ≡ lines_named (names_of strings.now (rules_of items)) (map lined_item items)) }
+    ensures faultless { IfOk result (λ read. name_faults (names_of strings.now (rules_of items)) (map lined_item items) ≡ []) }
     ensures refused { (fault : NameFault) → result ≡ Err (Unresolved.Names fault)
-        → first_fault (name_faults (names_of strings.now (rules_of items.now)) (map lined_item items.now)) ≡ Some (fault.line, fault.code) }
+        → first_fault (name_faults (names_of strings.now (rules_of items)) (map lined_item items)) ≡ Some (fault.line, fault.code) }
     ensures in_table { IfOk result (λ read. IdsInTable read.program) }
 {
-    let front = read_front(alloc, strings, items)?;
+    let front = read_front(alloc, strings, items.as_slice())?;
     let Front {
         paths,
         mut draft,
@@ -77,16 +77,16 @@ fn resolve_items(
 }
 
 /// What the tree of a file names: the program and the lines of its parts, or the first fault of its names. Each derivation that the tree is one
-/// of names the same.
-pub fn resolve_file(alloc: Global, strings: &Names, file: &FileText) -> Result<Resolved, Unresolved>
-    ensures named { IfOk result (λ read. (items : List LinedItem) → IsTreeOf file.now items → crate_of read.program ≡ crate_named strings.now (file_of items)) }
-    ensures lined { IfOk result (λ read. (items : List LinedItem) → IsTreeOf file.now items → read.lines ≡ lines_named (names_of strings.now (file_of items)) items) }
-    ensures faultless { IfOk result (λ read. (items : List LinedItem) → IsTreeOf file.now items → name_faults (names_of strings.now (file_of items)) items ≡ []) }
-    ensures refused { (fault : NameFault) → result ≡ Err (Unresolved.Names fault) → (items : List LinedItem) → IsTreeOf file.now items
+/// of names the same. The tree is used up: each item is let go once its function is read.
+pub fn resolve_file(alloc: Global, strings: &Names, file: FileText) -> Result<Resolved, Unresolved>
+    ensures named { IfOk result (λ read. (items : List LinedItem) → IsTreeOf file items → crate_of read.program ≡ crate_named strings.now (file_of items)) }
+    ensures lined { IfOk result (λ read. (items : List LinedItem) → IsTreeOf file items → read.lines ≡ lines_named (names_of strings.now (file_of items)) items) }
+    ensures faultless { IfOk result (λ read. (items : List LinedItem) → IsTreeOf file items → name_faults (names_of strings.now (file_of items)) items ≡ []) }
+    ensures refused { (fault : NameFault) → result ≡ Err (Unresolved.Names fault) → (items : List LinedItem) → IsTreeOf file items
         → first_fault (name_faults (names_of strings.now (file_of items)) items) ≡ Some (fault.line, fault.code) }
     ensures in_table { IfOk result (λ read. IdsInTable read.program) }
 {
-    match resolve_items(alloc, strings, file.items.as_slice()) {
+    match resolve_items(alloc, strings, file.items) {
         Ok(read) => Ok(read),
         Err(refused) => Err(refused),
     }

@@ -38,6 +38,6 @@ pub fn read_program(alloc: Global, bytes: &[u8]) -> Result<Read, ReadRefused>
     // The symbols take more memory than all else, and are read no more.
     found.symbols = List::new(alloc);
     found.lines = List::new(alloc);
-    let Resolved { program, lines } = resolve_file(alloc, &found.strings, &file)?;
+    let Resolved { program, lines } = resolve_file(alloc, &found.strings, file)?;
     Ok(Read { program, lines })
 }

@@ -1,4 +1,5 @@
 use Rattle.std.proofs.Common.{◌≡◌, ◌∷◌, ◌∙◌, ◌++◌, map, ap, refl, sym}
+use Rattle.std.specs.Vec.Iter.{into_iter_items}
 use Rattle.mir_syntax.specs.Tree.{trees_of}
 use Rattle.mir_syntax.specs.Crate.{function_of}
 use Rattle.mir_text.specs.NamedBodies.{or_else}
@@ -8,18 +9,18 @@ use Rattle.mir_text.specs.ReadLines.{first_of, fn_lines_in, wrong_in_item}
 use Rattle.mir_tree.specs.Rules.{lined_item}
 use Rattle.mir_resolve.specs.Faults.{noted}
 use Rattle.mir_resolve.proofs.Growing.{grown_then}
-use Rattle.mir_resolve.proofs.Making.{later_of, first_left}
 use Rattle.mir_file.specs.Items.{rule_of, rules_of, fn_text_faults}
 use Rattle.mir_file.proofs.Steps.{append_step, append_ended, faults_step, faults_ended}
+use Rattle.mir_file.proofs.Taking.{next_taken, all_taken}
 use Rattle.mir_file.proofs.Bodies.{first_step, first_ended, knows_on}
 use Rattle.mir_file.proofs.functions.read_functions.Goals as goal
 
 pub items-preserved : goal.items-preserved
 items-preserved g c =
-    let left = c.items.left.now in
-    let item = c.item-item.result in
-    let later = later_of left in
-    let first : left ≡ item ∷ later = first_left left item c.in-len1-up.len_at_least c.item-item.is in
+    let item = c.in-Some.item in
+    let left = into_iter_items c.items.item-iterator in
+    let later = into_iter_items c.next.new.self in
+    let first : left ≡ item ∷ later = next_taken c.items.item-iterator c.next.new.self c.next.result item c.in-Some.is c.next.ensures.steps in
     let old = c.items.found in
     let before = c.items.invariant in
     let made = map (function_of (trees_of c.items.draft.program.types)) old.functions in
@@ -41,16 +42,16 @@ items-preserved g c =
     }
 
 pub returns-clause-functions : goal.returns-clause-functions
-returns-clause-functions g c = append_ended (λ l. functions_in g.names (rules_of l)) c.items.left.now _ _ c.in_default.len_below refl c.items.invariant.told
+returns-clause-functions g c = append_ended (λ l. functions_in g.names (rules_of l)) (into_iter_items c.items.item-iterator) _ _ (all_taken c.items.item-iterator c.next.new.self c.next.result c.in-None.is c.next.ensures.steps) refl c.items.invariant.told
 
 pub returns-clause-lines : goal.returns-clause-lines
-returns-clause-lines g c = append_ended (λ l. each fn_lines_in (map lined_item l)) c.items.left.now _ _ c.in_default.len_below refl c.items.invariant.lines
+returns-clause-lines g c = append_ended (λ l. each fn_lines_in (map lined_item l)) (into_iter_items c.items.item-iterator) _ _ (all_taken c.items.item-iterator c.next.new.self c.next.result c.in-None.is c.next.ensures.steps) refl c.items.invariant.lines
 
 pub returns-clause-wrong : goal.returns-clause-wrong
-returns-clause-wrong g c = first_ended (λ l. each (wrong_in_item g.names) (map lined_item l)) c.items.left.now _ _ c.in_default.len_below refl c.items.invariant.wrong
+returns-clause-wrong g c = first_ended (λ l. each (wrong_in_item g.names) (map lined_item l)) (into_iter_items c.items.item-iterator) _ _ (all_taken c.items.item-iterator c.next.new.self c.next.result c.in-None.is c.next.ensures.steps) refl c.items.invariant.wrong
 
 pub returns-clause-went : goal.returns-clause-went
 returns-clause-went g c = record {
   grown = c.items.invariant.grown;
-  notes = faults_ended (each (fn_text_faults g.names)) c.items.left.now c.items.draft.notes _ c.in_default.len_below refl c.items.invariant.notes;
+  notes = faults_ended (each (fn_text_faults g.names)) (into_iter_items c.items.item-iterator) c.items.draft.notes _ (all_taken c.items.item-iterator c.next.new.self c.next.result c.in-None.is c.next.ensures.steps) refl c.items.invariant.notes;
 }

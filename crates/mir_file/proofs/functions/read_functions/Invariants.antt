@@ -1,5 +1,6 @@
 use Rattle.std.proofs.Common.{◌≡◌, ◌++◌, map, IsTrue, length}
 use Rattle.std.specs.List.{list_all}
+use Rattle.std.specs.Vec.Iter.{into_iter_items}
 use Rattle.mir_syntax.specs.Tree.{trees_of}
 use Rattle.mir_syntax.specs.Crate.{function_of}
 use Rattle.mir_syntax.specs.Ids.{function_below}
@@ -19,14 +20,11 @@ ghost-read_item g a = g.names
 
 abbrev pub invariant-items : goal.invariant-items
 invariant-items g l = record {
-  told : map (function_of (trees_of l.draft.program.types)) l.found.functions ++ functions_in g.names (rules_of l.left) ≡ functions_in g.names (rules_of l.items);
+  told : map (function_of (trees_of l.draft.program.types)) l.found.functions ++ functions_in g.names (rules_of (into_iter_items l.item-iterator)) ≡ functions_in g.names (rules_of l.fn.items);
   inside : IsTrue (list_all (function_below (length l.draft.program.types)) l.found.functions);
-  lines : l.found.lines ++ each fn_lines_in (map lined_item l.left) ≡ each fn_lines_in (map lined_item l.items);
-  wrong : or_else l.found.wrong_field (first_of (each (wrong_in_item g.names) (map lined_item l.left))) ≡ first_of (each (wrong_in_item g.names) (map lined_item l.items));
-  notes : noted l.draft.notes (each (fn_text_faults g.names) l.left) ≡ noted l.fn.draft.notes (each (fn_text_faults g.names) l.items);
+  lines : l.found.lines ++ each fn_lines_in (map lined_item (into_iter_items l.item-iterator)) ≡ each fn_lines_in (map lined_item l.fn.items);
+  wrong : or_else l.found.wrong_field (first_of (each (wrong_in_item g.names) (map lined_item (into_iter_items l.item-iterator)))) ≡ first_of (each (wrong_in_item g.names) (map lined_item l.fn.items));
+  notes : noted l.draft.notes (each (fn_text_faults g.names) (into_iter_items l.item-iterator)) ≡ noted l.fn.draft.notes (each (fn_text_faults g.names) l.fn.items);
   grown : Grown l.fn.draft.program l.draft.program;
   knows : Knows l.strings l.paths l.draft.program g.names;
 }
-
-abbrev pub decreases-items : goal.decreases-items
-decreases-items g l = length l.left

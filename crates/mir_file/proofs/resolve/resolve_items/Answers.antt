@@ -20,7 +20,7 @@ use Rattle.mir_file.proofs.resolve.resolve_items.Goals as goal
 
 pub read_functions-requires : goal.read_functions-requires
 read_functions-requires c =
-    let front = c.in_ok-front.ensures in
+    let front = rw c.as_slice.ensures at c.in_ok-front.ensures in
     record {
       strings = refl;
       paths = sym front.def_paths;
@@ -34,13 +34,13 @@ read_functions-requires c =
 pub returns-clause-named : goal.returns-clause-named
 returns-clause-named c =
     let strings = c.args.strings.now in
-    let rules = rules_of c.args.items.now in
+    let rules = rules_of c.args.items in
     let names = names_of strings rules in
     let front = c.in_ok-front.front.draft.program in
     let made = c.read_functions.new.draft.program in
     let found = c.in_ok-found.ensures in
     let grown = found.went.grown in
-    let is = c.in_ok-front.ensures in
+    let is = rw c.as_slice.ensures at c.in_ok-front.ensures in
     let k = knows_on strings c.in_ok-front.front.paths front made names (knows_front strings c.in_ok-front.front.paths front rules is.def_paths is.function_paths is.outside_paths is.defs is.in_table) grown in
     let outsides : map (outside_of (trees_of made.types)) made.outsides ≡ outsides_in names rules =
     ap (map (outside_of (trees_of made.types))) grown.outsides
@@ -53,15 +53,15 @@ returns-clause-named c =
 pub returns-clause-lined : goal.returns-clause-lined
 returns-clause-lined c =
     let make : List ℕ → List ℕ → List FnLines → Option ℕ → Lines = λ d o f w. record { defs = d; outsides = o; functions = f; wrong_field = w } in
-    let front = c.in_ok-front.ensures in
+    let front = rw c.as_slice.ensures at c.in_ok-front.ensures in
     let found = c.in_ok-found.ensures in
     ap₂ (λ d o. make d o c.in_ok-found.found.lines c.in_ok-found.found.wrong_field) front.def_lines front.outside_lines
-    ∙ ap₂ (make (each def_line_in (map lined_item c.args.items.now)) (each outside_line_in (map lined_item c.args.items.now))) found.lines found.wrong
+    ∙ ap₂ (make (each def_line_in (map lined_item c.args.items)) (each outside_line_in (map lined_item c.args.items))) found.lines found.wrong
 
 pub returns-clause-in_table : goal.returns-clause-in_table
 returns-clause-in_table c =
-    let rules = rules_of c.args.items.now in
-    let is = c.in_ok-front.ensures in
+    let rules = rules_of c.args.items in
+    let is = rw c.as_slice.ensures at c.in_ok-front.ensures in
     let front = knows_front c.args.strings.now c.in_ok-front.front.paths c.in_ok-front.front.draft.program rules is.def_paths is.function_paths is.outside_paths is.defs is.in_table in
     let k = knows_on c.args.strings.now c.in_ok-front.front.paths c.in_ok-front.front.draft.program c.read_functions.new.draft.program (names_of c.args.strings.now rules)
     front c.in_ok-found.ensures.went.grown in
@@ -73,15 +73,17 @@ none-kept (Some f) kept is none = absurd (none f refl)
 
 pub returns-clause-faultless : goal.returns-clause-faultless
 returns-clause-faultless c =
-    let items = c.args.items.now in
+    let items = c.args.items in
     let names = names_of c.args.strings.now (rules_of items) in
-    let total = c.in_ok-found.ensures.went.notes ∙ ap (λ k. noted k (each (fn_text_faults names) items)) c.in_ok-front.ensures.notes ∙ first_noted names items in
+    let front = rw c.as_slice.ensures at c.in_ok-front.ensures in
+    let total = c.in_ok-found.ensures.went.notes ∙ ap (λ k. noted k (each (fn_text_faults names) items)) front.notes ∙ first_noted names items in
     none_first (name_faults names (map lined_item items)) (sym total ∙ none-kept c.first.result _ c.first.ensures c.in_default.not-Some)
 
 pub returns-in-Some-clause-refused : goal.returns-in-Some-clause-refused
 returns-in-Some-clause-refused c = λ fault h.
-    let items = c.args.items.now in
+    let items = c.args.items in
     let names = names_of c.args.strings.now (rules_of items) in
-    let total = c.in_ok-found.ensures.went.notes ∙ ap (λ k. noted k (each (fn_text_faults names) items)) c.in_ok-front.ensures.notes ∙ first_noted names items in
+    let front = rw c.as_slice.ensures at c.in_ok-front.ensures in
+    let total = c.in_ok-found.ensures.went.notes ∙ ap (λ k. noted k (each (fn_text_faults names) items)) front.notes ∙ first_noted names items in
     let same : c.in-Some.fault ≡ fault = cc in
     sym total ∙ sym c.in-Some.ensures ∙ ap (λ f. Some (f.line, f.code)) same
