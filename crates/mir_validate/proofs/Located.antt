@@ -1,6 +1,6 @@
 -- What a walk over a body with its lines finds is all that the body breaks, each on its line.
 use Rattle.std.proofs.Common.{◌≡◌, ℕ, suc, ◌+◌, true, List, [], ◌∷◌, ◌++◌, map, length, slice_get, Some, refl, sym, ap, ◌∙◌, arith, eqb-true}
-use Rattle.std.proofs.lemmas.List.{length-map}
+use Rattle.std.proofs.lemmas.List.{length-map, map-append}
 use Rattle.mir_syntax.specs.declared.lines.BlockLines.{BlockLines}
 use Rattle.mir_syntax.specs.declared.lines.FnLines.{FnLines}
 use Rattle.mir_syntax.specs.declared.lines.Lines.{Lines}
@@ -13,7 +13,6 @@ use Rattle.mir_syntax.specs.Shapes.{Shape, ◌>>=◌}
 use Rattle.mir_rules.specs.Broken.{Spot, statement, terminator, gather, at_spot, statement_broken, terminator_broken, statement_found, block_found, body_found}
 use Rattle.mir_rules.specs.Faults.{block_lines, line_at, same_lengths, block_fits, by_line}
 use Rattle.mir_rules.proofs.Lists.{and_true-left, and_true-right}
-use Rattle.mir_limits.proofs.Gathered.{map_append}
 use Rattle.mir_validate.specs.Walk.{at_line, statements_broken, block_broken, blocks_broken}
 
 -- codes at a spot, by the line of the spot
@@ -52,7 +51,7 @@ module _ (C : Crate) (D : List Shape) (trees : List Tree) (b : Body) (all : Line
         let first : slice_get k.stmts i ≡ Some line = ap (slice_get k.stmts) (sym zeroth) ∙ at 0 in
         let head = at_spots all (statement f j i) line codes (statement_line i line first) in
         let tail = stmts_lines (suc i) lines stmts (λ m. ap (slice_get k.stmts) (shift m i) ∙ at (suc m)) (omega arith) in
-        map_append (by_line all) (map (at_spot (statement f j i)) codes) (gather (statement_found D typed f j) (suc i) (map (stmt_of trees) stmts))
+        map-append (by_line all) (map (at_spot (statement f j i)) codes) (gather (statement_found D typed f j) (suc i) (map (stmt_of trees) stmts))
         ∙ (ap (λ l. l ++ map (by_line all) (gather (statement_found D typed f j) (suc i) (map (stmt_of trees) stmts))) head ∙ ap (λ l. map (at_line line) codes ++ l) tail)
 
     block_located : (block : Block) → length k.stmts ≡ length block.stmts → map (by_line all) (block_found C D typed f j (block_of trees block)) ≡ block_broken C D b.args typed.locals trees k block
@@ -61,7 +60,7 @@ module _ (C : Crate) (D : List Shape) (trees : List Tree) (b : Body) (all : Line
         let codes = terminator_broken C D typed.locals block.term in
         let head = stmts_lines 0 k.stmts block.stmts (λ m. ap (slice_get k.stmts) (let n : m + 0 ≡ m = omega arith in n)) same in
         let tail = at_spots all (terminator f j) k.term codes terminator_line in
-        map_append (by_line all) stmts (map (at_spot (terminator f j)) codes)
+        map-append (by_line all) stmts (map (at_spot (terminator f j)) codes)
         ∙ (ap (λ l. l ++ map (by_line all) (map (at_spot (terminator f j)) codes)) head ∙ ap (λ l. statements_broken D b.args typed.locals trees k.stmts block.stmts ++ l) tail)
 
   stmts_same : (k : BlockLines) (block : Block) → block_fits k (block_of trees block) ≡ true → length k.stmts ≡ length block.stmts
@@ -79,7 +78,7 @@ module _ (C : Crate) (D : List Shape) (trees : List Tree) (b : Body) (all : Line
       let here = and_true-left (block_fits k (block_of trees block)) (same_lengths block_fits lines others) fits in
       let head = block_located j k first block (stmts_same k block here) in
       let tail = blocks_lines (suc j) lines blocks (λ m. ap (slice_get fl.blocks) (shift m j) ∙ at (suc m)) (and_true-right (block_fits k (block_of trees block)) (same_lengths block_fits lines others) fits) in
-      map_append (by_line all) (block_found C D typed f j (block_of trees block)) (gather (block_found C D typed f) (suc j) others)
+      map-append (by_line all) (block_found C D typed f j (block_of trees block)) (gather (block_found C D typed f) (suc j) others)
       ∙ (ap (λ l. l ++ map (by_line all) (gather (block_found C D typed f) (suc j) others)) head ∙ ap (λ l. block_broken C D b.args typed.locals trees k block ++ l) tail)
 
   pub body_located : same_lengths block_fits fl.blocks typed.blocks ≡ true → map (by_line all) (body_found C D f typed) ≡ blocks_broken C D b.args typed.locals trees fl.blocks b.blocks
