@@ -32,7 +32,7 @@ use Rattle.mir_items.proofs.FnsRead.{fn-complete, fn-sound}
 abbrev part_here : List ℕ → ItemRule → List Symbol → ItemText
 part_here lines x ts = part_tree x (lines_at lines ts)
 
-abbrev item_here : List ℕ → ItemRule → List Symbol → Lined ItemText
+abbrev pub item_here : List ℕ → ItemRule → List Symbol → Lined ItemText
 item_here lines x ts = item_tree x (lines_at lines ts)
 
 -- what begins as a function is read as one
@@ -55,7 +55,7 @@ part-complete lines (m.enum p vs) rest good fits = rw (enum_item-complete (p, vs
 part-complete lines (m.extern p us u) rest good fits = rw (extern_item-complete (p, us, u) rest good) refl
 part-complete lines (m.function f) rest good fits = function-complete lines f rest _ (fn-complete lines f rest good fits)
 
-item-complete : (lines : List ℕ) (x : ItemRule) (rest : List Symbol) → ItemGood x → length (item_put x rest) ≤ length lines → item lines (item_put x rest) ≡ Ok (item_here lines x (item_put x rest), rest)
+pub item-complete : (lines : List ℕ) (x : ItemRule) (rest : List Symbol) → ItemGood x → length (item_put x rest) ≤ length lines → item lines (item_put x rest) ≡ Ok (item_here lines x (item_put x rest), rest)
 unfolding item
 item-complete lines x rest good fits =
     let ts = item_put x rest in
@@ -92,7 +92,7 @@ part-sound lines (s.Extern ∷ ts) x rest fits h =
     subst P (ok_same _ _ same_h) (record { rule = m.extern q.rule.0 q.rule.1 q.rule.2; reads = q.reads; yields = ap (λ l. s.Extern ∷ l) q.yields; good = q.good }))
 part-sound lines (y ∷ ts) x rest fits h = function-sound lines (y ∷ ts) x rest fits h
 
-item-sound : (lines : List ℕ) (ts : List Symbol) (x : Lined ItemText) (rest : List Symbol) → length ts ≤ length lines → item lines ts ≡ Ok (x, rest) → IsReadAt item_put (item_here lines) ItemGood ts x rest
+pub item-sound : (lines : List ℕ) (ts : List Symbol) (x : Lined ItemText) (rest : List Symbol) → length ts ≤ length lines → item lines ts ≡ Ok (x, rest) → IsReadAt item_put (item_here lines) ItemGood ts x rest
 unfolding item
 item-sound lines ts x rest fits h =
     in_steps _ _ (x, rest) (part_ok ts _ (x, rest) h) (λ y past found same_h.
@@ -146,7 +146,7 @@ items-at lines (x ∷ xs) fits =
 -- ---- the promises
 
 -- the items that a file's symbols are read as
-whole-complete : (lines : List ℕ) (ts : List Symbol) (xs : FileRule) → length lines ≡ length ts → FileGood xs → ts ≡ file_put xs [] → file lines ts ≡ Ok (file_tree xs lines, [])
+pub whole-complete : (lines : List ℕ) (ts : List Symbol) (xs : FileRule) → length lines ≡ length ts → FileGood xs → ts ≡ file_put xs [] → file lines ts ≡ Ok (file_tree xs lines, [])
 whole-complete lines ts xs same good stands =
     let fits : length ts ≤ length lines = omega arith in
     let put_fits : length (file_put xs []) ≤ length lines = subst (λ (l : List Symbol). length l ≤ length lines) stands fits in

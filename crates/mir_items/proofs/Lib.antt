@@ -12,3 +12,6 @@ pub mod HeadsSound
 pub mod TreesOf
 pub mod FnsRead
 pub mod FilesRead
+pub mod PutsAppend
+pub mod LinesAppend
+pub mod FilesGrow

@@ -153,7 +153,7 @@ abbrev pub file_tree : FileRule → LinesFrom → List (Lined ItemText)
 file_tree [] lines = []
 file_tree (x ∷ xs) lines = item_tree x lines ∷ file_tree xs (past item_put x lines)
 
-item-lined : (x : ItemRule) (lines : LinesFrom) → lined_item (item_tree x lines) ≡ plain_item (item_lined x lines)
+pub item-lined : (x : ItemRule) (lines : LinesFrom) → lined_item (item_tree x lines) ≡ plain_item (item_lined x lines)
 item-lined (m.struct p fs) lines = ap (other (first_line lines)) (ap₂ m.struct (path-back p) (fields_rule-back fs))
 item-lined (m.enum p vs) lines = ap (other (first_line lines)) (ap₂ m.enum (path-back p) (variants_rule-back vs))
 item-lined (m.extern p us u) lines =

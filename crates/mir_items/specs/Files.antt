@@ -1,15 +1,15 @@
 -- Parsing items and files, and what the tree of a file promises.
-use Rattle.std.specs.Prelude.{◌≡◌, ℕ, Bool, true, false, List, [], ◌∷◌, Result, Ok, Err, IsSome}
+use Rattle.std.specs.Prelude.{◌≡◌, ℕ, Bool, true, false, List, [], ◌∷◌, Option, Some, None, Result, Ok, Err, IsSome}
 use Rattle.mir_text.specs.declared.symbol.Symbol.{Symbol}
 use Rattle.mir_text.specs.declared.symbol.Symbol.TheVariants as s
-use Rattle.mir_text.specs.GrammarItems.{FileRule, file_put}
-use Rattle.mir_text.specs.Nesting.{FileGood}
-use Rattle.mir_text.specs.PartLines.{file_lined}
+use Rattle.mir_text.specs.GrammarItems.{ItemRule, item_put, FileRule, file_put}
+use Rattle.mir_text.specs.Nesting.{ItemGood, FileGood}
+use Rattle.mir_text.specs.PartLines.{item_lined, file_lined}
 use Rattle.mir_tree.specs.declared.Lined.{Lined}
 use Rattle.mir_tree.specs.declared.item.ItemText.{ItemText}
 use Rattle.mir_tree.specs.declared.item.ItemText.TheVariants as i
 use Rattle.mir_tree.specs.declared.item.FileText.{FileText}
-use Rattle.mir_tree.specs.Rules.{IsTreeOf}
+use Rattle.mir_tree.specs.Rules.{lined_item, plain_item, IsTreeOf}
 use Rattle.mir_parse.specs.declared.fault.ParseRefused.{ParseRefused}
 use Rattle.mir_parse.specs.declared.fault.ParseRefused.TheVariants as refused
 use Rattle.mir_parse.specs.Parser.{Parse, and_then}
@@ -52,6 +52,18 @@ pub record IsFile (symbols : List Symbol) (lines : List ℕ) (tree : FileText) :
 -- the tree is that of each good file whose symbols these are
 abbrev pub IsOnlyFile : List Symbol → List ℕ → FileText → Type 0
 IsOnlyFile symbols lines tree = (rule : FileRule) → FileGood rule → symbols ≡ file_put rule [] → IsTreeOf tree (file_lined rule lines)
+
+-- The symbols, which have these lines, are those of a good item. The tree is that of the item, with the lines of its parts.
+pub record IsItem (symbols : List Symbol) (lines : List ℕ) (tree : Lined ItemText) : Type 0 where
+  pub rule : ItemRule
+  pub derives : symbols ≡ item_put rule []
+  pub good : ItemGood rule
+  pub tree_of : lined_item tree ≡ plain_item (item_lined rule lines)
+
+-- none is answered only where the symbols are those of no good item
+abbrev pub IsItemOrNone : List Symbol → List ℕ → Option (Lined ItemText) → Type 0
+IsItemOrNone symbols lines (Some tree) = IsItem symbols lines tree
+IsItemOrNone symbols lines None = (rule : ItemRule) → ItemGood rule → symbols ≡ item_put rule [] → ⊥
 
 -- a fault is answered only where the symbols are those of no good file
 abbrev pub NoFile : List Symbol → Result FileText ParseRefused → Type 0

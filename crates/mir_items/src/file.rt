@@ -1,13 +1,13 @@
 ghost use Rattle.std.specs.Prelude.{◌≡◌, ◌<◌, ◌≤◌, [], length, IfOk};
 ghost use Rattle.mir_parse.specs.Parser.{Gives};
 ghost use Rattle.mir_items.specs.Files as spec;
-ghost use Rattle.mir_items.specs.Files.{InItem, IsFile, IsOnlyFile, NoFile};
+ghost use Rattle.mir_items.specs.Files.{InItem, IsFile, IsItemOrNone, IsOnlyFile, NoFile};
 
 use crate::function::read_fn;
 use crate::item::{read_enum, read_extern, read_struct};
 use crate::line::{fault_within, line_at};
 use mir_parse::ParseRefused;
-use mir_syntax::List;
+use mir_syntax::{List, OutOfMemory};
 use mir_text::Symbol;
 use mir_tree::{FileText, ItemText, Lined};
 use std::alloc::Global;
@@ -77,6 +77,27 @@ fn read_file(alloc: Global, lines: &[u32], symbols: &[Symbol]) -> Result<FileTex
         rest = past;
     }
     Ok(FileText { items })
+}
+
+/// Parses an item whose symbols these are all; `None` where they are those of no good item. `lines` are their lines, in step with them.
+///
+/// # Errors
+///
+/// `OutOfMemory`.
+pub fn parse_item(
+    alloc: Global,
+    symbols: &[Symbol],
+    lines: &[u32],
+) -> Result<Option<Lined<ItemText>>, OutOfMemory>
+    requires { length lines.now ≡ length symbols.now }
+    ensures { IfOk result (λ item. IsItemOrNone symbols.now lines.now item) }
+{
+    match read_item(alloc, lines, symbols) {
+        Ok((item, [])) => Ok(Some(item)),
+        Ok((_item, _)) => Ok(None),
+        Err(ParseRefused::Fault(_)) => Ok(None),
+        Err(ParseRefused::OutOfMemory) => Err(OutOfMemory),
+    }
 }
 
 /// Parses a whole file. `lines` are the lines of the symbols, in step with them.

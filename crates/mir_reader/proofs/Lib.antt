@@ -1,3 +1,5 @@
 pub mod Whole
 pub mod Refusing
 pub mod Causes
+pub mod ItemByItem
+pub mod OfTree

@@ -5,10 +5,9 @@ ghost use Rattle.mir_text.specs.Reads.{Reads, ReadsWith};
 ghost use Rattle.mir_reader.specs.Refusals.{IsRefusedWith};
 ghost use Rattle.mir_reader.specs.declared.refused.ReadRefused.TheVariants as refused;
 
-use crate::{ReadRefused, parse};
+use crate::{ReadRefused, read_tree};
 use mir_file::{Resolved, resolve_file};
-use mir_symbols::read_symbols;
-use mir_syntax::{Lines, List, Program};
+use mir_syntax::{Lines, Program};
 use std::alloc::Global;
 
 /// The program that a text names, and the lines of its parts.
@@ -33,11 +32,8 @@ pub fn read_program(alloc: Global, bytes: &[u8]) -> Result<Read, ReadRefused>
     ensures first { (code line : ℕ) → result ≡ Err (refused.Fault code line) → IsRefusedWith bytes.now code line }
     ensures in_table { IfOk result (λ read. IdsInTable read.program) }
 {
-    let mut found = read_symbols(alloc, bytes)?;
-    let file = parse(alloc, &found)?;
-    // The symbols take more memory than all else, and are read no more.
-    found.symbols = List::new(alloc);
-    found.lines = List::new(alloc);
+    let found = read_tree(alloc, bytes)?;
+    let file = found.file;
     let Resolved { program, lines } = resolve_file(alloc, &found.strings, file)?;
     Ok(Read { program, lines })
 }

@@ -12,13 +12,13 @@ use Rattle.mir_text.specs.Grammar.{Items, items_put, each_put}
 use Rattle.mir_text.specs.GrammarTypes as t
 use Rattle.mir_text.specs.GrammarTypes.{PathRule, path_put, TypeRule, type_put}
 use Rattle.mir_text.specs.GrammarPlaces as p
-use Rattle.mir_text.specs.GrammarPlaces.{PlaceRule, place_put, ValueRule, value_put, OperandRule, operand_put}
+use Rattle.mir_text.specs.GrammarPlaces.{ValueRule, value_put, OperandRule, operand_put}
 use Rattle.mir_text.specs.GrammarStatements as r
-use Rattle.mir_text.specs.GrammarStatements.{RvalueRule, rvalue_put, StmtRule, stmt_put}
+use Rattle.mir_text.specs.GrammarStatements.{RvalueRule, rvalue_put, StmtRule}
 use Rattle.mir_text.specs.GrammarTerms as k
 use Rattle.mir_text.specs.GrammarTerms.{TermRule, term_put, BlockRule, block_put, ended_put}
 use Rattle.mir_text.specs.GrammarItems as n
-use Rattle.mir_text.specs.GrammarItems.{ArgRule, arg_put, AttrRule, attr_put, drop_put, DeclsRule, decls_put, result_put, FnRule, item_put, FileRule, file_put}
+use Rattle.mir_text.specs.GrammarItems.{ArgRule, arg_put, AttrRule, DeclsRule, decls_put, result_put, FnRule, FileRule, file_put}
 use Rattle.mir_text.specs.Nesting.{type_depth, FileGood}
 use Rattle.mir_text.specs.ReadFaults.{Viable, InDebug, GoesOn, TooDeep, Breaks, Reading, Innermost, MayBegin, IsReadFault}
 use Rattle.mir_text.specs.Spans.{is_open, begins_part, numbers_from, spans_of}

@@ -8,7 +8,7 @@ use Rattle.mir_syntax.specs.declared.types.Form.TheVariants as form
 use Rattle.mir_syntax.specs.Tree.{Tree}
 use Rattle.mir_syntax.specs.Crate.{TypedField, TypedVariant, TypedDef, Crate}
 use Rattle.mir_syntax.specs.Shapes.{◌>>=◌}
-use Rattle.mir_text.specs.Numbers.{count, limit, fits, least}
+use Rattle.mir_text.specs.Numbers.{count, limit, least}
 use Rattle.mir_text.specs.Words.{place_in}
 use Rattle.mir_text.specs.Grammar.{Items, end, last, more, items_of, AllItems, AllOf}
 use Rattle.mir_text.specs.GrammarTypes as t

@@ -185,7 +185,7 @@ after-fault found (p ∷ ps) = after-fault (with_piece found p) ps ∙ put-fault
 
 -- ---- turns
 
-scan-turn : (n : ℕ) (found : Symbols) (bs : List ℕ) → 0 < length bs → scan_from (suc n) found bs ≡ goes_on (scan_from n) found bs (found_from bs)
+pub scan-turn : (n : ℕ) (found : Symbols) (bs : List ℕ) → 0 < length bs → scan_from (suc n) found bs ≡ goes_on (scan_from n) found bs (found_from bs)
 unfolding scan_from
 scan-turn n found [] h = absurd (omega arith)
 scan-turn n found (b ∷ bs) h = refl

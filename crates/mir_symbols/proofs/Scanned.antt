@@ -39,7 +39,7 @@ cut-scanned bs ps left whole stand =
     let turns : suc (length bs) ≡ suc (length bs - length ps) + length ps = omega arith in
     ap (scan_from (suc (length bs)) no_symbols) whole ∙ pieces-scanned ps (suc (length bs)) (suc (length bs - length ps)) no_symbols left stand turns
 
-scan_cut : (bs : List ℕ) → IsSymbolsOf bs (scan bs)
+pub scan_cut : (bs : List ℕ) → IsSymbolsOf bs (scan bs)
 scan_cut bs =
     let c = cut bs in
     let found = after no_symbols c.pieces in
@@ -66,7 +66,7 @@ ends_as n found (b ∷ bs) (Some fault) none e = rw (fault_found (b ∷ bs) faul
 same : (found other : Symbols) → found.symbols ≡ other.symbols → found.lines ≡ other.lines → found.strings ≡ other.strings → found.fault ≡ other.fault → found.end_line ≡ other.end_line → found ≡ other
 same found other a b c d e = λ i. record { symbols = a i; lines = b i; strings = c i; fault = d i; end_line = e i }
 
-scan_once : (bs : List ℕ) (other : Symbols) → IsSymbolsOf bs other → other ≡ scan bs
+pub scan_once : (bs : List ℕ) (other : Symbols) → IsSymbolsOf bs other → other ≡ scan bs
 scan_once bs other is =
     let found = after no_symbols is.pieces in
     let line = after-line no_symbols is.pieces in

@@ -1,5 +1,5 @@
--- The symbols of a text as they are found from piece to piece. No public promise rests on these: `Found.antt` speaks of pieces.
-use Rattle.std.specs.Prelude.{ℕ, zero, suc, ◌+◌, ◌-◌, ◌==◌, List, [], ◌∷◌, ◌++◌, length, take, drop, get_or, Result, Ok, Err, Some, None, if◌then◌else◌}
+-- The symbols of a text as they are found from piece to piece. No public promise of a whole text rests on these: `Found.antt` speaks of pieces.
+use Rattle.std.specs.Prelude.{◌≡◌, ◌≤◌, ℕ, zero, suc, ◌+◌, ◌-◌, ◌==◌, List, [], ◌∷◌, ◌++◌, length, take, drop, get_or, Result, Ok, Err, Some, None, if◌then◌else◌}
 use Rattle.mir_text.specs.declared.symbol.Symbol.{Symbol}
 use Rattle.mir_text.specs.declared.symbol.Symbol.TheVariants as s
 use Rattle.mir_text.specs.Bytes.{begins}
@@ -94,3 +94,20 @@ scan_from (suc n) found (b ∷ bs) = goes_on (scan_from n) found (b ∷ bs) (fou
 
 unfoldable pub scan : List ℕ → Symbols
 scan bs = scan_from (suc (length bs)) no_symbols bs
+
+-- ---- from item to item
+
+-- where a scan goes on from these symbols over these bytes, it ends with those symbols
+abbrev pub EndsWith : Symbols → List ℕ → Symbols → Type 0
+EndsWith found bs whole = (turns : ℕ) × (length bs ≤ turns) × (scan_from (suc turns) found bs ≡ whole)
+
+-- symbols with their lines that were given up stand before those found
+abbrev pub ahead : List Symbol → List ℕ → Symbols → Symbols
+ahead symbols lines found = record found { symbols = symbols ++ found.symbols; lines = lines ++ found.lines }
+
+abbrev pub cleared : Symbols → Symbols
+cleared found = record found { symbols = []; lines = [] }
+
+-- each symbol has a line
+abbrev pub InStep : Symbols → Type 0
+InStep found = length found.lines ≡ length found.symbols

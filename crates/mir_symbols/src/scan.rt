@@ -5,7 +5,7 @@ ghost use Rattle.mir_symbols.specs.declared.scan.Symbols.{Symbols as SymbolsData
 
 use crate::kind::plain_symbol;
 use crate::name::{first_names, number_of};
-use mir_lex::{Found, Kind, LexFault, first_piece};
+use mir_lex::{Found, Kind, LexFault};
 use mir_names::Names;
 use mir_syntax::{List, OutOfMemory};
 use mir_text::Symbol;
@@ -66,7 +66,7 @@ impl Symbols {
 
     /// Takes a piece with its bytes.
     #[inline(always)]
-    fn take(&mut self, found: Found, text: &[u8]) -> Result<(), OutOfMemory>
+    pub(crate) fn take(&mut self, found: Found, text: &[u8]) -> Result<(), OutOfMemory>
         requires strings { length self.old.strings < 2 ^ 32 - 1 }
         requires lines { self.old.end_line < 2 ^ 32 - 1 }
         ensures taken { OnOk result (self.new ≡ spec.taking self.old found text.now) }
@@ -85,7 +85,12 @@ impl Symbols {
     }
 }
 
-fn no_symbols(alloc: Global) -> Result<Symbols, OutOfMemory>
+/// No symbols yet, before the first byte of a text.
+///
+/// # Errors
+///
+/// `OutOfMemory`, where the names that the grammar looks for get no memory.
+pub fn no_symbols(alloc: Global) -> Result<Symbols, OutOfMemory>
     ensures { IfOk result (λ found. found ≡ spec.no_symbols) }
 {
     Ok(Symbols {
@@ -97,28 +102,12 @@ fn no_symbols(alloc: Global) -> Result<Symbols, OutOfMemory>
     })
 }
 
-#[tactic(auto, unfolding(crate::specs::Scan::scan, crate::specs::Scan::scan_from))]
 fn scan(alloc: Global, bytes: &[u8]) -> Result<Symbols, OutOfMemory>
     requires { length bytes.now ≤ 67_108_864 }
     ensures { IfOk result (λ found. found ≡ spec.scan bytes.now) }
 {
     let mut found = no_symbols(alloc)?;
-    let mut rest = bytes;
-    'turns: while !rest.is_empty() {
-        match first_piece(rest) {
-            Ok((piece, past)) => {
-                found.take(piece, &rest[..rest.len() - past.len()])?;
-                rest = past;
-            }
-            Err(code) => {
-                found.fault = Some(LexFault {
-                    code,
-                    line: found.end_line,
-                });
-                return Ok(found);
-            }
-        }
-    }
+    let _rest = found.scan_on(bytes, false)?;
     Ok(found)
 }
 

@@ -5,7 +5,7 @@ use Rattle.mir_syntax.specs.declared.types.IntTy.{IntTy}
 use Rattle.mir_syntax.specs.declared.types.IntTy.TheVariants as i
 use Rattle.mir_syntax.specs.declared.types.ScalarTy.TheVariants as scalar_ty
 use Rattle.mir_num.specs.Widths.{width_of}
-use Rattle.mir_text.specs.Numbers.{count, limit, fits, bits_of, least}
+use Rattle.mir_text.specs.Numbers.{count, limit, bits_of, least}
 use Rattle.mir_text.specs.GrammarPlaces as p
 use Rattle.mir_text.specs.GrammarPlaces.{ValueRule}
 use Rattle.mir_text.specs.NamedBodies.{value_named}
