@@ -13,11 +13,11 @@ use Rattle.mir_relate.proofs.Hops.{same_term_map}
 use Rattle.mir_relate.proofs.OneBody.{body_jumps_refine}
 
 module _ (target source : TypedBody) (line : ℕ → List ℕ) (joins : Joins target source line) where
-  abbrev Target : ℕ → ℕ → Type 0
+  abbrev pub Target : ℕ → ℕ → Type 0
   Target t2 t1 = Begins (line t2) t1
 
   -- the source stands in a block of a line, of which the blocks `rest` are to come; the target's block is that line
-  abbrev Place : ℕ → ℕ → ℕ → ℕ → ℕ → Type 0
+  abbrev pub Place : ℕ → ℕ → ℕ → ℕ → ℕ → Type 0
   Place n i2 a2 i1 a1 =
       (k2 : TypedBlock) × (rest : List ℕ) × (stmts : List TypedStmt) × (off : ℕ) × (slice_get target.blocks i2 ≡ Some k2) × IsLine Target source (i1 ∷ rest) stmts k2.term × ((a : ℕ) → slice_get k2.stmts (off + a) ≡ slice_get stmts a) × (a2 ≡ off + a1) × ((k : TypedBlock) → slice_get source.blocks i1 ≡ Some k → a1 ≤ length k.stmts) × (n ≡ length rest)
 

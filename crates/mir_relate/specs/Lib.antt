@@ -3,3 +3,8 @@ pub mod Jumps
 pub mod Hops
 pub mod OneBody
 pub mod Lines
+pub mod Alike
+pub mod Leaves
+pub mod Mild
+pub mod Frames
+pub mod Pass

@@ -1,5 +1,6 @@
 -- Frames that open and close.
-use Rattle.std.proofs.Common.{◌≡◌, ◌⊎◌, inl, inr, refl, sym, ap, ◌∙◌, ℕ, Bool, true, false, nat_eq, if◌then◌else◌, List, [], ◌∷◌, Some, None, slice_get}
+use Rattle.mir_semantics.specs.Step.{Dest, Control}
+use Rattle.std.proofs.Common.{◌≡◌, ◌⊎◌, inl, inr, refl, sym, ap, ◌∙◌, ℕ, Bool, true, false, nat_eq, if◌then◌else◌, List, [], ◌∷◌, Option, Some, None, slice_get}
 use Rattle.std.proofs.lemmas.Bool.{eqb-true}
 use Rattle.mir_syntax.specs.Shapes.{◌>>=◌}
 use Rattle.mir_semantics.specs.Values.{Value}
@@ -57,3 +58,7 @@ close_other m f f' x ne = ap (λ o. o >>= λ vs. slice_get vs x) (close_slots_ot
 pub close_same : (m : Memory) (f x : ℕ) → local_at (close_frame m f) f x ≡ None
 unfolding local_at ◌>>=◌
 close_same m f x = ap (λ o. o >>= λ vs. slice_get vs x) (close_slots_same m f)
+
+-- where a call stands at its start
+abbrev pub new_control : ℕ → ℕ → Option Dest → Control
+new_control g f d = record { function = g; frame = f; block = 0; at = 0; dropping = None; dest = d }

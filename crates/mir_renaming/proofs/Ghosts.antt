@@ -1,4 +1,5 @@
 -- Frames that open and close under a renaming that goes by the functions of frames; values that hold no reference.
+use Rattle.mir_semantics.specs.Step.{returned, Next, stop}
 use Rattle.std.proofs.Common.{◌≡◌, ◌⊎◌, inl, inr, refl, sym, ap, ap₂, ◌∙◌, subst, ℕ, Bool, true, false, nat_eq, ◌&&◌, if◌then◌else◌, List, [], ◌∷◌, Option, Some, None, slice_get, arith}
 use Rattle.mir_semantics.specs.Values.{Addr, Value, number, nil, cons, variant, pointer, hole}
 use Rattle.mir_semantics.specs.Memory.{Memory, local_at, open_frame, close_frame}
@@ -169,3 +170,8 @@ plain_self j hole e = tt
 pub plains_self : (j : Renaming) (vs : List Value) → AllPlain vs → ValuesRel j vs vs
 plains_self j [] h = tt
 plains_self j (v ∷ vs) h = (plain_self j v h.0, plains_self j vs h.1)
+
+-- a value that ends a run holds no reference
+abbrev pub Flat : Next → Type 0
+Flat (stop (returned v)) = is_plain v ≡ true
+Flat _ = Unit {0}

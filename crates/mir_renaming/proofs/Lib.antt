@@ -4,3 +4,10 @@ pub mod Types
 pub mod Frames
 pub mod Typed
 pub mod Ghosts
+pub mod Stores
+pub mod Walks
+pub mod Among
+pub mod Slots
+pub mod Agree
+pub mod Tight
+pub mod Items

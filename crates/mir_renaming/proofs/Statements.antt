@@ -83,7 +83,7 @@ full_def_rel : (j : Renaming) (D : List Shape) (n : ℕ) → FullRel j (full_def
 full_def_rel j D zero d v w r e = refl
 full_def_rel j D (suc n) d v w r e = full_of_rel j (full_def D n) (full_def_rel j D n) (needs_drop D (named d)) (slice_get D d) v w r e
 
-allows_rel : (j : Renaming) (D : List Shape) (g : Option Tree) (v w : Value) → ValueRel j v w → allows D g v ≡ true → allows D g w ≡ true
+pub allows_rel : (j : Renaming) (D : List Shape) (g : Option Tree) (v w : Value) → ValueRel j v w → allows D g v ≡ true → allows D g w ≡ true
 unfolding full
 allows_rel j D None v w r e = refl
 allows_rel j D (Some t) v w r e = full_by_rel j (full_def D (length D)) (full_def_rel j D (length D)) t v w r e
@@ -108,7 +108,7 @@ built_by_rel j k v w (Some d) r = go d.is_enum
     go true = (refl, r)
     go false = r
 
-built_rel : (j : Renaming) (D : List Shape) (d k : ℕ) (v w : Value) → ValueRel j v w → ValueRel j (built D d k v) (built D d k w)
+pub built_rel : (j : Renaming) (D : List Shape) (d k : ℕ) (v w : Value) → ValueRel j v w → ValueRel j (built D d k v) (built D d k w)
 built_rel j D d k v w r = built_by_rel j k v w (slice_get D d) r
 
 pub number_rel : (j : Renaming) (v w : Value) (n : ℕ) → ValueRel j v w → number_in v ≡ Some n → number_in w ≡ Some n
@@ -123,7 +123,7 @@ pub only_true : {A : Type 0} (b : Bool) (x y : A) → only_if b x ≡ Some y →
 only_true true x y e = (refl, grind arith)
 only_true false x y e = absurd (grind arith)
 
-true_only : {A : Type 0} (b : Bool) (x : A) → b ≡ true → only_if b x ≡ Some x
+pub true_only : {A : Type 0} (b : Bool) (x : A) → b ≡ true → only_if b x ≡ Some x
 true_only b x e = ap (λ b. only_if b x) e
 
 -- read_two memories, and nothing is kept twice of what lives
@@ -202,7 +202,7 @@ module _ (D : List Shape) (ts1 ts2 : List Tree) (f1 f2 : ℕ) (j L : Renaming) (
   OperandsRel (o ∷ os) (p ∷ ps) = OperandRel o p × OperandsRel os ps
   OperandsRel _ _ = ⊥
 
-  place_ty_rel : (K : Renaming) (p q : Place) → PlaceRel K p q → type_of H1 p ≡ type_of H2 q
+  pub place_ty_rel : (K : Renaming) (p q : Place) → PlaceRel K p q → type_of H1 p ≡ type_of H2 q
   unfolding type_of place_ty
   place_ty_rel K p q r = ap₂ (λ o ps. o >>= λ t. path_ty D t ps) r.ty r.proj
 

@@ -6,8 +6,7 @@ use Rattle.mir_text.specs.GrammarStatements as r
 use Rattle.mir_text.specs.GrammarStatements.{NamedRule, BuildRule, RvalueRule, StmtRule}
 use Rattle.mir_text.specs.GrammarTerms as t
 use Rattle.mir_text.specs.GrammarTerms.{UnwindRule, ArmRule, TermRule}
-use Rattle.mir_text.specs.PartLines.{LinedBlock}
-use Rattle.mir_text.specs.PartLines.{Lined as LinedRule}
+use Rattle.mir_text.specs.PartLines.{LinedBlock, Lined as LinedRule}
 use Rattle.mir_tree.specs.declared.Lined.{Lined}
 use Rattle.mir_tree.specs.declared.operand.ProjText.{ProjText}
 use Rattle.mir_tree.specs.declared.operand.ProjText.TheVariants as p

@@ -5,8 +5,8 @@ use Rattle.mir_syntax.specs.Tree.{Tree}
 use Rattle.mir_syntax.specs.Crate.{TypedStmt, TypedBlock, TypedBody}
 use Rattle.mir_syntax.specs.Shapes.{Shape}
 use Rattle.mir_rules.proofs.Terminators.{slice_get_there}
-use Rattle.mir_live.specs.Reads.{pruned_stmts, pruned_blocks, pruned_by}
-use Rattle.mir_live.proofs.Prune.{pruned_get, pruned_goes, pruned_stays}
+use Rattle.prune_control.specs.Reads.{pruned_stmts, pruned_blocks, pruned_by}
+use Rattle.prune_control.proofs.Kept.{pruned_get, pruned_goes, pruned_stays}
 use Rattle.dead_store.specs.Pruned.{IsUseless, IsUseful, KeptFrom, IsPrunedOnce}
 use Rattle.prune_refines.proofs.Kept.{blocks_long}
 

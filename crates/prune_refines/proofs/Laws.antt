@@ -26,10 +26,10 @@ use Rattle.mir_semantics.specs.Step.{body_in, code_of}
 use Rattle.escape_info.specs.Borrowed.{has_deref, lent, lent_in, dropped, is, borrowed}
 use Rattle.liveness.specs.Live.{Live}
 use Rattle.liveness.proofs.Paths as paths
-use Rattle.mir_live.specs.Reads.{pruned_by}
-use Rattle.mir_live.proofs.Items.{DropPlain}
+use Rattle.prune_control.specs.Reads.{pruned_by}
+use Rattle.mir_renaming.proofs.Items.{DropPlain}
 use Rattle.mir_live.proofs.Prune as prune
-use Rattle.mir_live.proofs.Prune.{NoDrop, MoveCalm, MovesCalm, RvalueCalm, Laws}
+use Rattle.prune_control.proofs.Kept.{NoDrop, MoveCalm, MovesCalm, RvalueCalm, Laws}
 use Rattle.valid_runs.proofs.Codes.{body_there, body_back}
 use Rattle.prune_refines.specs.Drops.{is_drop, NoDrops}
 use Rattle.prune_refines.proofs.Gone.{Judged}
@@ -37,13 +37,13 @@ use Rattle.prune_refines.proofs.Reading.{reads_stmt, fills_stmt, ResultTyped, re
 
 -- ---- dereferences
 
-same_deref : (ps : List Proj) → has_deref ps ≡ semantics.has_deref ps
+pub same_deref : (ps : List Proj) → has_deref ps ≡ semantics.has_deref ps
 same_deref [] = refl
 same_deref (Field i ∷ ps) = same_deref ps
 same_deref (Downcast k ∷ ps) = same_deref ps
 same_deref (Deref ∷ ps) = refl
 
-deref_indirect : (ps : List Proj) → semantics.has_deref ps ≡ true → is_direct ps ≡ false
+pub deref_indirect : (ps : List Proj) → semantics.has_deref ps ≡ true → is_direct ps ≡ false
 deref_indirect [] h = absurd (grind arith)
 deref_indirect (Field i ∷ ps) h = deref_indirect ps h
 deref_indirect (Downcast k ∷ ps) h = refl
@@ -109,7 +109,7 @@ module _ (D : List Shape) (ts : List Tree) where
   rvalue_calm (tuple os) h = moves_calm os h
   rvalue_calm (build d k os) h = moves_calm os h
 
-no_drop : (t : Term) → is_drop t ≡ false → NoDrop t
+pub no_drop : (t : Term) → is_drop t ≡ false → NoDrop t
 no_drop (Drop p u) h = absurd (grind arith)
 no_drop (Goto u) h = tt
 no_drop (Switch o arms u) h = tt
@@ -121,7 +121,7 @@ no_drop (Assert o c m os u) h = tt
 -- ---- all bodies of a valid crate
 
 module _ (C : Crate) (valid : Valid C) where
-  result_typed : (ts : List Tree) (t : Term) → OwnTyped C (shapes_of C) ts t → ResultTyped (shapes_of C) ts t
+  pub result_typed : (ts : List Tree) (t : Term) → OwnTyped C (shapes_of C) ts t → ResultTyped (shapes_of C) ts t
   result_typed ts (Call p g os u) h = (h.ty, h.place)
   result_typed ts (Goto u) h = tt
   result_typed ts (Switch o arms u) h = tt
@@ -156,7 +156,7 @@ module _ (C : Crate) (valid : Valid C) where
 
 -- ---- the list of functions with another in a place
 
-bodies_other : (fs : List TypedFunction) (f h : ℕ) (v : TypedFunction) → (h ≡ f → ⊥) → slice_get (map body_in (set fs f v)) h ≡ slice_get (map body_in fs) h
+pub bodies_other : (fs : List TypedFunction) (f h : ℕ) (v : TypedFunction) → (h ≡ f → ⊥) → slice_get (map body_in (set fs f v)) h ≡ slice_get (map body_in fs) h
 bodies_other [] f h v ne = refl
 bodies_other (y ∷ fs) zero zero v ne = absurd (ne refl)
 bodies_other (y ∷ fs) zero (suc h) v ne = refl
@@ -195,7 +195,7 @@ module _ (C : Crate) (valid : Valid C) (f : ℕ) (g : TypedFunction) (there : sl
   judge i n (set_discriminant p k) true (nd, nb, nl) = (sym (same_deref p.proj) ∙ nd, nb, nl)
   judge i n (set_discriminant p k) false h = tt
 
-  lends : (i n : ℕ) (k : TypedBlock) (p q : Place) → slice_get g.body.blocks i ≡ Some k → (slice_get k.stmts n ≡ Some (assign p (rvalue.ref q))) ⊎ (slice_get k.stmts n ≡ Some (assign p (rvalue.ref_mut q))) → semantics.has_deref q.proj ≡ false → borrowed D g.body q.local ≡ true
+  pub lends : (i n : ℕ) (k : TypedBlock) (p q : Place) → slice_get g.body.blocks i ≡ Some k → (slice_get k.stmts n ≡ Some (assign p (rvalue.ref q))) ⊎ (slice_get k.stmts n ≡ Some (assign p (rvalue.ref_mut q))) → semantics.has_deref q.proj ≡ false → borrowed D g.body q.local ≡ true
   lends i n k p q e1 e2 h = any_flat (is q.local) (lent_in D g.body.locals) g.body.blocks i k e1 (any_left (is q.local) (flat_map lent k.stmts) (dropped D g.body.locals k.term) (in_stmts e2))
     where
       in_stmts : (slice_get k.stmts n ≡ Some (assign p (rvalue.ref q))) ⊎ (slice_get k.stmts n ≡ Some (assign p (rvalue.ref_mut q))) → list_any (is q.local) (flat_map lent k.stmts) ≡ true

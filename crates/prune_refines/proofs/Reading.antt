@@ -18,9 +18,11 @@ use Rattle.mir_syntax.specs.Shapes.{Shape, destructor_of, proj_ty, path_ty, plac
 use Rattle.mir_rules.specs.Parts.{is_direct, operand_places, rvalue_places, arm_block, targets}
 use Rattle.mir_rules.specs.BodyRules.{path_through, goes_through_destructor}
 use Rattle.mir_renaming.proofs.Memory.{bind_some}
-use Rattle.mir_live.specs.Places.{solid, is_nil, fills}
-use Rattle.mir_live.specs.Paths.{ArmLeads, Leads, fills_term}
-use Rattle.mir_live.specs.Reads.{through, ReadsOperand, ReadsAny, ReadsRvalue, ReadsStmt, ReadsTerm}
+use Rattle.mir_renaming.specs.Places.{solid}
+use Rattle.mir_renaming.specs.Places.{is_nil}
+use Rattle.prune_control.specs.Paths.{fills}
+use Rattle.prune_control.specs.Paths.{ArmLeads, Leads, fills_term}
+use Rattle.prune_control.specs.Reads.{through, ReadsOperand, ReadsAny, ReadsRvalue, ReadsStmt, ReadsTerm}
 use Rattle.liveness.specs.Live.{place_local, operand_locals, written_reads, stmt_reads, result_reads, term_reads, whole, stmt_fills, term_fills}
 
 -- ---- lists

@@ -19,7 +19,7 @@ use Rattle.mir_renaming.proofs.Typed.{ValidCode}
 use Rattle.mir_relate.proofs.Refine.{refines_trans, is_entry}
 use Rattle.escape_info.specs.Borrowed.{borrowed}
 use Rattle.liveness.specs.Live.{Live}
-use Rattle.mir_live.specs.Reads.{pruned_by}
+use Rattle.prune_control.specs.Reads.{pruned_by}
 use Rattle.mir_live.proofs.PruneRefines as live
 use Rattle.valid_runs.proofs.Blanks.{shapes_tupled}
 use Rattle.valid_runs.proofs.Codes.{valid_code}
@@ -32,7 +32,7 @@ use Rattle.prune_refines.proofs.Needs.{needs_ok}
 use Rattle.prune_refines.proofs.Laws.{plain, calm_sets, bodies2, is1, is2, others, laws}
 use Rattle.prune_refines.proofs.Kept.{blocks_long, formed_left, keeps_left, drops_left}
 
-headers_set : (fs : List TypedFunction) (f : ℕ) (g g2 : TypedFunction) → slice_get fs f ≡ Some g → header g2 ≡ header g → map header (set fs f g2) ≡ map header fs
+pub headers_set : (fs : List TypedFunction) (f : ℕ) (g g2 : TypedFunction) → slice_get fs f ≡ Some g → header g2 ≡ header g → map header (set fs f g2) ≡ map header fs
 headers_set [] f g g2 e h = refl
 headers_set (x ∷ fs) zero g g2 e h = ap (λ y. y ∷ map header fs) (h ∙ ap header (let z : g ≡ x = grind arith in z))
 headers_set (x ∷ fs) (suc f) g g2 e h = ap (λ ys. header x ∷ ys) (headers_set fs f g g2 e h)
@@ -92,12 +92,12 @@ pub record Same (C : Crate) (b2 b : TypedBody) : Type 0 where
   pub kept : BodyKeeps C b → BodyKeeps C b2
   pub no_drops : NoDrops b → NoDrops b2
 
-once_same : (C : Crate) (D : List Shape) (b2 b : TypedBody) → IsPrunedOnce D b b2 → Same C b2 b
+pub once_same : (C : Crate) (D : List Shape) (b2 b : TypedBody) → IsPrunedOnce D b b2 → Same C b2 b
 once_same C D b2 b p =
     let d = decided D b b2 p in
     subst (λ b2. Same C b2 b) (sym d.is) (record { args = refl; locals = refl; blocks = blocks_long d.gone 0 b.blocks; formed = formed_left C d.gone b; kept = keeps_left C d.gone b; no_drops = drops_left C d.gone b })
 
-same_trans : (C : Crate) (c b a : TypedBody) → Same C c b → Same C b a → Same C c a
+pub same_trans : (C : Crate) (c b a : TypedBody) → Same C c b → Same C b a → Same C c a
 same_trans C c b a p q = record { args = p.args ∙ q.args; locals = p.locals ∙ q.locals; blocks = p.blocks ∙ q.blocks; formed = λ h. p.formed (q.formed h); kept = λ h. p.kept (q.kept h); no_drops = λ h. p.no_drops (q.no_drops h) }
 
 pub pruned_same : (C : Crate) (D : List Shape) (b2 b : TypedBody) → IsPruned D b b2 → Same C b2 b

@@ -7,8 +7,7 @@ use Rattle.sched_core.specs.declared.Event.TheVariants.{Claim, Look, Borrow, Rel
 use Rattle.sched_core.specs.declared.Why.{Why}
 use Rattle.sched_core.specs.declared.Why.TheVariants as w
 use Rattle.sched_core.specs.Plan.{Plan, next_need}
-use Rattle.sched_core.specs.State.{State, Entry, is, next, untouched}
-use Rattle.sched_core.specs.State.{all_seen, is_stolen}
+use Rattle.sched_core.specs.State.{State, Entry, is, next, untouched, all_seen, is_stolen}
 
 -- the first that isn't none
 abbrev pub or_else : Option Why → Option Why → Option Why

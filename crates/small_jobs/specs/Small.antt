@@ -1,5 +1,5 @@
 -- Four queries, of which 2 and 3 are the roots. Both read query 1, which reads query 0; query 3 steals query 0.
-use Rattle.std.specs.Prelude.{◌≡◌, ℕ, zero, suc, ◌+◌, List, [], ◌∷◌, Option, Some, None}
+use Rattle.std.specs.Prelude.{ℕ, zero, suc, ◌+◌, List, [], ◌∷◌, Option, Some, None}
 use Rattle.sched_core.specs.Plan.{Plan}
 
 abbrev pub small_needs : ℕ → List ℕ

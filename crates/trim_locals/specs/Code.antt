@@ -10,7 +10,7 @@ use Rattle.mir_syntax.specs.declared.body.Term.TheVariants as term
 use Rattle.mir_syntax.specs.declared.body.Block.{Block}
 use Rattle.liveness.specs.Live.{operand_locals}
 use Rattle.liveness.specs.Rows.{bare_rvalue_reads}
-use Rattle.trim_locals.specs.Trimmed.{new_numbers, number_in, renamed_place, renamed_operand, renamed_term}
+use Rattle.trim_locals.specs.Trimmed.{number_in, renamed_place, renamed_operand, renamed_term}
 
 abbrev pub bare_stmt_uses : Stmt → List ℕ
 bare_stmt_uses (stmt.Assign p r) = bare_rvalue_reads r ++ p.local ∷ []

@@ -14,7 +14,7 @@ use Rattle.mir_renaming.proofs.Ghosts.{extend, extend_new, extend_old, plains_se
 use Rattle.mir_renaming.proofs.Typed.{ValidCode}
 use Rattle.mir_relate.specs.Simulation.{Simulation, Follows as Owes, keep_on}
 use Rattle.mir_relate.proofs.Refine.{refines_by}
-use Rattle.mir_relate.proofs.Aligned.{new_control}
+use Rattle.mir_renaming.proofs.Frames.{new_control}
 use Rattle.valid_runs.proofs.Blanks.{shapes_tupled}
 use Rattle.valid_runs.proofs.Codes.{valid_code, body_there}
 use Rattle.valid_runs.proofs.Starts.{args_plain, start_typed}

@@ -20,10 +20,10 @@ module _ (D : List Shape) where
   at_blank (u ∷ ts) (suc x) t e = at_blank ts x t e
 
   -- behind the result
-  abbrev rest : List Value → List Tree → List Value
+  abbrev pub rest : List Value → List Tree → List Value
   rest vs ts = vs ++ blanks D (drop (length vs) ts)
 
-  in_rest : (vs : List Value) (ts : List Tree) (x : ℕ) (v : Value) → slice_get (rest vs ts) x ≡ Some v → (slice_get vs x ≡ Some v) ⊎ ((length vs ≤ x) × ((t : Tree) × (slice_get ts x ≡ Some t) × (blank D t ≡ v)))
+  pub in_rest : (vs : List Value) (ts : List Tree) (x : ℕ) (v : Value) → slice_get (rest vs ts) x ≡ Some v → (slice_get vs x ≡ Some v) ⊎ ((length vs ≤ x) × ((t : Tree) × (slice_get ts x ≡ Some t) × (blank D t ≡ v)))
   in_rest [] ts x v e = inr (omega arith, blank_at ts x v e)
   in_rest (w ∷ vs) ts zero v e = inl e
   in_rest (w ∷ vs) [] (suc x) v e = go (in_rest vs [] x v (subst (λ ts. slice_get (vs ++ blanks D ts) x ≡ Some v) (sym (nothing (length vs))) e))

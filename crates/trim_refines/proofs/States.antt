@@ -13,7 +13,7 @@ use Rattle.mir_renaming.specs.Renaming.{Renaming, AddrRel, Sub}
 use Rattle.mir_renaming.proofs.Memory.{bind_some, some_bind}
 use Rattle.mir_renaming.proofs.Statements.{ValuesRel, DestRel}
 use Rattle.mir_renaming.proofs.Ghosts.{addr_mono, value_mono, extend, extend_sub, extend_new, extend_old, open_linked}
-use Rattle.mir_relate.proofs.Aligned.{new_control}
+use Rattle.mir_renaming.proofs.Frames.{new_control}
 use Rattle.trim_refines.specs.Renumbered.{Numbering, TermSame, StmtsSame}
 use Rattle.trim_refines.proofs.Slots.{NonEmpty, slots_of, same_length}
 use Rattle.trim_refines.proofs.Twins.{one, once, once2, J, K, Twin, Twins, Mems}

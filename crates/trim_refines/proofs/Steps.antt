@@ -20,8 +20,8 @@ use Rattle.mir_renaming.specs.Renaming.{Renaming, AddrRel}
 use Rattle.mir_renaming.proofs.Memory.{bind_some, some_bind, further_rel}
 use Rattle.mir_renaming.proofs.Statements.{ValuesRel, DestRel, number_rel, scalar_ty_rel}
 use Rattle.mir_renaming.proofs.Ghosts.{ren_is, close_linked, plain_same}
-use Rattle.mir_relate.proofs.Aligned.{Flat}
-use Rattle.mir_live.proofs.Paths.{drop_some, drop_none, get_drop}
+use Rattle.mir_renaming.proofs.Ghosts.{Flat}
+use Rattle.mir_relate.proofs.Rest.{drop_some, drop_none, get_drop}
 use Rattle.trim_refines.specs.Renumbered.{Numbering, PlaceSame, OperandsSame, TermSame, StmtsSame}
 use Rattle.trim_refines.proofs.Lifts.{operand_lift}
 use Rattle.trim_refines.proofs.Twins.{one, once, once2, addr_back, blank_twin, hole_twin, value_twin, write_twin, store_twin, type_twin, resolve_twin, dest_twin, read_all_twin, read_number_twin, result_twin, exec_twin, gone_alone}

@@ -1,6 +1,5 @@
 -- The code of a valid crate is fit to keep its states typed.
-use Rattle.std.proofs.Common.{◌≡◌, ◌⊎◌, inl, inr, refl, sym, ap, ◌∙◌, subst, ℕ, zero, suc, Bool, true, false, nat_eq, ◌&&◌, ◌||◌, if◌then◌else◌, List, [], ◌∷◌, length, take, drop, map, get_or, Some, None, slice_get, arith}
-use Rattle.std.proofs.Common.{eqb-true}
+use Rattle.std.proofs.Common.{◌≡◌, ◌⊎◌, inl, inr, refl, sym, ap, ◌∙◌, subst, ℕ, zero, suc, Bool, true, false, nat_eq, ◌&&◌, ◌||◌, if◌then◌else◌, List, [], ◌∷◌, length, take, drop, map, get_or, Some, None, slice_get, arith, eqb-true}
 use Rattle.std.specs.List.{list_all}
 use Rattle.mir_syntax.specs.declared.types.ScalarTy.{ScalarTy}
 use Rattle.mir_syntax.specs.declared.types.ScalarTy.TheVariants as scalar_ty
@@ -15,11 +14,11 @@ use Rattle.mir_syntax.specs.declared.body.Callee.TheVariants as callee
 use Rattle.mir_syntax.specs.declared.body.Term.{Term}
 use Rattle.mir_syntax.specs.declared.body.Term.TheVariants as term
 use Rattle.mir_syntax.specs.Tree.{Tree, scalar, empty, more, ref, ref_mut, named, tuple_of}
-use Rattle.mir_syntax.specs.Crate.{TypedRvalue, «use», binary, overflow, unary, cast, discriminant, tuple, build, TypedStmt, assign, storage_live, storage_dead, set_discriminant, TypedBlock, TypedBody, TypedDef, TypedOutside, TypedFunction, Crate}
+use Rattle.mir_syntax.specs.Crate.{TypedRvalue, «use», binary, overflow, unary, cast, discriminant, tuple, build, TypedStmt, assign, storage_live, storage_dead, set_discriminant, TypedBody, TypedDef, TypedFunction, Crate}
 use Rattle.mir_syntax.specs.Crate as rvalue
 use Rattle.mir_syntax.specs.Shapes.{Shape, fields_tuple, shapes_of, first_variant, struct_fields, fields_of, fields_of_struct, variant_of_enum, pointee}
 use Rattle.mir_rules.specs.Typing as rules
-use Rattle.mir_rules.specs.Typing.{Kind, arithmetic, bitwise, comparison, shift, bool_ty, isize_ty, scalar_of, kind_of, takes, made_by, binary_ty, overflow_ty, unary_ty, cast_ty, enum_of, discriminant_ty, build_ty, rvalue_ty, operands_ty, result_of, is_int}
+use Rattle.mir_rules.specs.Typing.{Kind, arithmetic, bitwise, comparison, shift, bool_ty, isize_ty, scalar_of, kind_of, takes, made_by, binary_ty, overflow_ty, unary_ty, cast_ty, discriminant_ty, build_ty, rvalue_ty, operands_ty, result_of, is_int}
 use Rattle.mir_num.specs.Widths.{is_signed}
 use Rattle.mir_rules.specs.Same.{same_tree}
 use Rattle.mir_rules.specs.DefinitionRules as def_rules

@@ -1,6 +1,5 @@
 -- What a run from an entry returns holds no reference: its first frame's function stays, and the result of that has a type without any.
-use Rattle.std.proofs.Common.{◌≡◌, refl, sym, ap, ap₂, ◌∙◌, subst, ℕ, zero, suc, Bool, true, false, ◌||◌, ◌==◌, nat_eq, if◌then◌else◌, List, [], ◌∷◌, ◌++◌, length, take, Option, Some, None, slice_get, arith}
-use Rattle.std.proofs.Common.{eq-eqb}
+use Rattle.std.proofs.Common.{◌≡◌, refl, sym, ap, ap₂, ◌∙◌, subst, ℕ, zero, suc, Bool, true, false, ◌||◌, ◌==◌, nat_eq, if◌then◌else◌, List, [], ◌∷◌, ◌++◌, length, take, Option, Some, None, slice_get, arith, eq-eqb}
 use Rattle.std.proofs.lemmas.Bool.{not-true}
 use Rattle.mir_syntax.specs.declared.body.Operand.{Operand}
 use Rattle.mir_syntax.specs.declared.body.Callee.{Callee}
@@ -21,10 +20,9 @@ use Rattle.mir_semantics.specs.Step.{Code, Dest, Visit, Dropping, Control, State
 use Rattle.mir_semantics.specs.Run.{Entry, start}
 use Rattle.mir_semantics.specs.Entry.{IsEntry, refers_by, any_refers, refers_of, refers_def, holds_reference, result_and_args}
 use Rattle.mir_renaming.proofs.Memory.{bind_some}
-use Rattle.mir_renaming.proofs.Ghosts.{is_plain}
+use Rattle.mir_renaming.proofs.Ghosts.{is_plain, Flat}
 use Rattle.mir_renaming.proofs.Types.{TypeMap, HasTy, value_at_ty}
 use Rattle.mir_renaming.proofs.Typed.{ResultTy, ValidCode, Typed, step_typed}
-use Rattle.mir_relate.proofs.Aligned.{Flat}
 
 -- ---- types without references
 

@@ -1,0 +1,376 @@
+-- A step of a function that is left alone.
+use Rattle.std.proofs.Common.{◌≡◌, inl, refl, sym, ap, ap₂, ◌∙◌, subst, ℕ, suc, Bool, true, false, nat_eq, List, [], ◌∷◌, ◌++◌, length, Option, Some, None, slice_get, arith}
+use Rattle.mir_syntax.specs.declared.body.Place.{Place}
+use Rattle.mir_syntax.specs.declared.body.Operand.{Operand}
+use Rattle.mir_syntax.specs.declared.body.Operand.TheVariants as operand
+use Rattle.mir_syntax.specs.declared.body.Callee.{Callee}
+use Rattle.mir_syntax.specs.declared.body.Callee.TheVariants as callee
+use Rattle.mir_syntax.specs.declared.body.Term.{Term}
+use Rattle.mir_syntax.specs.declared.body.Term.TheVariants.{Goto, Switch, Return, Unreachable, Drop, Call, Assert}
+use Rattle.mir_syntax.specs.Tree.{Tree, scalar}
+use Rattle.mir_syntax.specs.Shapes.{Shape, needs_drop, destructor_of}
+use Rattle.mir_syntax.specs.Crate.{TypedRvalue, «use», binary, overflow, unary, cast, discriminant, tuple, build, TypedStmt, assign, storage_live, storage_dead, set_discriminant, TypedBody}
+use Rattle.mir_syntax.specs.Crate as rvalue
+use Rattle.mir_num.specs.Numbers.{wrap, flag}
+use Rattle.mir_semantics.specs.Values.{Addr, Value, number, nil, pointer, is_hole, whole, blank}
+use Rattle.mir_semantics.specs.Memory.{Memory, value_at, write}
+use Rattle.mir_semantics.specs.Step.{Here, Dest, Visit, Dropping, Control, Called, State, aborted, no_answer, Next, on, stop, fail, local_addr, read_at, read_all, numbers_in, go_on, to_block, take_arm, calling, answered, ask, call, visits_of, visit, visit_unless, visit_if, work_off, begun, check, finish, perform, step}
+use Rattle.mir_renaming.specs.Renaming.{Renaming, AddrRel, ValueRel}
+use Rattle.mir_renaming.proofs.Memory.{bind_some, some_bind, write_again}
+use Rattle.mir_renaming.proofs.Statements as text
+use Rattle.mir_renaming.proofs.Statements.{DestRel, only_true, ValuesRel, number_rel, blank_rel, write_linked, write_clear}
+use Rattle.mir_renaming.proofs.Types.{TypeMap, AddrTy, HasTy, MemTy, resolve_ty, write_ty, value_at_ty, blank_fits, dest_ty, StmtTy}
+use Rattle.mir_renaming.proofs.Typed.{MaybeDrop, VisitsTy, TermTy}
+use Rattle.mir_renaming.proofs.Ghosts.{Flat}
+use Rattle.mir_renaming.proofs.Agree.{tight_agree, tight_self, whole_tight, same_hole, hole_too}
+use Rattle.mir_renaming.proofs.Stores.{root_of}
+use Rattle.mir_relate.specs.Pass.{MoveOk, KnowsAll, Valids, FewArgs, FewTerm, AllMoves, RvalueMoves, StmtMoves, TermMoves, FrameLaws, Goes, Related}
+use Rattle.mir_renaming.proofs.Items.{InLocal, Items, begun_own, DropPlain, step_parts}
+use Rattle.mir_relate.specs.Alike.{Between, GotMemory, Sides, AllSame, Reads, AllRead}
+use Rattle.mir_relate.specs.Frames.{Change, target, Pass, VisitRel, VisitsRel, DropRel, DropsRel, DestsRel, Agrees, Alike, Below}
+use Rattle.mir_relate.proofs.Alike.{number_read, all_read, integers_read}
+use Rattle.mir_relate.proofs.Kept as kept
+use Rattle.mir_relate.proofs.Leaves.{some_val, leaves_then, leaves_write, leaves_alone}
+use Rattle.mir_relate.proofs.Stacks.{knows_all}
+use Rattle.mir_relate.proofs.Enter.{goes_at, goes_by, enter_goes}
+use Rattle.mir_relate.proofs.Returns.{closed2, closed1, return_goes}
+use Rattle.mir_relate.proofs.Drops as drops
+use Rattle.mir_relate.proofs.Drops.{parts_rel, append_rel, left_same, left_write, left_store, agrees_left, below_left, alike_at, core_on, goes_on, item_at, work_on_goes}
+
+pub read_long : (h : Here) (os : List Operand) (m : Memory) (r : List Value × Memory) → read_all h m os ≡ Some r → length r.0 ≡ length os
+unfolding read_all
+read_long h [] m r e = ap (λ (r : List Value × Memory). length r.0) (sym (some_val e))
+read_long h (o ∷ os) m r e =
+    let (x, e1, k1) = bind_some e in
+    let (y, e2, k2) = bind_some k1 in
+    ap (λ (r : List Value × Memory). length r.0) (sym (some_val k2)) ∙ ap suc (read_long h os x.1 y e2)
+
+pub numbers_same : (j : Renaming) (vs ws : List Value) (ns : List ℕ) → ValuesRel j vs ws → numbers_in vs ≡ Some ns → numbers_in ws ≡ Some ns
+numbers_same j [] [] ns h e = e
+numbers_same j (v ∷ vs) (w ∷ ws) ns h e =
+    let (k, e1, k1) = bind_some e in
+    let (ks, e2, k2) = bind_some k1 in
+    some_bind _ (number_rel j v w k h.0 e1) (some_bind _ (numbers_same j vs ws ks h.1 e2) k2)
+numbers_same j [] (w ∷ ws) ns h e = absurd h
+numbers_same j (v ∷ vs) [] ns h e = absurd h
+
+pub read_at_whole : (m : Memory) (a : Addr) (v : Value) → read_at m a ≡ Some v → whole v ≡ true
+unfolding read_at
+read_at_whole m a v e =
+    let (u, e1, e2) = bind_some e in
+    let (t, same) = only_true (whole u) u v e2 in
+    subst (λ y. whole y ≡ true) same t
+
+zero_rel : (j : Renaming) (f g : ℕ) → j f 0 ≡ Some (g, 0) → AddrRel j (local_addr f 0) (local_addr g 0)
+unfolding local_addr
+zero_rel j f g e = record { root = e; path = refl }
+
+module _ (X : Change) (P : Pass) (V : Valids X) (Inv : State → Type 0) (laws : FrameLaws X P V Inv) (n : ℕ) (s2 s1 : State) (r : Related X P V Inv n s2 s1) (al : Alike X r.core.lent s2.top s1.top) (ag : Agrees X s2.top s1.top s2.memory s1.memory) (be : Below X P r.core.lent s2.top.dest s1.top.dest s2.top.frame s1.top.frame s2.callers s1.callers s2.memory s1.memory) where
+  abbrev D : List Shape
+  D = X.source.shapes
+
+  abbrev j : Renaming
+  j = r.core.lent
+
+  abbrev G : TypeMap
+  G = r.typed1.types
+
+  pub ks : KnowsAll X G (s1.top ∷ s1.callers)
+  ks = (r.typed1.top.locals, knows_all X V G s1.callers r.typed1.callers)
+
+  -- what is left of the frames while this one runs
+  abbrev pub Left : Memory → Memory → Type 0
+  Left = drops.Left X P V Inv laws G j s2 s1 s2.top s1.top r.core.base r.core.linked al ag be ks
+
+  start : Left s2.memory s1.memory
+  start = left_same X P V Inv laws G j s2 s1 s2.top s1.top r.core.base r.core.linked al ag be ks
+
+  to_goes : (m2 m1 : Memory) (u : ℕ) → Left m2 m1 → Goes X P (go_on s2 m2 (to_block u s2.top)) (on (record s1 { memory = m1; top = to_block u s1.top }))
+  to_goes m2 m1 u h = goes_on X P V Inv laws G j s2 s1 s2.top s1.top r.core.base r.core.linked al ag be ks m2 m1 u 0 None None h tt
+
+  -- this frame waits for another one
+  below_this : (m2 m1 : Memory) (c2 c1 : Control) (d2 d1 : Option Dest) → c2.frame ≡ s2.top.frame → c1.frame ≡ s1.top.frame → c2.dest ≡ s2.top.dest → c1.dest ≡ s1.top.dest → Alike X j c2 c1 → Agrees X c2 c1 m2 m1 → DestsRel j d1 d2 → Left m2 m1 → Below X P j d2 d1 s2.next s1.next (c2 ∷ s2.callers) (c1 ∷ s1.callers) m2 m1
+  below_this m2 m1 c2 c1 d2 d1 f2 f1 e2 e1 a g dr h =
+      inl (
+        c1,
+        s1.callers,
+        refl,
+        (let lt = r.core.base.top1 in omega (arith, f1, lt)),
+        (let lt = r.core.base.top2 in omega (arith, f2, lt)),
+        a,
+        g,
+        dr,
+        subst (λ k2. Below X P j c2.dest c1.dest k2 c1.frame s2.callers s1.callers m2 m1) (sym f2) (subst (λ k1. Below X P j c2.dest c1.dest s2.top.frame k1 s2.callers s1.callers m2 m1) (sym f1)
+            (subst (λ d. Below X P j d c1.dest s2.top.frame s1.top.frame s2.callers s1.callers m2 m1) (sym e2) (subst (λ d. Below X P j s2.top.dest d s2.top.frame s1.top.frame s2.callers s1.callers m2 m1) (sym e1)
+            (below_left X P V Inv laws G j s2 s1 s2.top s1.top r.core.base r.core.linked al ag be ks m2 m1 h)))),
+      )
+
+  -- ---- calls of outside functions
+
+  answered_goes : (t2 t1 : List Called) (r2 r1 : List ℕ) (u : ℕ) (o2 o1 : Option Memory) (x : Next) → t2 ≡ t1 → r2 ≡ r1 → ((m : Memory) → o1 ≡ Some m → GotMemory Left m o2) → answered (calling s1 t1 r1) (to_block u s1.top) o1 ≡ Some x → Goes X P (answered (calling s2 t2 r2) (to_block u s2.top) o2) x
+  answered_goes t2 t1 r2 r1 u o2 None x ts rs hm e = goes_at X P _ x (fail t1) e tt
+  answered_goes t2 t1 r2 r1 u o2 (Some m1) x ts rs hm e =
+      let (m2, g, h) = hm m1 refl in
+      let k = core_on X P V Inv laws G j s2 s1 s2.top s1.top r.core.base r.core.linked al ag be ks m2 m1 u 0 None None h tt in
+      goes_by X P _ _ x (ap (answered (calling s2 t2 r2) (to_block u s2.top)) g) (goes_at X P _ x _ e
+      (0, _, refl, record { lent = k.lent; base = record { fresh1 = k.base.fresh1; fresh2 = k.base.fresh2; top1 = k.base.top1; top2 = k.base.top2; answers = rs; trace = ts }; linked = k.linked; runs = k.runs }))
+
+  ask_goes : (m2 m1 : Memory) (u : ℕ) (d2 d1 : Dest) (o : ℕ) (ns : List ℕ) (t at : Tree) (answers : List ℕ) (x : Next) → Left m2 m1 → DestRel j d1 d2 → AddrTy D G d1.addr at → ask D s1 m1 (to_block u s1.top) d1 o ns t answers ≡ Some x → Goes X P (ask D s2 m2 (to_block u s2.top) d2 o ns t answers) x
+  unfolding ask
+  ask_goes m2 m1 u d2 d1 o ns (scalar t) at [] x h hd ty e = goes_at X P _ x (stop no_answer) e refl
+  ask_goes m2 m1 u d2 d1 o ns (scalar t) at (a ∷ rest) x h hd ty e =
+      answered_goes _ _ rest rest u _ _ x (ap (λ t'. record { outside = o; args = ns; answer = Some (wrap t a) } ∷ t') r.core.base.trace) refl
+      (λ m q. left_store X P V Inv laws G j s2 s1 s2.top s1.top r.core.base r.core.linked al ag be ks m2 m1 m d1 d2 at (number (wrap t a)) (number (wrap t a)) h hd ty (refl, tt) q) e
+  ask_goes m2 m1 u d2 d1 o ns t at answers x h hd ty e =
+      answered_goes _ _ answers answers u _ _ x (ap (λ t'. record { outside = o; args = ns; answer = None } ∷ t') r.core.base.trace) refl
+      (λ m q. left_store X P V Inv laws G j s2 s1 s2.top s1.top r.core.base r.core.linked al ag be ks m2 m1 m d1 d2 at nil nil h hd ty (tt, tt) q) e
+
+  call_goes : (m2 m1 : Memory) (u : ℕ) (d2 d1 : Dest) (g : Callee) (os : List Operand) (vs ws : List Value) (at : Tree) (x : Next) → FewArgs X.source g os → length vs ≡ length os → Left m2 m1 → DestRel j d1 d2 → AddrTy D G d1.addr at → AllSame j vs ws → call X.source s1 m1 (to_block u s1.top) d1 g vs ≡ Some x → Goes X P (call (target X) s2 m2 (to_block u s2.top) d2 g ws) x
+  unfolding call
+  call_goes m2 m1 u d2 d1 (callee.Local g) os vs ws at x few long h hd ty hv e =
+      enter_goes X P V Inv laws G j s2 s1 m2 m1 r.core.base h.0 (to_block u s2.top) (to_block u s1.top) (Some d2) (Some d1) ks
+      (below_this m2 m1 (to_block u s2.top) (to_block u s1.top) (Some d2) (Some d1) refl refl refl refl (alike_at X P V Inv laws G j s2 s1 s2.top s1.top r.core.base r.core.linked al ag be ks u 0 None None tt) (agrees_left X P V Inv laws G j s2 s1 s2.top s1.top r.core.base r.core.linked al ag be ks m2 m1 h) hd h)
+      vs ws hv g.0 x (λ b eb. (let f = few b eb in omega (arith, f, long))) e
+  call_goes m2 m1 u d2 d1 (callee.Outside o) os vs ws at x few long h hd ty hv e =
+      let (out, e1, k1) = bind_some e in
+      let (ns, e2, k2) = bind_some k1 in
+      goes_by X P _ _ x (some_bind _ e1 (some_bind _ (numbers_same j vs ws ns hv.0 e2) (ap (λ an. ask D s2 m2 (to_block u s2.top) d2 o.0 ns out.result an) r.core.base.answers))) (ask_goes m2 m1 u d2 d1 o.0 ns out.result at s1.answers x h hd ty k2)
+
+  -- ---- drops
+
+  alike_drop : (o2 o1 : Option Dropping) → DropsRel j o1 o2 → Alike X j (record s2.top { dropping = o2 }) (record s1.top { dropping = o1 })
+  alike_drop o2 o1 dr = record { other = al.other; function = al.function; block = al.block; at = al.at; roots = al.roots; only = al.only; drops = dr }
+
+  visit_goes : (d e : Dropping) (i k : Visit) (is js : List Visit) (v w : Value) (g : Option ℕ) (x : Next) → destructor_of D i.ty ≡ g → DropRel j d e → VisitRel j i k → VisitsRel j is js → AddrTy D G d.place.addr d.place.ty → ValueRel j v w → (is_hole v ≡ true → is_hole w ≡ true) → visit X.source s1 d i is v g ≡ Some x → Goes X P (visit (target X) s2 e k js w g) x
+  unfolding visit
+  visit_goes d e i k is js v w None x eg dr h vs ty rel f q =
+      work_on_goes X P V Inv laws G j s2 s1 s2.top s1.top r.core.base r.core.linked al ag be ks d e (visits_of D i.addr i.ty v ++ is) (visits_of D k.addr k.ty w ++ js) x dr
+      (append_rel j (visits_of D i.addr i.ty v) (visits_of D k.addr k.ty w) is js (subst (λ u. VisitsRel j (visits_of D i.addr i.ty v) (visits_of D k.addr u w)) h.ty (parts_rel D j i.addr k.addr i.ty v w h.addr rel f)) vs) ty q
+  visit_goes d e i k is js v w (Some g) x eg dr h vs ty rel f q =
+      let d' : Dropping = record d { items = i ∷ is } in
+      let e' : Dropping = record e { items = k ∷ js } in
+      let rels : DropsRel j (Some d') (Some e') = record { place = dr.place; target = dr.target; items = (h, vs) } in
+      enter_goes X P V Inv laws G j s2 s1 s2.memory s1.memory r.core.base r.core.linked (record s2.top { dropping = Some e' }) (record s1.top { dropping = Some d' }) None None ks
+      (below_this s2.memory s1.memory (record s2.top { dropping = Some e' }) (record s1.top { dropping = Some d' }) None None refl refl refl refl (alike_drop (Some e') (Some d') rels) ag tt start)
+      (pointer i.addr ∷ []) (pointer k.addr ∷ []) ((h.addr, tt), (tt, tt)) g x (λ b eb. V.destroys i.ty g b eg eb) q
+
+  unless_goes : (d e : Dropping) (i k : Visit) (is js : List Visit) (v w : Value) (c : Bool) (x : Next) → DropRel j d e → VisitRel j i k → VisitsRel j is js → AddrTy D G d.place.addr d.place.ty → ValueRel j v w → (is_hole v ≡ true → is_hole w ≡ true) → visit_unless X.source s1 d i is v c ≡ Some x → Goes X P (visit_unless (target X) s2 e k js w c) x
+  unfolding visit_unless
+  unless_goes d e i k is js v w true x dr h vs ty rel f q = work_on_goes X P V Inv laws G j s2 s1 s2.top s1.top r.core.base r.core.linked al ag be ks d e is js x dr vs ty q
+  unless_goes d e i k is js v w false x dr h vs ty rel f q = goes_by X P _ _ x (ap (λ u. visit (target X) s2 e k js w (destructor_of D u)) (sym h.ty)) (visit_goes d e i k is js v w (destructor_of D i.ty) x refl dr h vs ty rel f q)
+
+  if_goes : (d e : Dropping) (i k : Visit) (is js : List Visit) (c : Bool) (x : Next) (y : ℕ) (lt : Tree) (bo : TypedBody) → slice_get X.source.bodies s1.top.function ≡ Some bo → slice_get bo.locals y ≡ Some lt → InLocal X.source s1.top.frame y i → AddrTy D G i.addr i.ty → DropRel j d e → VisitRel j i k → VisitsRel j is js → AddrTy D G d.place.addr d.place.ty → needs_drop D i.ty ≡ c → visit_if X.source s1 d i is c ≡ Some x → Goes X P (visit_if (target X) s2 e k js c) x
+  unfolding visit_if
+  if_goes d e i k is js false x y lt bo eb ey il at dr h vs ty nd q = work_on_goes X P V Inv laws G j s2 s1 s2.top s1.top r.core.base r.core.linked al ag be ks d e is js x dr vs ty q
+  if_goes d e i k is js true x y lt bo eb ey il at dr h vs ty nd q =
+      let (v, e1, k1) = bind_some q in
+      let (w, g1, rel, agr) = item_at X P V Inv laws G j s2 s1 s2.top s1.top r.core.base r.core.linked al ag be ks y lt bo i k v eb ey il at h e1 in
+      goes_by X P _ _ x (some_bind _ g1 (ap (λ c. visit_unless (target X) s2 e k js w c) (sym (same_hole j D i.ty v w nd rel agr)))) (unless_goes d e i k is js v w (is_hole v) x dr h vs ty rel (λ z. hole_too D i.ty v w nd agr z) k1)
+
+  work_off_goes : (d e : Dropping) (is js : List Visit) (x : Next) (y : ℕ) (lt : Tree) (bo : TypedBody) → slice_get X.source.bodies s1.top.function ≡ Some bo → slice_get bo.locals y ≡ Some lt → Items X.source s1.top.frame y is → VisitsTy X.source V.valid1 G is → DropRel j d e → VisitsRel j is js → AddrTy D G d.place.addr d.place.ty → work_off X.source s1 d is ≡ Some x → Goes X P (work_off (target X) s2 e js) x
+  unfolding work_off
+  work_off_goes d e [] js x y lt bo eb ey its tys dr vs ty q = absurd (grind arith)
+  work_off_goes d e (i ∷ is) (k ∷ js) x y lt bo eb ey its tys dr vs ty q = goes_by X P _ _ x (ap (λ u. visit_if (target X) s2 e k js (needs_drop D u)) (sym vs.0.ty)) (if_goes d e i k is js (needs_drop D i.ty) x y lt bo eb ey its.0 tys.0 dr vs.0 vs.1 ty refl q)
+  work_off_goes d e (i ∷ is) [] x y lt bo eb ey its tys dr vs ty q = absurd vs
+
+  module _ (bo : TypedBody) (eb : slice_get X.source.bodies s1.top.function ≡ Some bo) where
+    -- ---- statements and operands
+
+    abbrev Q : Between
+    Q m2 m1 = Left m2 m1 × MemTy D G m1
+
+    abbrev H1 : Here
+    H1 = record { shapes = D; locals = bo.locals; frame = s1.top.frame }
+
+    abbrev H2 : Here
+    H2 = record { shapes = D; locals = bo.locals; frame = s2.top.frame }
+
+    abbrev bok : (t : Tree) → HasTy D G t (blank D t)
+    bok = V.valid1.blank_ok G
+
+    abbrev lok : (x : ℕ) (t : Tree) → slice_get bo.locals x ≡ Some t → G s1.top.frame x ≡ Some t
+    lok = r.typed1.top.locals bo eb
+
+    abbrev low : (f x : ℕ) (t : ℕ × ℕ) → j f x ≡ Some t → j f x ≡ Some t
+    low f x t e = e
+
+    clears : (m2 m1 : Memory) (x y : ℕ) (t : Tree) → Q m2 m1 → j s1.top.frame x ≡ Some (s2.top.frame, y) → slice_get bo.locals x ≡ Some t → Q (write m2 (local_addr s2.top.frame y) (blank D t)) (write m1 (local_addr s1.top.frame x) (blank D t))
+    unfolding local_addr
+    clears m2 m1 x y t (h, mt) e et =
+        let a : Addr = record { frame = s1.top.frame; local = x; path = [] } in
+        let b : Addr = record { frame = s2.top.frame; local = y; path = [] } in
+        let ab : AddrRel j a b = record { root = e; path = refl } in
+        let at : AddrTy D G a t = record { local = t; is = lok x t et; path = refl } in
+        let B = blank D t in
+        let same : x ≡ y = (al.only s1.top.frame x y e).1 in
+        let once : (h x' : ℕ) (v : Value) → j h x' ≡ Some (s2.top.frame, y) → (h ≡ s1.top.frame) × (x' ≡ x) = λ h x' v q. (let (p1, p2) = al.only h x' y q in (p1, p2 ∙ sym same)) in (
+          (
+            write_clear j j m2 m1 a b B B h.0 ab (blank_rel j D t) (λ f x' u q z. (once f x' u q)),
+            leaves_then D G j j j (suc s2.top.frame) (suc s1.top.frame) s2.memory s1.memory m2 m1 (write m2 b B) (write m1 a B) h.1 (leaves_write D G j m2 m1 a b B B h.0.mem ab t at (tight_agree D B B t (tight_self B)) (λ h x' v q z. once h x' v q) (suc s2.top.frame) (suc s1.top.frame)),
+          ),
+          write_ty D G m1 a t B mt at (bok t),
+        )
+
+    alones : (m2 m1 : Memory) (a b : Addr) (t : Tree) (v w old : Value) → Q m2 m1 → AddrRel j a b → AddrTy D G a t → needs_drop D t ≡ false → value_at m1 a ≡ Some old → value_at m2 b ≡ Some w → HasTy D G t v → ValueRel j v w → Q m2 (write m1 a v)
+    alones m2 m1 a b t v w old (h, mt) ab at nd e1 e2 ty rel =
+        let (o, eo) = root_of m1 a old e1 in
+        let l' = write_linked j j m2 m1 a b v w old h.0 ab rel e1 in (
+          (
+            record { apart = l'.apart; mem = record { at = λ f x g y ll u' e. (let (z, f2, r2) = l'.mem.at f x g y ll u' e in (z, sym (write_again m2 b w g y e2) ∙ f2, r2)) } },
+            leaves_then D G j j j (suc s2.top.frame) (suc s1.top.frame) s2.memory s1.memory m2 m1 m2 (write m1 a v) h.1 (leaves_alone D G V.needs j m2 m1 a b v w t (suc s2.top.frame) (suc s1.top.frame) h.0.mem ab at nd e2 (λ h' x u q z. h.0.apart h' x a.frame a.local (b.frame, b.local) u o q ab.root z eo)),
+          ),
+          write_ty D G m1 a t v mt at ty,
+        )
+
+    abbrev K : Type 0
+    K = kept.Kept D bo.locals bo.locals s1.top.frame s2.top.frame j j low G bok lok Q
+
+    keeps : K
+    keeps = record {
+      rel = λ m2 m1 h. h.0.0.mem;
+      typed = λ m2 m1 h. h.1;
+      both = λ m2 m1 a b t v w old h ab at e fair ty hv. (left_write X P V Inv laws G j s2 s1 s2.top s1.top r.core.base r.core.linked al ag be ks m2 m1 a b v w old t h.0 ab at (tight_agree D v w t hv.1) hv.0 e, write_ty D G m1 a t v h.1 at ty);
+      clear = clears;
+      alone = alones;
+    }
+
+    place_as : (p : Place) → kept.PlaceAs D bo.locals bo.locals s1.top.frame s2.top.frame j j low G bok lok j p p
+    place_as p = record { root = al.roots p.local; proj = refl; ty = refl }
+
+    operand_as : (o : Operand) → kept.OperandAs D bo.locals bo.locals s1.top.frame s2.top.frame j j low G bok lok o o
+    operand_as (operand.Copy p) = place_as p
+    operand_as (operand.Move p) = place_as p
+    operand_as (operand.Const c) = refl
+
+    operands_as : (os : List Operand) → text.OperandsRel D bo.locals bo.locals s1.top.frame s2.top.frame j j low os os
+    operands_as [] = tt
+    operands_as (o ∷ os) = (operand_as o, operands_as os)
+
+    moves_as : (os : List Operand) → AllMoves H1 os → kept.MovesOk D bo.locals bo.locals s1.top.frame s2.top.frame j j low G bok lok Q keeps os
+    moves_as [] h = tt
+    moves_as (o ∷ os) h = (h.0, moves_as os h.1)
+
+    rvalue_as : (q : TypedRvalue) → RvalueMoves H1 q → kept.RvalueAs D bo.locals bo.locals s1.top.frame s2.top.frame j j low G bok lok Q keeps q q
+    rvalue_as («use» o) h = (operand_as o, h)
+    rvalue_as (binary op a c) h = (refl, (operand_as a, operand_as c), h)
+    rvalue_as (overflow op a c) h = (refl, (operand_as a, operand_as c), h)
+    rvalue_as (unary op a) h = (refl, operand_as a, h)
+    rvalue_as (cast a t) h = (refl, operand_as a, h)
+    rvalue_as (rvalue.ref p) h = inl (place_as p)
+    rvalue_as (rvalue.ref_mut p) h = inl (place_as p)
+    rvalue_as (discriminant p) h = place_as p
+    rvalue_as (tuple os) h = (operands_as os, moves_as os h)
+    rvalue_as (build d i os) h = (refl, refl, operands_as os, moves_as os h)
+
+    stmt_as : (st : TypedStmt) → StmtMoves H1 st → StmtTy D G bok bo.locals s1.top.frame lok st → kept.StmtAs D bo.locals bo.locals s1.top.frame s2.top.frame j j low G bok lok Q keeps st st
+    stmt_as (assign p q) h ty = (place_as p, rvalue_as q h, ty)
+    stmt_as (storage_live x) h ty = record { root = al.roots x; ty = refl }
+    stmt_as (storage_dead x) h ty = record { root = al.roots x; ty = refl }
+    stmt_as (set_discriminant p i) h ty = (place_as p, refl, h)
+
+    reads_all : (os : List Operand) → AllMoves H1 os → AllRead (kept.sides D bo.locals bo.locals s1.top.frame s2.top.frame j j low G bok lok) Q os os
+    reads_all os h = kept.all_as D bo.locals bo.locals s1.top.frame s2.top.frame j j low G bok lok Q keeps os os (operands_as os) (moves_as os h)
+
+    reads_one : (o : Operand) → MoveOk H1 o → Reads (kept.sides D bo.locals bo.locals s1.top.frame s2.top.frame j j low G bok lok) Q o o
+    reads_one o h = kept.reads_as D bo.locals bo.locals s1.top.frame s2.top.frame j j low G bok lok Q keeps o o (operand_as o) h
+
+    first : Q s2.memory s1.memory
+    first = (start, r.typed1.mem)
+
+    -- the body of the target
+    body2 : slice_get X.bodies s2.top.function ≡ Some bo
+    body2 = ap (slice_get X.bodies) al.function ∙ X.others s1.top.function al.other ∙ eb
+
+    payloads : text.PayloadsOk D bo.locals bo.locals s1.top.frame s2.top.frame j j low s2.memory
+    payloads q b t us k u er et ev e =
+        let G2 = r.typed2.types in
+        let at = resolve_ty D G2 (V.valid2.blank_ok G2) bo.locals s2.top.frame (r.typed2.top.locals bo body2) s2.memory q b t r.typed2.mem et er in
+        let (us', vt, h) = value_at_ty D G2 s2.memory b t _ r.typed2.mem at e in
+        blank_fits D G2 j us u (subst (λ y. HasTy D G2 y u) (some_val (sym vt ∙ ev)) h)
+
+    -- ---- terminators
+
+    abbrev S : Sides
+    S = kept.sides D bo.locals bo.locals s1.top.frame s2.top.frame j j low G bok lok
+
+    to_block_goes : (m2 m1 : Memory) (u : ℕ) (x : Next) → Left m2 m1 → go_on s1 m1 (to_block u s1.top) ≡ Some x → Goes X P (go_on s2 m2 (to_block u s2.top)) x
+    to_block_goes m2 m1 u x h e = goes_at X P _ x _ e (to_goes m2 m1 u h)
+
+    check_goes : (m2 m1 : Memory) (c : Bool) (words : List ℕ) (os : List Operand) (u : ℕ) (x : Next) → Q m2 m1 → AllMoves H1 os → check H1 s1 m1 c words os u ≡ Some x → Goes X P (check H2 s2 m2 c words os u) x
+    unfolding check
+    check_goes m2 m1 true words os u x h ok e = to_block_goes m2 m1 u x h.0 e
+    check_goes m2 m1 false words os u x h ok e =
+        let (q, e1, k1) = bind_some e in
+        let (q', g1, same, _) = integers_read S Q os os (reads_all os ok) m2 m1 q h e1 in
+        goes_by X P _ _ x (some_bind _ g1 refl) (goes_at X P _ x (stop (aborted words q.0)) k1 (ap (λ vs. Some (stop (aborted words vs))) (sym same)))
+
+    begun_goes : (p : Place) (u : ℕ) (o1 o2 : Option Dropping) (d : Dropping) → s1.top.dropping ≡ o1 → DropsRel j o1 o2 → begun H1 s1 p u o1 ≡ Some d → (e : Dropping) × (begun H2 s2 p u o2 ≡ Some e) × DropRel j d e × AddrTy D G d.place.addr d.place.ty × VisitsTy X.source V.valid1 G d.items
+    unfolding begun
+    begun_goes p u (Some d') (Some e') d p1 dr q =
+        let same : d' ≡ d = some_val q in
+        let ty = subst (MaybeDrop X.source V.valid1 G) (p1 ∙ q) r.typed1.top.dropping in
+        (e', refl, subst (λ d. DropRel j d e') same dr, ty.0, ty.1)
+    begun_goes p u None None d p1 dr q =
+        let (a, q1, k1) = bind_some q in
+        let (t, q2, k2) = bind_some k1 in
+        let (c, g1, ac) = text.resolve_rel D bo.locals bo.locals s1.top.frame s2.top.frame j j low j low low s2.memory s1.memory p p a (place_as p) r.core.linked.mem q1 in
+        let at = resolve_ty D G bok bo.locals s1.top.frame lok s1.memory p a t r.typed1.mem q2 q1 in
+        let vr : VisitRel j (record { addr = a; ty = t }) (record { addr = c; ty = t }) = record { addr = ac; ty = refl } in
+        let e : Dropping = record { place = record { addr = c; ty = t }; target = u; items = record { addr = c; ty = t } ∷ [] } in
+        let (rd, rp, ri) = subst (λ (d : Dropping). DropRel j d e × AddrTy D G d.place.addr d.place.ty × VisitsTy X.source V.valid1 G d.items) (some_val k2) (record { place = vr; target = refl; items = (vr, tt) }, at, (at, tt)) in
+        (e, some_bind _ g1 (some_bind _ (sym (text.place_ty_rel D bo.locals bo.locals s1.top.frame s2.top.frame j j low j p p (place_as p)) ∙ q2) refl), rd, rp, ri)
+    begun_goes p u None (Some e') d p1 dr q = absurd dr
+    begun_goes p u (Some d') None d p1 dr q = absurd dr
+
+    finish_goes : (t : Term) (x : Next) → FewTerm X.source t → TermMoves H1 t → TermTy X.source H1 t → DropPlain t → finish X.source H1 s1 t ≡ Some x → Flat x → Goes X P (finish (target X) H2 s2 t) x
+    unfolding finish closed2 closed1
+    finish_goes (Goto u) x fw ok ty hd e fl = to_block_goes s2.memory s1.memory u x start e
+    finish_goes (Switch o arms u) x fw ok ty hd e fl =
+        let (q, e1, k1) = bind_some e in
+        let (q', g1, same, h) = number_read S Q o o (reads_one o ok) s2.memory s1.memory q first e1 in
+        goes_by X P _ _ x (some_bind _ g1 (ap (λ i. go_on s2 q'.1 (to_block (take_arm i arms u) s2.top)) (sym same))) (to_block_goes q'.1 q.1 (take_arm q.0 arms u) x h.0 k1)
+    finish_goes Return x fw ok ty hd e fl =
+        let (v, e1, k1) = bind_some e in
+        let ((w, g1, rel), at) = text.read_at_rel D bo.locals bo.locals s1.top.frame s2.top.frame j j low s2.memory s1.memory (local_addr s1.top.frame 0) (local_addr s2.top.frame 0) v zero r.core.linked.mem e1 in
+        goes_by X P _ _ x (some_bind _ g1 refl) (return_goes X P V Inv laws n s2 s1 r (λ h x y v e q. (al.only h x y e).0) (λ h x y lt e. (let same = (al.only h x y e).0 in omega (arith, same, lt))) be bo eb v w x (rel, whole_tight j v w rel (read_at_whole s1.memory (local_addr s1.top.frame 0) v e1)) k1 fl)
+      where
+        zero : AddrRel j (local_addr s1.top.frame 0) (local_addr s2.top.frame 0)
+        zero = zero_rel j s1.top.frame s2.top.frame (al.roots 0)
+    finish_goes Unreachable x fw ok ty hd e fl = absurd (grind arith)
+    finish_goes (Drop p u) x fw ok ty hd e fl =
+        let (d, e1, k1) = bind_some e in
+        let (d2, g1, dr, pty, tys) = begun_goes p u s1.top.dropping s2.top.dropping d refl al.drops e1 in
+        let (b', y, lt, eb', ey, pl, its) = begun_own X.source s1 r.drops bo eb p u s1.top.dropping d hd refl e1 in
+        goes_by X P _ _ x (some_bind _ g1 refl) (work_off_goes d d2 d.items d2.items x y lt b' eb' ey its tys dr dr.items pty k1)
+    finish_goes (Call p g os u) x fw ok (t, pt, ct) hd e fl =
+        let (d, e1, k1) = bind_some e in
+        let (q, e2, k2) = bind_some k1 in
+        let (d2, g1, dr) = kept.dest_as D bo.locals bo.locals s1.top.frame s2.top.frame j j low G bok lok Q keeps s2.memory s1.memory p p d (place_as p) first e1 in
+        let (q', g2, hv, h) = all_read S Q os os (reads_all os ok) s2.memory s1.memory q first e2 in
+        let at = dest_ty D G bok bo.locals s1.top.frame lok s1.memory p t d r.typed1.mem pt e1 in
+        goes_by X P _ _ x (some_bind _ g1 (some_bind _ g2 refl)) (call_goes q'.1 q.1 u d2 d g os q.0 q'.0 t x fw (read_long H1 os s1.memory q e2) h.0 dr at hv k2)
+    finish_goes (Assert o c words os u) x fw ok ty hd e fl =
+        let (q, e1, k1) = bind_some e in
+        let (q', g1, same, h) = number_read S Q o o (reads_one o ok.0) s2.memory s1.memory q first e1 in
+        goes_by X P _ _ x (some_bind _ g1 (ap (λ i. check H2 s2 q'.1 (nat_eq i (flag c)) words os u) (sym same))) (check_goes q'.1 q.1 (nat_eq q.0 (flag c)) words os u x h ok.1 k1)
+
+    -- a statement, or the terminator
+    perform_goes : (t : Term) (o : Option TypedStmt) (x : Next) → FewTerm X.source t → TermMoves H1 t → TermTy X.source H1 t → DropPlain t → ((st : TypedStmt) → o ≡ Some st → StmtMoves H1 st × StmtTy D G bok bo.locals s1.top.frame lok st) → perform X.source H1 s1 t o ≡ Some x → Flat x → Goes X P (perform (target X) H2 s2 t o) x
+    unfolding perform
+    perform_goes t None x fw ok ty hd st e fl = finish_goes t x fw ok ty hd e fl
+    perform_goes t (Some st) x fw ok ty hd sk e fl =
+        let (so, sty) = sk st refl in
+        let (m1', e1, k1) = bind_some e in
+        let (m2', g1, h) = kept.exec_as D bo.locals bo.locals s1.top.frame s2.top.frame j j low G bok lok Q keeps st st (stmt_as st so sty) s2.memory s1.memory m1' (λ z. payloads) first e1 in
+        goes_by X P _ _ x (some_bind _ g1 (ap₂ (λ i a. go_on s2 m2' (record s2.top { block = i; at = suc a })) al.block al.at)) (goes_at X P _ x _ k1 (goes_on X P V Inv laws G j s2 s1 s2.top s1.top r.core.base r.core.linked al ag be ks m2' m1' s1.top.block (suc s1.top.at) s2.top.dropping s1.top.dropping h.0 al.drops))
+
+  -- one step
+  pub other_step : (x : Next) → step X.source s1 ≡ Some x → Flat x → Goes X P (step (target X) s2) x
+  unfolding step
+  other_step x e fl =
+      let (bo, k, eb, ek, q) = step_parts X.source s1 x e in
+      let same2 : slice_get X.bodies s2.top.function ≡ Some bo = ap (slice_get X.bodies) al.function ∙ X.others s1.top.function al.other ∙ eb in
+      goes_by X P _ _ x
+      (some_bind _ same2 (some_bind _ (ap (slice_get bo.blocks) al.block ∙ ek) (ap (λ a. perform (target X) (record { shapes = D; locals = bo.locals; frame = s2.top.frame }) s2 k.term (slice_get k.stmts a)) al.at)))
+      (perform_goes bo eb k.term (slice_get k.stmts s1.top.at) x (V.calls s1.top.function bo s1.top.block k eb ek) (V.terms s1.top.frame s1.top.function bo s1.top.block k eb ek) (V.valid1.terms s1.top.frame s1.top.function bo s1.top.block k eb ek) (V.plain s1.top.function bo s1.top.block k eb ek)
+      (λ st es. (V.stmts s1.top.frame s1.top.function bo s1.top.block k s1.top.at st eb ek es, V.valid1.stmts G s1.top.frame s1.top.function bo s1.top.block k s1.top.at st eb ek es (r.typed1.top.locals bo eb))) q fl)
