@@ -366,7 +366,7 @@ module _ (X : Change) (same_locals : X.body2.locals ≡ X.body1.locals) (Place :
         d d2 x (begun_own X.source s1 r.drops X.body1 eb p u1 s1.top.dropping d hd refl e1) tys vs0 tg0 pty k1)
 
     by_likewise : (t t2 : Term) → SameTerm Tos t2 t → NoDrop t → TermMoves H1 t → TermTy X.source H1 t → FewTerm X.source t → (x : Next) → finish X.source H1 s1 t ≡ Some x → Flat x → Goes X P (finish (target X) S.target s2 t2) x
-    by_likewise t t2 h nd mo ty few x e fl = own.finish_likewise X P V Inv frames n s2 s1 r [] s1.callers refl (omega arith) be S Q left refl first refl refl X.body1 eb (λ h x y v e q. (st.only h x y e).0) (λ h x y lt e. (let z = (st.only h x y e).0 in omega (arith, z, lt))) t t2 x few (likewise t t2 h nd mo ty) e fl
+    by_likewise t t2 h nd mo ty few x e fl = own.same_step_goes X P V Inv frames n s2 s1 r [] s1.callers refl (omega arith) be S Q left refl first refl refl X.body1 eb (λ h x y v e q. (st.only h x y e).0) (λ h x y lt e. (let z = (st.only h x y e).0 in omega (arith, z, lt))) t t2 x few (likewise t t2 h nd mo ty) e fl
 
     end_goes : (t t2 : Term) → ((k : TypedBlock) → slice_get X.body1.blocks s1.top.block ≡ Some k → (k.term ≡ t) × (slice_get k.stmts s1.top.at ≡ None)) → SameTerm Tos t2 t → TermMoves H1 t → TermTy X.source H1 t → FewTerm X.source t → DropPlain t → (x : Next) → finish X.source H1 s1 t ≡ Some x → Flat x → Goes X P (finish (target X) S.target s2 t2) x
     end_goes (Drop p u1) (Drop q u2) hk h mo ty few hd x e fl = subst (λ q. Goes X P (finish (target X) S.target s2 (Drop q u2)) x) (sym h.0) (drop_goes (λ k ek. (let (t, z) = hk k ek in (subst IsDrop (sym t) tt, z))) p u1 u2 h.1 hd x e)

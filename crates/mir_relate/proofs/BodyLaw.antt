@@ -21,7 +21,7 @@ use Rattle.mir_renaming.proofs.Agree.{tight_agree}
 use Rattle.mir_renaming.proofs.Tight.{Tights, slots_tight, tight_in, tights_self}
 use Rattle.mir_renaming.proofs.Items.{step_drops}
 use Rattle.mir_relate.specs.Alike.{AllSame}
-use Rattle.mir_relate.specs.Frames.{Change, target, Pass, lowest, opened, Agrees, Alike, Below, Base, Core}
+use Rattle.mir_relate.specs.Frames.{Change, target, Pass, lowest, opened, Agrees, Twin, Below, Base, Core}
 use Rattle.mir_relate.specs.Pass.{Valids, Laws, Goes, Answers, Related}
 use Rattle.mir_relate.proofs.Leaves.{some_val}
 use Rattle.mir_relate.proofs.Opens.{opened_at, opened_parts, opened_old, linked_open}
@@ -66,7 +66,7 @@ module _ (X : Change) (P : Pass) (V : Valids X) (Inv : State → Type 0) (laws :
           fl : Flat x
           fl = laws.flat s1 x r.inv e
 
-          pick : (Alike X r.core.lent s2.top s1.top × Agrees X s2.top s1.top s2.memory s1.memory × Below X P r.core.lent s2.top.dest s1.top.dest s2.top.frame s1.top.frame s2.callers s1.callers s2.memory s1.memory) ⊎ ((gs ds : List Control) × (s1.callers ≡ gs ++ ds) × ((lowest s1.top gs).frame ≤ s1.top.frame) × P.own n r.core.lent s2.top s1.top gs s2.memory s1.memory × Below X P r.core.lent s2.top.dest (lowest s1.top gs).dest s2.top.frame (lowest s1.top gs).frame s2.callers ds s2.memory s1.memory) → Answers X P n s2 x
+          pick : (Twin X r.core.lent s2.top s1.top × Agrees X s2.top s1.top s2.memory s1.memory × Below X P r.core.lent s2.top.dest s1.top.dest s2.top.frame s1.top.frame s2.callers s1.callers s2.memory s1.memory) ⊎ ((gs ds : List Control) × (s1.callers ≡ gs ++ ds) × ((lowest s1.top gs).frame ≤ s1.top.frame) × P.own n r.core.lent s2.top s1.top gs s2.memory s1.memory × Below X P r.core.lent s2.top.dest (lowest s1.top gs).dest s2.top.frame (lowest s1.top gs).frame s2.callers ds s2.memory s1.memory) → Answers X P n s2 x
           pick (inl (al, ag, be)) = goes_answer X P n s2 x (other_step X P V Inv laws.frames n s2 s1 r al ag be x e fl)
           pick (inr (gs, ds, q, lo, own, be)) = laws.steps n s2 s1 r gs ds x q lo own be e fl
 

@@ -16,7 +16,7 @@ use Rattle.mir_renaming.proofs.Stores.{pair_parts, root_of}
 use Rattle.mir_renaming.proofs.Items.{InLocal, Items, OwnDrop, FirstNeeds}
 use Rattle.mir_relate.specs.Alike.{GotMemory, Same}
 use Rattle.mir_relate.specs.Leaves.{Leaves}
-use Rattle.mir_relate.specs.Frames.{Change, Pass, VisitRel, VisitsRel, DropRel, DropsRel, Agrees, Alike, Below, Base, Core}
+use Rattle.mir_relate.specs.Frames.{Change, Pass, VisitRel, VisitsRel, DropRel, DropsRel, Agrees, Twin, Below, Base, Core}
 use Rattle.mir_relate.specs.Pass.{KnowsAll, Valids, FrameLaws, Goes}
 use Rattle.mir_relate.proofs.Leaves.{some_val, leaves_none, leaves_then, leaves_write, leaves_less}
 use Rattle.mir_relate.proofs.Stacks.{agrees_kept, below_kept}
@@ -74,7 +74,7 @@ append_rel j (i ∷ is) [] ls ms h g = absurd h
 
 -- ---- a frame of a function that is left alone, about to run
 
-module _ (X : Change) (P : Pass) (V : Valids X) (Inv : State → Type 0) (laws : FrameLaws X P V Inv) (G : TypeMap) (j : Renaming) (s2 s1 : State) (c2 c1 : Control) (b : Base j (record s2 { top = c2 }) (record s1 { top = c1 })) (l : Linked j j s2.memory s1.memory) (al : Alike X j c2 c1) (ag : Agrees X c2 c1 s2.memory s1.memory) (be : Below X P j c2.dest c1.dest c2.frame c1.frame s2.callers s1.callers s2.memory s1.memory) (ks : KnowsAll X G (c1 ∷ s1.callers)) where
+module _ (X : Change) (P : Pass) (V : Valids X) (Inv : State → Type 0) (laws : FrameLaws X P V Inv) (G : TypeMap) (j : Renaming) (s2 s1 : State) (c2 c1 : Control) (b : Base j (record s2 { top = c2 }) (record s1 { top = c1 })) (l : Linked j j s2.memory s1.memory) (al : Twin X j c2 c1) (ag : Agrees X c2 c1 s2.memory s1.memory) (be : Below X P j c2.dest c1.dest c2.frame c1.frame s2.callers s1.callers s2.memory s1.memory) (ks : KnowsAll X G (c1 ∷ s1.callers)) where
   abbrev D : List Shape
   D = X.source.shapes
 
@@ -85,8 +85,8 @@ module _ (X : Change) (P : Pass) (V : Valids X) (Inv : State → Type 0) (laws :
   abbrev pub at2 : ℕ → ℕ → Option Dropping → Control
   at2 i a o = record { function = c2.function; frame = c2.frame; block = i; at = a; dropping = o; dest = c2.dest }
 
-  pub alike_at : (i a : ℕ) (o2 o1 : Option Dropping) → DropsRel j o1 o2 → Alike X j (at2 i a o2) (at1 i a o1)
-  alike_at i a o2 o1 dr = record { other = al.other; function = al.function; block = refl; at = refl; roots = al.roots; only = al.only; drops = dr }
+  pub twin_at : (i a : ℕ) (o2 o1 : Option Dropping) → DropsRel j o1 o2 → Twin X j (at2 i a o2) (at1 i a o1)
+  twin_at i a o2 o1 dr = record { other = al.other; function = al.function; block = refl; at = refl; roots = al.roots; only = al.only; drops = dr }
 
   -- what is left of it and of the frames that wait
   abbrev pub Left : Memory → Memory → Type 0
@@ -102,7 +102,7 @@ module _ (X : Change) (P : Pass) (V : Valids X) (Inv : State → Type 0) (laws :
   below_left m2 m1 h = below_kept X P laws.kept G j j c2.dest c1.dest c2.frame c1.frame s2.callers s1.callers m2 m1 s2.memory s1.memory ks.1 (leaves_less D G j j (suc c2.frame) (suc c1.frame) c2.frame c1.frame m2 m1 s2.memory s1.memory (omega arith) (omega arith) h.1) be
 
   pub core_on : (m2 m1 : Memory) (i a : ℕ) (o2 o1 : Option Dropping) → Left m2 m1 → DropsRel j o1 o2 → Core X P 0 (record s2 { memory = m2; top = at2 i a o2 }) (record s1 { memory = m1; top = at1 i a o1 })
-  core_on m2 m1 i a o2 o1 h dr = record { lent = j; base = record { fresh1 = b.fresh1; fresh2 = b.fresh2; top1 = b.top1; top2 = b.top2; answers = b.answers; trace = b.trace }; linked = h.0; runs = inl (alike_at i a o2 o1 dr, agrees_left m2 m1 h, below_left m2 m1 h) }
+  core_on m2 m1 i a o2 o1 h dr = record { lent = j; base = record { fresh1 = b.fresh1; fresh2 = b.fresh2; top1 = b.top1; top2 = b.top2; answers = b.answers; trace = b.trace }; linked = h.0; runs = inl (twin_at i a o2 o1 dr, agrees_left m2 m1 h, below_left m2 m1 h) }
 
   pub goes_on : (m2 m1 : Memory) (i a : ℕ) (o2 o1 : Option Dropping) → Left m2 m1 → DropsRel j o1 o2 → Goes X P (go_on s2 m2 (at2 i a o2)) (on (record s1 { memory = m1; top = at1 i a o1 }))
   goes_on m2 m1 i a o2 o1 h dr = (0, _, refl, core_on m2 m1 i a o2 o1 h dr)

@@ -27,7 +27,7 @@ use Rattle.mir_renaming.proofs.Stores.{root_of}
 use Rattle.mir_relate.specs.Pass.{MoveOk, KnowsAll, Valids, FewArgs, FewTerm, AllMoves, RvalueMoves, StmtMoves, TermMoves, FrameLaws, Goes, Related}
 use Rattle.mir_renaming.proofs.Items.{InLocal, Items, begun_own, DropPlain, step_parts}
 use Rattle.mir_relate.specs.Alike.{Between, GotMemory, Sides, AllSame, Reads, AllRead}
-use Rattle.mir_relate.specs.Frames.{Change, target, Pass, VisitRel, VisitsRel, DropRel, DropsRel, DestsRel, Agrees, Alike, Below}
+use Rattle.mir_relate.specs.Frames.{Change, target, Pass, VisitRel, VisitsRel, DropRel, DropsRel, DestsRel, Agrees, Twin, Below}
 use Rattle.mir_relate.proofs.Alike.{number_read, all_read, integers_read}
 use Rattle.mir_relate.proofs.Kept as kept
 use Rattle.mir_relate.proofs.Leaves.{some_val, leaves_then, leaves_write, leaves_alone}
@@ -35,7 +35,7 @@ use Rattle.mir_relate.proofs.Stacks.{knows_all}
 use Rattle.mir_relate.proofs.Enter.{goes_at, goes_by, enter_goes}
 use Rattle.mir_relate.proofs.Returns.{closed2, closed1, return_goes}
 use Rattle.mir_relate.proofs.Drops as drops
-use Rattle.mir_relate.proofs.Drops.{parts_rel, append_rel, left_same, left_write, left_store, agrees_left, below_left, alike_at, core_on, goes_on, item_at, work_on_goes}
+use Rattle.mir_relate.proofs.Drops.{parts_rel, append_rel, left_same, left_write, left_store, agrees_left, below_left, twin_at, core_on, goes_on, item_at, work_on_goes}
 
 pub read_long : (h : Here) (os : List Operand) (m : Memory) (r : List Value × Memory) → read_all h m os ≡ Some r → length r.0 ≡ length os
 unfolding read_all
@@ -65,7 +65,7 @@ zero_rel : (j : Renaming) (f g : ℕ) → j f 0 ≡ Some (g, 0) → AddrRel j (l
 unfolding local_addr
 zero_rel j f g e = record { root = e; path = refl }
 
-module _ (X : Change) (P : Pass) (V : Valids X) (Inv : State → Type 0) (laws : FrameLaws X P V Inv) (n : ℕ) (s2 s1 : State) (r : Related X P V Inv n s2 s1) (al : Alike X r.core.lent s2.top s1.top) (ag : Agrees X s2.top s1.top s2.memory s1.memory) (be : Below X P r.core.lent s2.top.dest s1.top.dest s2.top.frame s1.top.frame s2.callers s1.callers s2.memory s1.memory) where
+module _ (X : Change) (P : Pass) (V : Valids X) (Inv : State → Type 0) (laws : FrameLaws X P V Inv) (n : ℕ) (s2 s1 : State) (r : Related X P V Inv n s2 s1) (al : Twin X r.core.lent s2.top s1.top) (ag : Agrees X s2.top s1.top s2.memory s1.memory) (be : Below X P r.core.lent s2.top.dest s1.top.dest s2.top.frame s1.top.frame s2.callers s1.callers s2.memory s1.memory) where
   abbrev D : List Shape
   D = X.source.shapes
 
@@ -89,7 +89,7 @@ module _ (X : Change) (P : Pass) (V : Valids X) (Inv : State → Type 0) (laws :
   to_goes m2 m1 u h = goes_on X P V Inv laws G j s2 s1 s2.top s1.top r.core.base r.core.linked al ag be ks m2 m1 u 0 None None h tt
 
   -- this frame waits for another one
-  below_this : (m2 m1 : Memory) (c2 c1 : Control) (d2 d1 : Option Dest) → c2.frame ≡ s2.top.frame → c1.frame ≡ s1.top.frame → c2.dest ≡ s2.top.dest → c1.dest ≡ s1.top.dest → Alike X j c2 c1 → Agrees X c2 c1 m2 m1 → DestsRel j d1 d2 → Left m2 m1 → Below X P j d2 d1 s2.next s1.next (c2 ∷ s2.callers) (c1 ∷ s1.callers) m2 m1
+  below_this : (m2 m1 : Memory) (c2 c1 : Control) (d2 d1 : Option Dest) → c2.frame ≡ s2.top.frame → c1.frame ≡ s1.top.frame → c2.dest ≡ s2.top.dest → c1.dest ≡ s1.top.dest → Twin X j c2 c1 → Agrees X c2 c1 m2 m1 → DestsRel j d1 d2 → Left m2 m1 → Below X P j d2 d1 s2.next s1.next (c2 ∷ s2.callers) (c1 ∷ s1.callers) m2 m1
   below_this m2 m1 c2 c1 d2 d1 f2 f1 e2 e1 a g dr h =
       inl (
         c1,
@@ -129,7 +129,7 @@ module _ (X : Change) (P : Pass) (V : Valids X) (Inv : State → Type 0) (laws :
   unfolding call
   call_goes m2 m1 u d2 d1 (callee.Local g) os vs ws at x few long h hd ty hv e =
       enter_goes X P V Inv laws G j s2 s1 m2 m1 r.core.base h.0 (to_block u s2.top) (to_block u s1.top) (Some d2) (Some d1) ks
-      (below_this m2 m1 (to_block u s2.top) (to_block u s1.top) (Some d2) (Some d1) refl refl refl refl (alike_at X P V Inv laws G j s2 s1 s2.top s1.top r.core.base r.core.linked al ag be ks u 0 None None tt) (agrees_left X P V Inv laws G j s2 s1 s2.top s1.top r.core.base r.core.linked al ag be ks m2 m1 h) hd h)
+      (below_this m2 m1 (to_block u s2.top) (to_block u s1.top) (Some d2) (Some d1) refl refl refl refl (twin_at X P V Inv laws G j s2 s1 s2.top s1.top r.core.base r.core.linked al ag be ks u 0 None None tt) (agrees_left X P V Inv laws G j s2 s1 s2.top s1.top r.core.base r.core.linked al ag be ks m2 m1 h) hd h)
       vs ws hv g.0 x (λ b eb. (let f = few b eb in omega (arith, f, long))) e
   call_goes m2 m1 u d2 d1 (callee.Outside o) os vs ws at x few long h hd ty hv e =
       let (out, e1, k1) = bind_some e in
@@ -138,8 +138,8 @@ module _ (X : Change) (P : Pass) (V : Valids X) (Inv : State → Type 0) (laws :
 
   -- ---- drops
 
-  alike_drop : (o2 o1 : Option Dropping) → DropsRel j o1 o2 → Alike X j (record s2.top { dropping = o2 }) (record s1.top { dropping = o1 })
-  alike_drop o2 o1 dr = record { other = al.other; function = al.function; block = al.block; at = al.at; roots = al.roots; only = al.only; drops = dr }
+  twin_drop : (o2 o1 : Option Dropping) → DropsRel j o1 o2 → Twin X j (record s2.top { dropping = o2 }) (record s1.top { dropping = o1 })
+  twin_drop o2 o1 dr = record { other = al.other; function = al.function; block = al.block; at = al.at; roots = al.roots; only = al.only; drops = dr }
 
   visit_goes : (d e : Dropping) (i k : Visit) (is js : List Visit) (v w : Value) (g : Option ℕ) (x : Next) → destructor_of D i.ty ≡ g → DropRel j d e → VisitRel j i k → VisitsRel j is js → AddrTy D G d.place.addr d.place.ty → ValueRel j v w → (is_hole v ≡ true → is_hole w ≡ true) → visit X.source s1 d i is v g ≡ Some x → Goes X P (visit (target X) s2 e k js w g) x
   unfolding visit
@@ -151,7 +151,7 @@ module _ (X : Change) (P : Pass) (V : Valids X) (Inv : State → Type 0) (laws :
       let e' : Dropping = record e { items = k ∷ js } in
       let rels : DropsRel j (Some d') (Some e') = record { place = dr.place; target = dr.target; items = (h, vs) } in
       enter_goes X P V Inv laws G j s2 s1 s2.memory s1.memory r.core.base r.core.linked (record s2.top { dropping = Some e' }) (record s1.top { dropping = Some d' }) None None ks
-      (below_this s2.memory s1.memory (record s2.top { dropping = Some e' }) (record s1.top { dropping = Some d' }) None None refl refl refl refl (alike_drop (Some e') (Some d') rels) ag tt start)
+      (below_this s2.memory s1.memory (record s2.top { dropping = Some e' }) (record s1.top { dropping = Some d' }) None None refl refl refl refl (twin_drop (Some e') (Some d') rels) ag tt start)
       (pointer i.addr ∷ []) (pointer k.addr ∷ []) ((h.addr, tt), (tt, tt)) g x (λ b eb. V.destroys i.ty g b eg eb) q
 
   unless_goes : (d e : Dropping) (i k : Visit) (is js : List Visit) (v w : Value) (c : Bool) (x : Next) → DropRel j d e → VisitRel j i k → VisitsRel j is js → AddrTy D G d.place.addr d.place.ty → ValueRel j v w → (is_hole v ≡ true → is_hole w ≡ true) → visit_unless X.source s1 d i is v c ≡ Some x → Goes X P (visit_unless (target X) s2 e k js w c) x

@@ -86,14 +86,14 @@ module _ (X : Change) (P : Pass) (V : Valids X) (Inv : State → Type 0) (laws :
       pub waits : (m2 m1 : Memory) → Q m2 m1 → P.waits j (Some d2) (Some d1) (to_block u2 s2.top) (to_block u1 s1.top) gs m2 m1
       pub gets : (m2 m1 m1' : Memory) (v : Value) → Q m2 m1 → Same j v v → store D m1 d1 v ≡ Some m1' → (m2' : Memory) × (store D m2 d2 v ≡ Some m2') × Left m2' m1' × To m2' m1' u2 u1
 
-    abbrev pub Likewise : Term → Term → Type 0
-    Likewise (Goto u1) (Goto u2) = Edge u2 u1
-    Likewise (Switch o arms1 u1) (Switch p arms2 u2) = Reads S Q o p × ((i : ℕ) → Edge (take_arm i arms2 u2) (take_arm i arms1 u1))
-    Likewise Return Return = (gs ≡ []) × ((v : Value) → read_at s1.memory (local_addr S.source.frame 0) ≡ Some v → (w : Value) × (read_at s2.memory (local_addr S.target.frame 0) ≡ Some w) × Same j v w)
-    Likewise Unreachable t = Unit {0}
-    Likewise (Call p g os u1) (Call q h ps u2) = (g ≡ h) × AllRead S Q os ps × ((d1 : Dest) → dest_of S.source s1.memory p ≡ Some d1 → (d2 : Dest) × (dest_of S.target s2.memory q ≡ Some d2) × Goal d2 d1 u2 u1)
-    Likewise (Assert o c words os u1) (Assert p c' words' ps u2) = Reads S Q o p × (c ≡ c') × (words ≡ words') × AllRead S Q os ps × Edge u2 u1
-    Likewise t u = ⊥
+    abbrev pub SameStep : Term → Term → Type 0
+    SameStep (Goto u1) (Goto u2) = Edge u2 u1
+    SameStep (Switch o arms1 u1) (Switch p arms2 u2) = Reads S Q o p × ((i : ℕ) → Edge (take_arm i arms2 u2) (take_arm i arms1 u1))
+    SameStep Return Return = (gs ≡ []) × ((v : Value) → read_at s1.memory (local_addr S.source.frame 0) ≡ Some v → (w : Value) × (read_at s2.memory (local_addr S.target.frame 0) ≡ Some w) × Same j v w)
+    SameStep Unreachable t = Unit {0}
+    SameStep (Call p g os u1) (Call q h ps u2) = (g ≡ h) × AllRead S Q os ps × ((d1 : Dest) → dest_of S.source s1.memory p ≡ Some d1 → (d2 : Dest) × (dest_of S.target s2.memory q ≡ Some d2) × Goal d2 d1 u2 u1)
+    SameStep (Assert o c words os u1) (Assert p c' words' ps u2) = Reads S Q o p × (c ≡ c') × (words ≡ words') × AllRead S Q os ps × Edge u2 u1
+    SameStep t u = ⊥
 
     pub to_goes : (m2 m1 : Memory) (u2 u1 : ℕ) (x : Next) → Q m2 m1 → Edge u2 u1 → go_on s1 m1 (to_block u1 s1.top) ≡ Some x → Goes X P (go_on s2 m2 (to_block u2 s2.top)) x
     to_goes m2 m1 u2 u1 x q e k =
@@ -146,27 +146,27 @@ module _ (X : Change) (P : Pass) (V : Valids X) (Inv : State → Type 0) (laws :
           go [] e q b = subst (λ cs. Below X P j s2.top.dest s1.top.dest s2.top.frame s1.top.frame s2.callers cs s2.memory s1.memory) (sym q) b
           go (g ∷ gs) e q b = absurd (grind arith)
 
-      pub finish_likewise : (t u : Term) (x : Next) → FewTerm X.source t → Likewise t u → finish X.source S.source s1 t ≡ Some x → Flat x → Goes X P (finish (target X) S.target s2 u) x
+      pub same_step_goes : (t u : Term) (x : Next) → FewTerm X.source t → SameStep t u → finish X.source S.source s1 t ≡ Some x → Flat x → Goes X P (finish (target X) S.target s2 u) x
       unfolding finish closed1 closed2
-      finish_likewise (Goto u1) (Goto u2) x few h e fl = to_goes s2.memory s1.memory u2 u1 x first h e
-      finish_likewise (Switch o arms1 u1) (Switch p arms2 u2) x few (ho, he) e fl =
+      same_step_goes (Goto u1) (Goto u2) x few h e fl = to_goes s2.memory s1.memory u2 u1 x first h e
+      same_step_goes (Switch o arms1 u1) (Switch p arms2 u2) x few (ho, he) e fl =
           let (a, e1, k1) = bind_some e in
           let (a', g1, same, q) = number_read S Q o p ho s2.memory s1.memory a first e1 in
           goes_by X P _ _ x (some_bind _ g1 (ap (λ i. go_on s2 a'.1 (to_block (take_arm i arms2 u2) s2.top)) (sym same))) (to_goes a'.1 a.1 (take_arm a.0 arms2 u2) (take_arm a.0 arms1 u1) x q (he a.0) k1)
-      finish_likewise Return Return x few h e fl =
+      same_step_goes Return Return x few h e fl =
           let (v, e1, k1) = bind_some e in
           let (w, g1, hv) = h.1 v e1 in
           goes_by X P _ _ x (some_bind _ g1 (ap (λ i. return_to D s2 (close_frame s2.memory i) s2.top.dest s2.callers w) frame2))
           (return_goes X P V Inv laws n s2 s1 r only none (alone h.0) bo eb v w x hv (ap (λ i. return_to D s1 (close_frame s1.memory i) s1.top.dest s1.callers v) (sym frame1) ∙ k1) fl)
-      finish_likewise Unreachable u x few h e fl = absurd (grind arith)
-      finish_likewise (Call p g os u1) (Call p' g' ps u2) x few (hg, ho, hd) e fl =
+      same_step_goes Unreachable u x few h e fl = absurd (grind arith)
+      same_step_goes (Call p g os u1) (Call p' g' ps u2) x few (hg, ho, hd) e fl =
           let (d1, e1, k1) = bind_some e in
           let (a, e2, k2) = bind_some k1 in
           let (d2, g1, gl) = hd d1 e1 in
           let (a', g2, hv, q) = all_read S Q os ps ho s2.memory s1.memory a first e2 in
           goes_by X P _ _ x (some_bind _ g1 (some_bind _ g2 (ap (λ g. call (target X) s2 a'.1 (to_block u2 s2.top) d2 g a'.0) (sym hg)))) (call_goes a'.1 a.1 u2 u1 d2 d1 g os a.0 a'.0 x few (read_long S.source os s1.memory a e2) q gl (subst (λ i. AllSame i a.0 a'.0) lent hv) k2)
-      finish_likewise (Assert o c words os u1) (Assert p c' words' ps u2) x few (hp, hc, hw, ho, he) e fl =
+      same_step_goes (Assert o c words os u1) (Assert p c' words' ps u2) x few (hp, hc, hw, ho, he) e fl =
           let (a, e1, k1) = bind_some e in
           let (a', g1, same, q) = number_read S Q o p hp s2.memory s1.memory a first e1 in
           goes_by X P _ _ x (some_bind _ g1 (ap₂ (λ c words. check S.target s2 a'.1 (nat_eq a'.0 (flag c)) words ps u2) (sym hc) (sym hw) ∙ ap (λ i. check S.target s2 a'.1 (nat_eq i (flag c)) words ps u2) (sym same))) (check_goes a'.1 a.1 (nat_eq a.0 (flag c)) words os ps u2 u1 x q ho he k1)
-      finish_likewise t u x few h e fl = absurd h
+      same_step_goes t u x few h e fl = absurd h

@@ -14,7 +14,7 @@ use Rattle.mir_renaming.proofs.Typed.{FrameTy, FramesTy, MaybeDrop, VisitsTy}
 use Rattle.mir_renaming.proofs.Ghosts.{plain_same, Flat}
 use Rattle.mir_renaming.proofs.Items.{Owns}
 use Rattle.mir_relate.specs.Alike.{Same}
-use Rattle.mir_relate.specs.Frames.{Change, Pass, DestsRel, Agrees, Alike, Below, Base}
+use Rattle.mir_relate.specs.Frames.{Change, Pass, DestsRel, Agrees, Twin, Below, Base}
 use Rattle.mir_relate.specs.Pass.{KnowsAll, Valids, FrameLaws, Goes, Related}
 use Rattle.mir_relate.proofs.Leaves.{some_val, leaves_close}
 use Rattle.mir_relate.proofs.Opens.{linked_close}
@@ -56,7 +56,7 @@ module _ (X : Change) (P : Pass) (V : Valids X) (Inv : State → Type 0) (laws :
       (leaves_close D G j s2.memory s1.memory s2.top.frame s1.top.frame s2.top.frame s1.top.frame (omega arith) (omega arith) none) h
 
   -- the caller is a frame of a function that is left alone
-  back_goes : (c2 c1 : Control) (cs2 ds : List Control) (d2 d1 : Option Dest) (v w : Value) (x : Next) → KnowsAll X G (c1 ∷ ds) → FrameTy X.source V.valid1 G c1 → Owns X.source (c1 ∷ ds) → ((d : Dest) → d1 ≡ Some d → (t : Tree) × AddrTy D G d.addr t) → c1.frame < s1.top.frame → c2.frame < s2.top.frame → Alike X j c2 c1 → Agrees X c2 c1 closed2 closed1 → DestsRel j d1 d2 → Below X P j c2.dest c1.dest c2.frame c1.frame cs2 ds closed2 closed1 → Same j v w → return_to D s1 closed1 d1 (c1 ∷ ds) v ≡ Some x → Goes X P (return_to D s2 closed2 d2 (c2 ∷ cs2) w) x
+  back_goes : (c2 c1 : Control) (cs2 ds : List Control) (d2 d1 : Option Dest) (v w : Value) (x : Next) → KnowsAll X G (c1 ∷ ds) → FrameTy X.source V.valid1 G c1 → Owns X.source (c1 ∷ ds) → ((d : Dest) → d1 ≡ Some d → (t : Tree) × AddrTy D G d.addr t) → c1.frame < s1.top.frame → c2.frame < s2.top.frame → Twin X j c2 c1 → Agrees X c2 c1 closed2 closed1 → DestsRel j d1 d2 → Below X P j c2.dest c1.dest c2.frame c1.frame cs2 ds closed2 closed1 → Same j v w → return_to D s1 closed1 d1 (c1 ∷ ds) v ≡ Some x → Goes X P (return_to D s2 closed2 d2 (c2 ∷ cs2) w) x
   unfolding return_to
   back_goes c2 c1 cs2 ds None None v w x k ty own dt lt1 lt2 a g dr b hv e =
       let t1 = r.core.base.top1 in

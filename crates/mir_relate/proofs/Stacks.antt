@@ -8,7 +8,7 @@ use Rattle.mir_renaming.proofs.Ghosts.{addr_mono}
 use Rattle.mir_renaming.proofs.Types.{TypeMap}
 use Rattle.mir_renaming.proofs.Typed.{FramesTy}
 use Rattle.mir_relate.specs.Leaves.{Leaves}
-use Rattle.mir_relate.specs.Frames.{Change, Pass, lowest, VisitRel, VisitsRel, DropsRel, DestsRel, Agrees, Alike, Below}
+use Rattle.mir_relate.specs.Frames.{Change, Pass, lowest, VisitRel, VisitsRel, DropsRel, DestsRel, Agrees, Twin, Below}
 use Rattle.mir_relate.specs.Pass.{Knows, KnowsAll, KeptLaw, Valids}
 use Rattle.mir_relate.proofs.Leaves.{leaves_less}
 
@@ -41,8 +41,8 @@ pub knows_group : (X : Change) (G : TypeMap) (gs ds : List Control) → KnowsAll
 knows_group X G [] ds h = tt
 knows_group X G (c ∷ gs) ds h = (h.0, knows_group X G gs ds h.1)
 
-pub alike_up : (X : Change) (D : List Shape) (G : TypeMap) (j j' : Renaming) (n2 n1 : ℕ) (m2' m1' m2 m1 : Memory) (c2 c1 : Control) → c2.frame < n2 → Leaves D G j j' n2 n1 m2' m1' m2 m1 → Alike X j c2 c1 → Alike X j' c2 c1
-alike_up X D G j j' n2 n1 m2' m1' m2 m1 c2 c1 lt l h = record {
+pub twin_up : (X : Change) (D : List Shape) (G : TypeMap) (j j' : Renaming) (n2 n1 : ℕ) (m2' m1' m2 m1 : Memory) (c2 c1 : Control) → c2.frame < n2 → Leaves D G j j' n2 n1 m2' m1' m2 m1 → Twin X j c2 c1 → Twin X j' c2 c1
+twin_up X D G j j' n2 n1 m2' m1' m2 m1 c2 c1 lt l h = record {
   other = h.other;
   function = h.function;
   block = h.block;
@@ -52,7 +52,7 @@ alike_up X D G j j' n2 n1 m2' m1' m2 m1 c2 c1 lt l h = record {
   drops = drops_up j j' l.up c1.dropping c2.dropping h.drops;
 }
 
-pub agrees_kept : (X : Change) (G : TypeMap) (j j' : Renaming) (n2 n1 : ℕ) (m2' m1' m2 m1 : Memory) (c2 c1 : Control) → c1.frame < n1 → Knows X G c1 → Leaves X.source.shapes G j j' n2 n1 m2' m1' m2 m1 → Alike X j c2 c1 → Agrees X c2 c1 m2 m1 → Agrees X c2 c1 m2' m1'
+pub agrees_kept : (X : Change) (G : TypeMap) (j j' : Renaming) (n2 n1 : ℕ) (m2' m1' m2 m1 : Memory) (c2 c1 : Control) → c1.frame < n1 → Knows X G c1 → Leaves X.source.shapes G j j' n2 n1 m2' m1' m2 m1 → Twin X j c2 c1 → Agrees X c2 c1 m2 m1 → Agrees X c2 c1 m2' m1'
 agrees_kept X G j j' n2 n1 m2' m1' m2 m1 c2 c1 lt ks l h a b x t v' w' eb ex p q =
     let s = l.steady c1.frame x c2.frame x t v' w' lt (h.roots x) (ks b eb x t ex) p q in
     s.agree (a b x t s.old1 s.old2 eb ex s.was1 s.was2)
@@ -68,7 +68,7 @@ module _ (X : Change) (P : Pass) (kept : KeptLaw X P) where
         e,
         l1,
         l2,
-        alike_up X X.source.shapes G j j' n2 n1 m2' m1' m2 m1 c2 c1 l2 l al,
+        twin_up X X.source.shapes G j j' n2 n1 m2' m1' m2 m1 c2 c1 l2 l al,
         agrees_kept X G j j' n2 n1 m2' m1' m2 m1 c2 c1 l1 ks'.0 l al ag,
         dests_up j j' l.up d1 d2 dr,
         below_kept G j j' c2.dest c1.dest c2.frame c1.frame cs2 ds m2' m1' m2 m1 ks'.1 (leaves_less X.source.shapes G j j' n2 n1 c2.frame c1.frame m2' m1' m2 m1 (omega (arith, l2)) (omega (arith, l1)) l) rest,

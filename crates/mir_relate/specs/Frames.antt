@@ -64,7 +64,7 @@ pub record Visiting (j : Renaming) (d e : Dropping) : Type 0 where
   pub items : VisitsRel j d.items e.items
 
 -- a frame of a function that is left alone: it stands at the same place, and each of its locals stands for the same one
-pub record Alike (X : Change) (j : Renaming) (c2 c1 : Control) : Type 0 where
+pub record Twin (X : Change) (j : Renaming) (c2 c1 : Control) : Type 0 where
   pub other : c1.function ≡ X.f → ⊥
   pub function : c2.function ≡ c1.function
   pub block : c2.block ≡ c1.block
@@ -99,7 +99,7 @@ pub record Pass : Type 1 where
 abbrev pub Below : Change → Pass → Renaming → Option Dest → Option Dest → ℕ → ℕ → List Control → List Control → Between
 Below X P j d2 d1 n2 n1 [] cs1 m2 m1 = cs1 ≡ []
 Below X P j d2 d1 n2 n1 (c2 ∷ cs2) cs1 m2 m1 =
-    ((c1 : Control) × (ds : List Control) × (cs1 ≡ c1 ∷ ds) × (c1.frame < n1) × (c2.frame < n2) × Alike X j c2 c1 × Agrees X c2 c1 m2 m1 × DestsRel j d1 d2 × Below X P j c2.dest c1.dest c2.frame c1.frame cs2 ds m2 m1)
+    ((c1 : Control) × (ds : List Control) × (cs1 ≡ c1 ∷ ds) × (c1.frame < n1) × (c2.frame < n2) × Twin X j c2 c1 × Agrees X c2 c1 m2 m1 × DestsRel j d1 d2 × Below X P j c2.dest c1.dest c2.frame c1.frame cs2 ds m2 m1)
     ⊎ ((c1 : Control) × (gs ds : List Control) × (cs1 ≡ c1 ∷ (gs ++ ds)) × (c1.frame < n1) × (c2.frame < n2) × ((lowest c1 gs).frame ≤ c1.frame) × P.waits j d2 d1 c2 c1 gs m2 m1 × Below X P j c2.dest (lowest c1 gs).dest c2.frame (lowest c1 gs).frame cs2 ds m2 m1)
 
 -- ---- states
@@ -116,7 +116,7 @@ pub record Base (j : Renaming) (s2 s1 : State) : Type 0 where
 -- the running frame is one of a function that is left alone, or one of the changed function stands for some
 abbrev pub Runs : Change → Pass → ℕ → Renaming → State → State → Type 0
 Runs X P n j s2 s1 =
-    (Alike X j s2.top s1.top × Agrees X s2.top s1.top s2.memory s1.memory × Below X P j s2.top.dest s1.top.dest s2.top.frame s1.top.frame s2.callers s1.callers s2.memory s1.memory)
+    (Twin X j s2.top s1.top × Agrees X s2.top s1.top s2.memory s1.memory × Below X P j s2.top.dest s1.top.dest s2.top.frame s1.top.frame s2.callers s1.callers s2.memory s1.memory)
     ⊎ ((gs ds : List Control) × (s1.callers ≡ gs ++ ds) × ((lowest s1.top gs).frame ≤ s1.top.frame) × P.own n j s2.top s1.top gs s2.memory s1.memory × Below X P j s2.top.dest (lowest s1.top gs).dest s2.top.frame (lowest s1.top gs).frame s2.callers ds s2.memory s1.memory)
 
 pub record Core (X : Change) (P : Pass) (n : ℕ) (s2 s1 : State) : Type 0 where

@@ -636,7 +636,7 @@ module _ (X : Change) (gone : ℕ → ℕ → Bool) (same_locals : X.body2.local
           let nil2 : drop s2.top.at left2 ≡ [] = (st.here k ek).0 ∙ ap (pruned_stmts (gone i0) s1.top.at) (drop_none k.stmts s1.top.at none) in
           let none2 : slice_get left2 s2.top.at ≡ None = get_drop left2 s2.top.at ∙ ap (λ ss. slice_get ss 0) nil2 in
           goes_answer X P n s2 x (subst (λ o. Goes X P o x) (sym (target_is ∙ ap (perform (target X) S.target s2 k.term) none2))
-          (own.finish_likewise X P V Inv (pruned.frames X gone same_locals lent Lv V Inv) n s2 s1 r [] s1.callers refl (omega arith) be S Q left refl first refl refl X.body1 eb (λ h x y v e q. (pl.only h x y e).0) (λ h x y lt e. (let z = (pl.only h x y e).0 in omega (arith, z, lt))) k.term k.term x few (likewise k ek none k.term refl (reading.no_drop i0 k ek) mo ty) e fl))
+          (own.same_step_goes X P V Inv (pruned.frames X gone same_locals lent Lv V Inv) n s2 s1 r [] s1.callers refl (omega arith) be S Q left refl first refl refl X.body1 eb (λ h x y v e q. (pl.only h x y e).0) (λ h x y lt e. (let z = (pl.only h x y e).0 in omega (arith, z, lt))) k.term k.term x few (likewise k ek none k.term refl (reading.no_drop i0 k ek) mo ty) e fl))
 
       module _ (s : TypedStmt) (es : slice_get k.stmts s1.top.at ≡ Some s) where
         rest : List TypedStmt

@@ -436,7 +436,7 @@ module _ (X : Change) (B : ℕ → Option ℕ) (once : (x x' y : ℕ) → B x �
         d d2 x (begun_own X.source s1 r.drops X.body1 eb p u1 s1.top.dropping d hd refl e1) tys (visiting d d2 dr) dr.target pty k1)
 
     by_likewise : (t t2 : Term) → TermSame (λ x y. B x ≡ Some y) t t2 → NoDrop t → TermMoves H1 t → TermTy X.source H1 t → FewTerm X.source t → (x : Next) → finish X.source H1 s1 t ≡ Some x → Flat x → Goes X P (finish (target X) S.target s2 t2) x
-    by_likewise t t2 h nd mo ty few x e fl = own.finish_likewise X P V Inv frames n s2 s1 r [] s1.callers refl (omega arith) be S Q left refl first refl refl X.body1 eb (λ h x y v e q. (st.only h x y e).0) (λ h x y lt e. (let z = (st.only h x y e).0 in omega (arith, z, lt))) t t2 x few (likewise t t2 h nd mo ty) e fl
+    by_likewise t t2 h nd mo ty few x e fl = own.same_step_goes X P V Inv frames n s2 s1 r [] s1.callers refl (omega arith) be S Q left refl first refl refl X.body1 eb (λ h x y v e q. (st.only h x y e).0) (λ h x y lt e. (let z = (st.only h x y e).0 in omega (arith, z, lt))) t t2 x few (likewise t t2 h nd mo ty) e fl
 
     end_goes : (t t2 : Term) → TermSame (λ x y. B x ≡ Some y) t t2 → TermMoves H1 t → TermTy X.source H1 t → FewTerm X.source t → DropPlain t → (x : Next) → finish X.source H1 s1 t ≡ Some x → Flat x → Goes X P (finish (target X) S.target s2 t2) x
     end_goes (Drop p u1) (Drop q u2) h mo ty few hd x e fl = drop_goes p q u1 u2 h.0 h.1 hd x e
