@@ -8,3 +8,4 @@ pub mod Leaves
 pub mod Mild
 pub mod Frames
 pub mod Pass
+pub mod Passes

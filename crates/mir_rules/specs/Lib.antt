@@ -10,3 +10,5 @@ pub mod Limits
 pub mod Faults
 pub mod Valid
 pub mod Accepted
+pub mod Drops
+pub mod Calls

@@ -17,7 +17,7 @@ use Rattle.liveness.proofs.Paths as paths
 use Rattle.prune_control.specs.Reads.{pruned_by}
 use Rattle.valid_runs.proofs.Codes.{valid_code}
 use Rattle.valid_runs.proofs.Shown.{step_flat, step_known}
-use Rattle.prune_refines.specs.Drops.{NoDrops}
+use Rattle.mir_rules.specs.Drops.{NoDrops}
 use Rattle.dead_store.specs.Pruned.{IsPrunedOnce, IsPruned}
 use Rattle.prune_refines.proofs.Gone.{Judged, decided}
 use Rattle.prune_refines.proofs.Kept.{formed_left, keeps_left}

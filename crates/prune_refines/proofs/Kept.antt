@@ -9,7 +9,7 @@ use Rattle.mir_rules.proofs.Lists.{and_true-left, and_true-right, list_all_true}
 use Rattle.mir_rules.proofs.Keeps.{BodyKeeps}
 use Rattle.mir_rules.proofs.ValidCrates.{stmt_formed_at, term_formed_at}
 use Rattle.prune_control.specs.Reads.{pruned_stmts, pruned_blocks, pruned_by}
-use Rattle.prune_refines.specs.Drops.{NoDrops, is_drop}
+use Rattle.mir_rules.specs.Drops.{NoDrops, is_drop}
 
 pub stmt_back : (gone : ℕ → Bool) (n : ℕ) (ss : List TypedStmt) (i : ℕ) (s : TypedStmt) → slice_get (pruned_stmts gone n ss) i ≡ Some s → (j : ℕ) × (slice_get ss j ≡ Some s)
 stmt_back gone n [] i s e = absurd (grind arith)

@@ -31,7 +31,7 @@ use Rattle.mir_renaming.proofs.Items.{DropPlain}
 use Rattle.mir_live.proofs.Prune as prune
 use Rattle.prune_control.proofs.Kept.{NoDrop, MoveCalm, MovesCalm, RvalueCalm, Laws}
 use Rattle.valid_runs.proofs.Codes.{body_there, body_back}
-use Rattle.prune_refines.specs.Drops.{is_drop, NoDrops}
+use Rattle.mir_rules.specs.Drops.{is_drop, NoDrops}
 use Rattle.prune_refines.proofs.Gone.{Judged}
 use Rattle.prune_refines.proofs.Reading.{reads_stmt, fills_stmt, ResultTyped, reads_term, leads_to, fills_result}
 

@@ -12,7 +12,7 @@ ghost use Rattle.mir_syntax.specs.Shapes.{shapes_of};
 ghost use Rattle.mir_semantics.specs.Refines.{Refines};
 ghost use Rattle.mir_rules.specs.Valid.{Valid, at_function, ValidAt};
 ghost use Rattle.dead_store.specs.Pruned.{IsPruned};
-ghost use Rattle.prune_refines.specs.Drops.{NoDrops};
+ghost use Rattle.mir_rules.specs.Drops.{NoDrops};
 
 /// A valid crate in which one body that holds no `drop` is pruned refines the crate; so does a crate with a pruned body in place of one that
 /// is valid there.
