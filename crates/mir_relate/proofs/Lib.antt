@@ -28,3 +28,4 @@ pub mod Needs
 pub mod Rules
 pub mod Replaced
 pub mod Rest
+pub mod Renumbered

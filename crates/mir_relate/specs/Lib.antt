@@ -9,3 +9,4 @@ pub mod Mild
 pub mod Frames
 pub mod Pass
 pub mod Passes
+pub mod Renumbered

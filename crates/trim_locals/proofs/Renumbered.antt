@@ -1,5 +1,5 @@
 -- A trimmed body is the same as the body but for the numbers of locals.
-use Rattle.std.proofs.Common.{◌≡◌, ◌⊎◌, inl, inr, refl, sym, ap, ◌∙◌, subst, ℕ, zero, suc, ◌+◌, ◌<◌, ◌≤◌, Bool, true, false, ◌&&◌, nat_lt, List, [], ◌∷◌, ◌++◌, length, map, get_or, cond, Some, slice_get, arith}
+use Rattle.std.proofs.Common.{◌≡◌, ◌⊎◌, inl, inr, refl, sym, ap, ◌∙◌, subst, ℕ, zero, suc, ◌+◌, ◌<◌, ◌≤◌, Bool, true, false, ◌&&◌, nat_lt, List, [], ◌∷◌, ◌++◌, length, map, take, get_or, cond, Option, Some, slice_get, arith}
 use Rattle.std.proofs.Common.{ltb-true}
 use Rattle.std.specs.List.{Contains, filter, flat_map, list_all, range_with_len}
 use Rattle.std.proofs.lemmas.List.Elements.{Contains-append_left, Contains-append_right, Contains-append_cases, Contains-push_cases}
@@ -9,8 +9,10 @@ use Rattle.mir_syntax.specs.declared.body.Operand.{Operand}
 use Rattle.mir_syntax.specs.declared.body.Operand.TheVariants as operand
 use Rattle.mir_syntax.specs.declared.body.Term.{Term}
 use Rattle.mir_syntax.specs.declared.body.Term.TheVariants.{Goto, Switch, Return, Unreachable, Drop, Call, Assert}
-use Rattle.mir_syntax.specs.Crate.{TypedRvalue, «use», binary, overflow, unary, cast, discriminant, tuple, build, TypedStmt, assign, storage_live, storage_dead, set_discriminant, TypedBlock, TypedBody, TypedFunction, Crate}
+use Rattle.mir_syntax.specs.Tree.{Tree}
+use Rattle.mir_syntax.specs.Crate.{TypedRvalue, «use», binary, overflow, unary, cast, discriminant, tuple, build, TypedStmt, assign, storage_live, storage_dead, set_discriminant, TypedBlock, TypedBody, Crate}
 use Rattle.mir_syntax.specs.Crate as rvalue
+use Rattle.mir_syntax.proofs.Lists.{map_there}
 use Rattle.mir_rules.specs.Parts.{operand_places, rvalue_operands, rvalue_places, term_operands, term_places, targets}
 use Rattle.mir_rules.specs.Formed.{place_formed, operand_formed, shape_formed, call_formed, block_there, stmt_formed, term_formed, body_formed}
 use Rattle.mir_rules.proofs.Lists.{and_true-left, and_true-right}
@@ -19,10 +21,27 @@ use Rattle.liveness.specs.Live.{place_local}
 use Rattle.liveness.specs.Bits.{has_stands}
 use Rattle.bit_rows.specs.Rows.{stands}
 use Rattle.trim_locals.specs.Trimmed.{stmt_uses, term_uses, block_uses, used_locals, used_marks, new_numbers, number_in, renamed_operand, renamed_rvalue, renamed_stmt, renamed_term, marked_items, stays, trimmed_block, trimmed}
-use Rattle.trim_refines.specs.Renumbered.{Numbering, OperandSame, OperandsSame, RvalueSame, StmtSame, TermSame, Gone, StmtsSame}
-use Rattle.trim_refines.proofs.Numbers.{ahead, ahead_marked, ahead_is, ahead_fixed, ahead_item}
-use Rattle.trim_refines.proofs.Selves.{has_first}
-use Rattle.trim_refines.proofs.States.{BodySame}
+use Rattle.mir_relate.specs.Renumbered.{Numbering, OperandSame, OperandsSame, RvalueSame, StmtSame, TermSame, Gone, StmtsSame}
+use Rattle.trim_locals.proofs.Numbers.{ahead, ahead_marked, ahead_is, ahead_fixed, ahead_item, front_items}
+
+-- ---- a body in which each local of the other that stands anywhere has one that stands for it
+
+abbrev pub NonEmpty : List Tree → Type 0
+NonEmpty [] = ⊥
+NonEmpty (t ∷ ts) = Unit {0}
+
+has_first : (ts : List Tree) (t : Tree) → slice_get ts 0 ≡ Some t → NonEmpty ts
+has_first [] t e = absurd (grind arith)
+has_first (u ∷ ts) t e = tt
+
+pub record BodySame (B : ℕ → Option ℕ) (b2 b1 : TypedBody) : Type 0 where
+  pub types : (x y : ℕ) → B x ≡ Some y → slice_get b1.locals x ≡ slice_get b2.locals y
+  pub fixed : (x : ℕ) → x ≤ b1.args → B x ≡ Some x
+  pub some1 : NonEmpty b1.locals
+  pub some2 : NonEmpty b2.locals
+  pub blocks : (i : ℕ) (k1 : TypedBlock) → slice_get b1.blocks i ≡ Some k1 → (k2 : TypedBlock) × (slice_get b2.blocks i ≡ Some k2) × StmtsSame (λ x y. B x ≡ Some y) k1.stmts k2.stmts × TermSame (λ x y. B x ≡ Some y) k1.term k2.term
+
+-- ---- lists
 
 first : (y : ℕ) (ys : List ℕ) → Contains (y ∷ ys) y
 first y ys = (0, omega arith, refl)
@@ -172,12 +191,7 @@ module _ (C : Crate) (b : TypedBody) (formed : body_formed C b ≡ true) where
   in_block : (i : ℕ) (k : TypedBlock) → slice_get b.blocks i ≡ Some k → (x : ℕ) → Contains (block_uses k) x → x < length b.locals → get_or marks x false ≡ true
   in_block i k e x c l = mark_at x l (Contains-append_right (range_with_len 0 (suc b.args)) (flat_map block_uses b.blocks) x (flat_there block_uses b.blocks i k x e c))
 
-  mapped_at : (ks : List TypedBlock) (i : ℕ) (k : TypedBlock) → slice_get ks i ≡ Some k → slice_get (map (trimmed_block marks) ks) i ≡ Some (trimmed_block marks k)
-  mapped_at [] i k e = absurd (grind arith)
-  mapped_at (y ∷ ks) zero k e = ap (λ y. Some (trimmed_block marks y)) (let z : y ≡ k = grind arith in z)
-  mapped_at (y ∷ ks) (suc i) k e = mapped_at ks i k e
-
-  pub argument_marked : (x : ℕ) → x ≤ b.args → get_or marks x false ≡ true
+  argument_marked : (x : ℕ) → x ≤ b.args → get_or marks x false ≡ true
   argument_marked x l =
       let a = args_below C b formed in
       let z : 0 + x ≡ x = omega arith in
@@ -195,8 +209,12 @@ module _ (C : Crate) (b : TypedBody) (formed : body_formed C b ≡ true) where
     some2 = has_first (marked_items marks b.locals) (result_there C b formed).0 (sym (ahead_item marks b.locals 0 0 (fixed 0 (omega arith))) ∙ (result_there C b formed).1);
     blocks = λ i k e. (
       trimmed_block marks k,
-      mapped_at b.blocks i k e,
+      map_there (trimmed_block marks) b.blocks i k e,
       stmts_same marks k.stmts (λ x c. ahead_is marks x (in_block i k e x (Contains-append_left (flat_map stmt_uses k.stmts) (term_uses k.term) x c) (stmts_within k.stmts (λ n s at. stmt_formed_at C b formed i n k s e at) x c))),
       term_same (λ x y. ahead marks x ≡ Some y) (number_in (new_numbers marks)) k.term (λ x c. ahead_is marks x (in_block i k e x (Contains-append_right (flat_map stmt_uses k.stmts) (term_uses k.term) x c) (term_within k.term (term_formed_at C b formed i k e) x c))),
     );
   }
+
+  -- `_0` and the arguments stay
+  pub start_stays : take (suc b.args) (trimmed b).locals ≡ take (suc b.args) b.locals
+  start_stays = front_items (suc b.args) marks b.locals (λ z l. argument_marked z (omega (arith, l)))

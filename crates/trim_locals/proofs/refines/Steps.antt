@@ -23,10 +23,9 @@ use Rattle.mir_renaming.proofs.Frames.{new_control, open_same}
 use Rattle.mir_renaming.proofs.Agree.{Agree, whole_tight}
 use Rattle.mir_renaming.proofs.Items.{step_parts, DropPlain, Owns, begun_own}
 use Rattle.mir_relate.proofs.Rest.{drop_some, drop_none, get_drop}
-use Rattle.trim_refines.specs.Renumbered.{PlaceSame, OperandSame, OperandsSame, RvalueSame, StmtSame, StmtsSame, TermSame, Gone}
-use Rattle.trim_refines.proofs.Slots.{slots_of}
-use Rattle.renumber_control.proofs.Slots.{slots_agree}
-use Rattle.trim_refines.proofs.States.{BodySame}
+use Rattle.mir_relate.specs.Renumbered.{PlaceSame, OperandSame, OperandsSame, RvalueSame, StmtSame, StmtsSame, TermSame, Gone}
+use Rattle.trim_locals.proofs.Renumbered.{BodySame}
+use Rattle.trim_locals.proofs.refines.Slots.{slots_of, slots_agree}
 use Rattle.mir_relate.specs.Alike.{Between, Same, AllSame, Sides, AllRead}
 use Rattle.mir_relate.specs.Leaves.{Leaves}
 use Rattle.mir_relate.specs.Frames.{Change, target, Pass, lowest, VisitRel, DropRel, DropsRel, DestsRel, opened, AgreesBy, Visiting, Below}
@@ -241,10 +240,14 @@ module _ (X : Change) (B : ℕ → Option ℕ) (once : (x x' y : ℕ) → B x �
     back_at m2' m1' e2 e1 n' a2 a1 f2 f1 d2 d1 b dr h l' lv =
         let j = r.core.lent in
         let be' : Below X P j e2.dest e1.dest e2.frame e1.frame cs2 ds m2 m1 = subst (λ g. Below X P j e2.dest e1.dest g e1.frame cs2 ds m2 m1) (sym a2) (subst (λ g. Below X P j e2.dest e1.dest c2.frame g cs2 ds m2 m1) (sym a1) (subst (λ d. Below X P j d e1.dest c2.frame c1.frame cs2 ds m2 m1) (sym d2) (subst (λ d. Below X P j c2.dest d c2.frame c1.frame cs2 ds m2 m1) (sym d1) be))) in
-        let ag' : AgreesBy X j c1 m2' m1' = agrees_by X r.typed1.types j j (suc c2.frame) (suc c1.frame) m2' m1' m2 m1 c1 (omega arith) ks.0 lv ag in
-        (n', _, refl, back_core X P V Inv kept n s2 s1 r m2 m1 m2' m1' e2 e1 ds cs2 ks.1 be' (omega (arith, a1, l1)) (omega (arith, a2, l2)) l'
-          (leaves_less D r.typed1.types j j (suc c2.frame) (suc c1.frame) e2.frame e1.frame m2' m1' m2 m1 (omega (arith, a2)) (omega (arith, a1)) lv)
-          n' (refl, moved X B once same i n' j c2 c1 e2 e1 a2 a1 f2 f1 b dr h st, agrees_at X j c1 e1 m2' m1' f1 a1 ag'))
+        let ag' : AgreesBy X j c1 m2' m1' = agrees_by X r.typed1.types j j (suc c2.frame) (suc c1.frame) m2' m1' m2 m1 c1 (omega arith) ks.0 lv ag in (
+          n',
+          _,
+          refl,
+          back_core X P V Inv kept n s2 s1 r m2 m1 m2' m1' e2 e1 ds cs2 ks.1 be' (omega (arith, a1, l1)) (omega (arith, a2, l2)) l'
+              (leaves_less D r.typed1.types j j (suc c2.frame) (suc c1.frame) e2.frame e1.frame m2' m1' m2 m1 (omega (arith, a2)) (omega (arith, a1)) lv)
+              n' (refl, moved X B once same i n' j c2 c1 e2 e1 a2 a1 f2 f1 b dr h st, agrees_at X j c1 e1 m2' m1' f1 a1 ag'),
+        )
 
     back : (d2 d1 : Option Dest) → DestsRel r.core.lent d1 d2 → ((d : Dest) → d1 ≡ Some d → (t : Tree) × AddrTy D r.typed1.types d.addr t) → Same r.core.lent v w → return_to D s1 m1 d1 (c1 ∷ ds) v ≡ Some x → Goes X P (return_to D s2 m2 d2 (c2 ∷ cs2) w) x
     unfolding return_to
@@ -376,7 +379,7 @@ module _ (X : Change) (B : ℕ → Option ℕ) (once : (x x' y : ℕ) → B x �
         let ((w, g, rel), at) = text.read_at_rel D ts1 ts2 f1 f2 j j (sub_self j) s2.memory s1.memory (record { frame = f1; local = 0; path = [] }) (record { frame = f2; local = 0; path = [] }) v (record { root = st.roots 0 0 (same.fixed 0 (omega arith)); path = refl }) r.core.linked.mem e in
         (w, g, (rel, whole_tight j v w rel (read_at_whole s1.memory (record { frame = f1; local = 0; path = [] }) v e)))
 
-    likewise : (t u : Term) → TermSame (λ x y. B x ≡ Some y) t u → NoDrop t → TermMoves H1 t → TermTy X.source H1 t → own.Likewise X P V Inv frames n s2 s1 r [] s1.callers refl (omega arith) be S Q left refl first t u
+    likewise : (t u : Term) → TermSame (λ x y. B x ≡ Some y) t u → NoDrop t → TermMoves H1 t → TermTy X.source H1 t → own.SameStep X P V Inv frames n s2 s1 r [] s1.callers refl (omega arith) be S Q left refl first t u
     likewise (Goto u1) (Goto u2) h nd mo ty = λ m2 m1 q. edge m2 m1 u2 u1 h (agreed m2 m1 q.leaves)
     likewise (Switch o arms1 u1) (Switch p arms2 u2) (ho, ha, hu) nd mo ty = (
       kept.reads_as D ts1 ts2 f1 f2 j j (sub_self j) G bok lok Q keeps o p (operand_as D ts1 ts2 f1 f2 j G bok lok B st.roots same.types Q o p ho) mo,

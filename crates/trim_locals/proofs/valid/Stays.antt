@@ -1,30 +1,32 @@
--- A trimmed body is valid in the place of a valid body.
-use Rattle.std.proofs.Common.{◌≡◌, ◌⊎◌, inl, inr, refl, sym, ap, ◌∙◌, subst, ℕ, zero, suc, ◌<◌, ◌≤◌, Bool, true, false, ◌&&◌, nat_lt, List, [], ◌∷◌, length, Option, Some, slice_get, arith}
+-- A trimmed body is valid in the place of a valid body, and it drops and calls nothing that the body doesn't.
+use Rattle.std.proofs.Common.{◌≡◌, ◌⊎◌, inl, inr, refl, sym, ap, ap₂, ◌∙◌, subst, ℕ, zero, suc, ◌<◌, ◌≤◌, Bool, true, false, ◌&&◌, nat_lt, List, [], ◌∷◌, length, Option, Some, slice_get, arith}
 use Rattle.std.proofs.Common.{lt-ltb}
 use Rattle.std.specs.List.{list_all}
 use Rattle.std.proofs.lemmas.Bool.{cases_lt}
 use Rattle.std.proofs.lemmas.List.{length-map}
 use Rattle.std.proofs.lemmas.Option.{slice_get_within}
+use Rattle.mir_syntax.specs.declared.body.Callee.{Callee}
+use Rattle.mir_syntax.specs.declared.body.Operand.{Operand}
+use Rattle.mir_syntax.specs.declared.body.Place.{Place}
 use Rattle.mir_syntax.specs.declared.body.Term.{Term}
 use Rattle.mir_syntax.specs.declared.body.Term.TheVariants.{Goto, Switch, Return, Unreachable, Drop, Call, Assert}
-use Rattle.mir_syntax.specs.Crate.{TypedStmt, assign, storage_live, storage_dead, set_discriminant, TypedBlock, TypedBody, Crate}
+use Rattle.mir_syntax.specs.Crate.{TypedStmt, assign, storage_live, storage_dead, set_discriminant, TypedBlock, TypedBody, TypedFunction, Crate}
 use Rattle.mir_syntax.specs.Shapes.{Shape, shapes_of}
 use Rattle.mir_syntax.proofs.Lists.{map_back}
 use Rattle.mir_rules.specs.Formed.{type_formed, stmt_formed, term_formed, call_formed, block_formed, has_start, body_formed}
-use Rattle.mir_rules.specs.Valid.{at_function, ValidAt}
+use Rattle.mir_rules.specs.Valid.{Valid, at_function, ValidAt}
 use Rattle.mir_rules.proofs.Lists.{and_true-left, and_true-right, list_all_true}
 use Rattle.mir_rules.proofs.Keeps.{BodyKeeps}
 use Rattle.mir_rules.proofs.Statements.{StmtTyped, stmt_typed, typed_stmt}
 use Rattle.mir_rules.proofs.Terminators.{slice_get_there, term_typed, typed_term}
-use Rattle.mir_rules.proofs.ValidCrates.{args_below, stmt_formed_at, term_formed_at, body_formed_at, keeps, holds_body, valid_again}
+use Rattle.mir_rules.proofs.ValidCrates.{args_below, stmt_formed_at, term_formed_at, body_formed_at, keeps, holds_body, valid_put, valid_again}
+use Rattle.mir_rules.specs.Calls.{AddsNoCall}
 use Rattle.mir_rules.specs.Drops.{is_drop, NoDrops}
 use Rattle.trim_locals.specs.Trimmed.{used_marks, new_numbers, number_in, renamed_term, marked_items, trimmed_block, trimmed}
-use Rattle.trim_refines.specs.Renumbered.{Numbering, StmtSame, TermSame, StmtsSame}
-use Rattle.trim_refines.proofs.Numbers.{ahead, behind, ahead_behind}
-use Rattle.trim_refines.proofs.States.{BodySame}
-use Rattle.trim_refines.proofs.Trimmed.{argument_marked, fixed, trimmed_same}
-use Rattle.trim_refines.proofs.Refined.{front_items}
-use Rattle.trim_stays_valid.proofs.Renamed.{assign_keeps, set_keeps, term_keeps, stmt_formed_same, term_formed_same}
+use Rattle.mir_relate.specs.Renumbered.{Numbering, StmtSame, TermSame, StmtsSame}
+use Rattle.trim_locals.proofs.Numbers.{ahead, behind, ahead_behind}
+use Rattle.trim_locals.proofs.Renumbered.{BodySame, fixed, trimmed_same, start_stays}
+use Rattle.mir_relate.proofs.Renumbered.{assign_keeps, set_keeps, term_keeps, stmt_formed_same, term_formed_same}
 
 -- the statement that a statement of the other list is the same as
 stmt_back : (R : Numbering) (ss ts : List TypedStmt) → StmtsSame R ss ts → (i : ℕ) (t : TypedStmt) → slice_get ts i ≡ Some t → (j : ℕ) × (s : TypedStmt) × (slice_get ss j ≡ Some s) × StmtSame R s t
@@ -136,19 +138,23 @@ module _ (C : Crate) (b : TypedBody) (formed : body_formed C b ≡ true) where
         typed_term C D b2.locals k2.term (term_keeps D b.locals b2.locals R same.types C k.term k2.term term typed);
   }
 
+pub trimmed_valid : (C : Crate) → Valid C → (f : ℕ) (g : TypedFunction) → slice_get C.functions f ≡ Some g → Valid (at_function C f g (trimmed g.body))
+trimmed_valid C valid f g there =
+    let formed = body_formed_at C valid f g there in
+    valid_put C f g (trimmed g.body) valid there (record { is_drop = refl; args = refl; start = start_stays C g.body formed }) (trimmed_formed C g.body formed) (trimmed_keeps C g.body formed ((keeps C valid).bodies f g there))
+
 pub trimmed_stays_valid : (C : Crate) (f : ℕ) (b : TypedBody) → ValidAt C f b → ValidAt C f (trimmed b)
 trimmed_stays_valid C f b v =
     let C2 = at_function C f v.function b in
     let formed = body_formed_at C2 v.valid f _ (holds_body C f b v) in
     let kept = (keeps C2 v.valid).bodies f _ (holds_body C f b v) in
-    let front = front_items (suc b.args) (used_marks b) b.locals (λ z l. argument_marked C2 b formed z (omega (arith, l))) in
     let long = blocks_long C2 b formed in
     let few = marked_few (used_marks b) b.locals in
     let blocks = v.blocks in
     let locals = v.locals in
-    valid_again C f b (trimmed b) v refl front (trimmed_formed C2 b formed) (trimmed_keeps C2 b formed kept) (omega (arith, long, blocks)) (omega (arith, few, locals))
+    valid_again C f b (trimmed b) v refl (start_stays C2 b formed) (trimmed_formed C2 b formed) (trimmed_keeps C2 b formed kept) (omega (arith, long, blocks)) (omega (arith, few, locals))
 
--- ---- drops
+-- ---- drops and calls
 
 drop_same : (f : ℕ → ℕ) (t : Term) → is_drop (renamed_term f t) ≡ is_drop t
 drop_same f (Goto u) = refl
@@ -165,3 +171,19 @@ trimmed_no_drops b h = record {
       let (k, at, is) = map_back (trimmed_block (used_marks b)) b.blocks i k2 e in
       ap (λ (k : TypedBlock). is_drop k.term) (sym is) ∙ drop_same (number_in (new_numbers (used_marks b))) k.term ∙ h.none i k at;
 }
+
+-- a call of the new text is one of the old
+call_back : (f : ℕ → ℕ) (t : Term) (p : Place) (g : Callee) (os : List Operand) (next : ℕ) → renamed_term f t ≡ Call p g os next → (q : Place) × (ps : List Operand) × (t ≡ Call q g ps next)
+call_back f (Goto u) p g os next e = absurd (grind arith)
+call_back f (Switch o arms u) p g os next e = absurd (grind arith)
+call_back f Return p g os next e = absurd (grind arith)
+call_back f Unreachable p g os next e = absurd (grind arith)
+call_back f (Drop q u) p g os next e = absurd (grind arith)
+call_back f (Call q h ps u) p g os next e = (q, ps, ap₂ (λ h u. Call q h ps u) (let z : h ≡ g = grind arith in z) (let z : u ≡ next = grind arith in z))
+call_back f (Assert o c x ps u) p g os next e = absurd (grind arith)
+
+pub trimmed_adds_no_call : (b : TypedBody) → AddsNoCall (trimmed b) b
+trimmed_adds_no_call b g (i, k2, p, os, next, at, is) =
+    let (k, at1, same) = map_back (trimmed_block (used_marks b)) b.blocks i k2 at in
+    let (q, ps, is1) = call_back (number_in (new_numbers (used_marks b))) k.term p g os next (ap (λ (k : TypedBlock). k.term) same ∙ is) in
+    (i, k, q, ps, next, at1, is1)

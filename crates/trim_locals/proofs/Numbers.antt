@@ -2,6 +2,7 @@
 use Rattle.std.proofs.Common.{◌≡◌, refl, sym, ap, ◌∙◌, subst, ℕ, zero, suc, ◌+◌, ◌<◌, ◌≤◌, Bool, true, false, cond, List, [], ◌∷◌, length, take, get_or, Option, Some, None, option_map, slice_get, arith}
 use Rattle.std.proofs.lemmas.List.FromFn.{get_or-map-range_with_len}
 use Rattle.std.proofs.lemmas.List.Sums.{sum_by-cons}
+use Rattle.mir_syntax.specs.Tree.{Tree}
 use Rattle.trim_locals.specs.Trimmed.{self, new_number, new_numbers, number_in, marked_items}
 
 next_if : Bool → ℕ → ℕ
@@ -97,3 +98,11 @@ ahead_item (true ∷ ms) (a ∷ xs) (suc x) y e =
 ahead_item (false ∷ ms) (a ∷ xs) (suc x) y e =
     let (z, e1, e2) = mapped (next_if false) (ahead ms x) y e in
     ahead_item ms xs x z e1 ∙ ap (slice_get (marked_items ms xs)) e2
+
+-- where the first are marked, the first stay
+pub front_items : (n : ℕ) (ms : List Bool) (ts : List Tree) → ((z : ℕ) → z < n → get_or ms z false ≡ true) → take n (marked_items ms ts) ≡ take n ts
+front_items zero ms ts h = refl
+front_items (suc n) [] ts h = absurd (let k : false ≡ true = h 0 (omega arith) in grind arith)
+front_items (suc n) (false ∷ ms) ts h = absurd (let k : false ≡ true = h 0 (omega arith) in grind arith)
+front_items (suc n) (true ∷ ms) [] h = refl
+front_items (suc n) (true ∷ ms) (t ∷ ts) h = ap (λ us. t ∷ us) (front_items n ms ts (λ z l. h (suc z) (omega (arith, l))))

@@ -19,7 +19,7 @@ use Rattle.mir_rules.specs.BodyRules.{breaks_v21, breaks_v22, path_through, goes
 use Rattle.mir_rules.specs.Formed.{path_formed, place_formed, operand_formed, shape_formed, call_formed, local_formed, stmt_formed, term_formed}
 use Rattle.mir_rules.proofs.Statements.{MovesKept, Assigns, Sets}
 use Rattle.mir_rules.proofs.Terminators.{OwnTyped, TermTyped}
-use Rattle.trim_refines.specs.Renumbered.{Numbering, PlaceSame, OperandSame, OperandsSame, RvalueSame, StmtSame, TermSame}
+use Rattle.mir_relate.specs.Renumbered.{Numbering, PlaceSame, OperandSame, OperandsSame, RvalueSame, StmtSame, TermSame}
 
 -- what is in a list's range
 within_is : {A : Type 0} (xs : List A) (x : ℕ) → nat_lt x (length xs) ≡ is_some (slice_get xs x)
