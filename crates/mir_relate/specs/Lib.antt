@@ -1,8 +1,4 @@
 pub mod Simulation
-pub mod Jumps
-pub mod Hops
-pub mod OneBody
-pub mod Lines
 pub mod Alike
 pub mod Leaves
 pub mod Mild
