@@ -12,7 +12,7 @@ use Rattle.mir_semantics.specs.Step.{Here, has_deref}
 use Rattle.mir_renaming.specs.Renaming.{Renaming, Sub}
 use Rattle.mir_renaming.proofs.Statements as text
 use Rattle.mir_renaming.proofs.Types.{TypeMap, HasTy, StmtTy}
-use Rattle.mir_renaming.proofs.Among.{Among, OkOperand, OkOperands, OkRvalue}
+use Rattle.mir_renaming.proofs.Among.{Among, OkOperand, OkOperands, OkRvalue, all_rvalue}
 use Rattle.mir_relate.specs.Alike.{Between}
 use Rattle.mir_relate.specs.Pass.{AllMoves, RvalueMoves, StmtMoves}
 use Rattle.mir_relate.proofs.Kept as kept
@@ -48,6 +48,29 @@ module _ (D : List Shape) (ts1 ts2 : List Tree) (f1 f2 : ℕ) (j K : Renaming) (
   StmtOk (storage_live x) = A x
   StmtOk (storage_dead x) = A x
   StmtOk (set_discriminant p k) = A p.local
+
+  -- where each local of the frame is lent, under its own number
+  module _ (roots : (x : ℕ) → j f1 x ≡ Some (f2, x)) where
+    pub all_here : (x : ℕ) → A x
+    all_here x = low f1 x (f2, x) (roots x)
+
+    pub all_lend : (x : TypedRvalue) → Lends x
+    all_lend (rvalue.ref p) = inr (roots p.local)
+    all_lend (rvalue.ref_mut p) = inr (roots p.local)
+    all_lend («use» o) = tt
+    all_lend (binary op a c) = tt
+    all_lend (overflow op a c) = tt
+    all_lend (unary op a) = tt
+    all_lend (cast a t) = tt
+    all_lend (discriminant v) = tt
+    all_lend (tuple os) = tt
+    all_lend (build d i os) = tt
+
+    pub all_ok : (s : TypedStmt) → StmtOk s
+    all_ok (assign p x) = (all_here p.local, all_rvalue A all_here x, all_lend x)
+    all_ok (storage_live x) = all_here x
+    all_ok (storage_dead x) = all_here x
+    all_ok (set_discriminant p i) = all_here p.local
 
   module _ (Q : Between) (keeps : kept.Kept D ts1 ts2 f1 f2 j K low G bok lok Q) where
     pub moves_self : (os : List Operand) → AllMoves HS os → kept.MovesOk D ts1 ts2 f1 f2 j K low G bok lok Q keeps os

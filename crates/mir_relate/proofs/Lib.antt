@@ -17,6 +17,8 @@ pub mod Single
 pub mod Itself
 pub mod Living
 pub mod Mild
+pub mod Gentle
+pub mod Wholes
 pub mod Own
 pub mod Operands
 pub mod Alone

@@ -129,6 +129,16 @@ module _ (D : List Shape) (ts1 ts2 : List Tree) (f1 f2 : ℕ) (j K : Renaming) (
   abbrev S : Sides
   S = kept.sides D ts1 ts2 f1 f2 j K low G blank_ok locals_ok
 
+  -- both store such values at related places
+  pub store_near : (m2 m1 m1' : Memory) (d c : Dest) (t : Tree) (v w : Value) → Q m2 m1 → DestRel K d c → AddrTy D G d.addr t → Same j v w → store D m1 d v ≡ Some m1' → (m2' : Memory) × (store D m2 c w ≡ Some m2') × Linked j K m2' m1' × Leaves D G j j n2 n1 m2' m1' m2s m1s
+  store_near m2 m1 m1' d c t v w q r at hv e =
+      let (old, e1, same) = store_split D m1 m1' d v e in
+      let (m2', g, l') = store_rel D j K m2 m1 m1' d c v w r hv.0 q.linked e in
+      let (old2, e2, same2) = store_split D m2 m2' c w g in
+      let (o, eo) = root_of m1 d.addr old e1 in
+      let lw = leaves_both m2 m1 d.addr c.addr t v w q r.addr at (tight_agree D v w t hv.1) (λ h x u k z. q.linked.apart h x d.addr.frame d.addr.local (c.addr.frame, c.addr.local) u o k r.addr.root z eo) in
+      (m2', g, l', subst (λ m. Leaves D G j j n2 n1 m2' m m2s m1s) same (subst (λ m. Leaves D G j j n2 n1 m (write m1 d.addr v) m2s m1s) same2 lw))
+
   -- the source alone moves out of a place
   pub near_clears : n1 ≤ f1 → (p q : Place) → kept.PlaceAs D ts1 ts2 f1 f2 j K low G blank_ok locals_ok K p q → MoveOk S.source (operand.Move p) → Clears S Q p
   near_clears le p q h ok = record { clears = λ m2 m1 a t v l e et ev. clear m2 m1 a t v l e et ev (has_deref p.proj) refl }

@@ -1,5 +1,5 @@
 -- A step of a function that is left alone.
-use Rattle.std.proofs.Common.{◌≡◌, inl, refl, sym, ap, ap₂, ◌∙◌, subst, ℕ, suc, Bool, true, false, nat_eq, List, [], ◌∷◌, ◌++◌, length, Option, Some, None, slice_get, arith}
+use Rattle.std.proofs.Common.{◌≡◌, ◌⊎◌, inl, refl, sym, ap, ap₂, ◌∙◌, subst, ℕ, suc, ◌≤◌, Bool, true, false, nat_eq, List, [], ◌∷◌, ◌++◌, length, Option, Some, None, slice_get, arith}
 use Rattle.mir_syntax.specs.declared.body.Place.{Place}
 use Rattle.mir_syntax.specs.declared.body.Operand.{Operand}
 use Rattle.mir_syntax.specs.declared.body.Operand.TheVariants as operand
@@ -13,29 +13,32 @@ use Rattle.mir_syntax.specs.Crate.{TypedRvalue, «use», binary, overflow, unary
 use Rattle.mir_syntax.specs.Crate as rvalue
 use Rattle.mir_num.specs.Numbers.{wrap, flag}
 use Rattle.mir_semantics.specs.Values.{Addr, Value, number, nil, pointer, is_hole, whole, blank}
-use Rattle.mir_semantics.specs.Memory.{Memory, value_at, write}
+use Rattle.mir_semantics.specs.Memory.{Memory, local_at}
 use Rattle.mir_semantics.specs.Step.{Here, Dest, Visit, Dropping, Control, Called, State, aborted, no_answer, Next, on, stop, fail, local_addr, read_at, read_all, numbers_in, go_on, to_block, take_arm, calling, answered, ask, call, visits_of, visit, visit_unless, visit_if, work_off, begun, check, finish, perform, step}
 use Rattle.mir_renaming.specs.Renaming.{Renaming, AddrRel, ValueRel}
-use Rattle.mir_renaming.proofs.Memory.{bind_some, some_bind, write_again}
+use Rattle.mir_renaming.proofs.Memory.{bind_some, some_bind}
 use Rattle.mir_renaming.proofs.Statements as text
-use Rattle.mir_renaming.proofs.Statements.{DestRel, only_true, ValuesRel, number_rel, blank_rel, write_linked, write_clear}
-use Rattle.mir_renaming.proofs.Types.{TypeMap, AddrTy, HasTy, MemTy, resolve_ty, write_ty, value_at_ty, blank_fits, dest_ty, StmtTy}
+use Rattle.mir_renaming.proofs.Statements.{DestRel, only_true, ValuesRel, number_rel}
+use Rattle.mir_renaming.proofs.Types.{TypeMap, AddrTy, HasTy, resolve_ty, value_at_ty, blank_fits, dest_ty, StmtTy}
 use Rattle.mir_renaming.proofs.Typed.{MaybeDrop, VisitsTy, TermTy}
 use Rattle.mir_renaming.proofs.Ghosts.{Flat}
-use Rattle.mir_renaming.proofs.Agree.{tight_agree, tight_self, whole_tight, same_hole, hole_too}
-use Rattle.mir_renaming.proofs.Stores.{root_of}
+use Rattle.mir_renaming.proofs.Agree.{whole_tight}
+use Rattle.mir_renaming.proofs.Among.{all_operand, all_operands}
 use Rattle.mir_relate.specs.Pass.{MoveOk, KnowsAll, Valids, FewArgs, FewTerm, AllMoves, RvalueMoves, StmtMoves, TermMoves, FrameLaws, Goes, Related}
-use Rattle.mir_renaming.proofs.Items.{InLocal, Items, begun_own, DropPlain, step_parts}
+use Rattle.mir_renaming.proofs.Items.{OwnDrop, begun_own, DropPlain, step_parts}
 use Rattle.mir_relate.specs.Alike.{Between, GotMemory, Sides, AllSame, Reads, AllRead}
 use Rattle.mir_relate.specs.Frames.{Change, target, Pass, VisitRel, VisitsRel, DropRel, DropsRel, DestsRel, Agrees, Twin, Below}
 use Rattle.mir_relate.proofs.Alike.{number_read, all_read, integers_read}
 use Rattle.mir_relate.proofs.Kept as kept
-use Rattle.mir_relate.proofs.Leaves.{some_val, leaves_then, leaves_write, leaves_alone}
+use Rattle.mir_relate.proofs.Near as near
+use Rattle.mir_relate.proofs.Itself as itself
+use Rattle.mir_relate.proofs.Visits as visits
+use Rattle.mir_relate.proofs.Leaves.{some_val}
 use Rattle.mir_relate.proofs.Stacks.{knows_all}
 use Rattle.mir_relate.proofs.Enter.{goes_at, goes_by, enter_goes}
 use Rattle.mir_relate.proofs.Returns.{closed2, closed1, return_goes}
 use Rattle.mir_relate.proofs.Drops as drops
-use Rattle.mir_relate.proofs.Drops.{parts_rel, append_rel, left_same, left_write, left_store, agrees_left, below_left, twin_at, core_on, goes_on, item_at, work_on_goes}
+use Rattle.mir_relate.proofs.Drops.{left_same, left_store, agrees_left, below_left, twin_at, core_on, goes_on, agrees_all, dropping_goes, dropped_goes}
 
 pub read_long : (h : Here) (os : List Operand) (m : Memory) (r : List Value × Memory) → read_all h m os ≡ Some r → length r.0 ≡ length os
 unfolding read_all
@@ -141,43 +144,16 @@ module _ (X : Change) (P : Pass) (V : Valids X) (Inv : State → Type 0) (laws :
   twin_drop : (o2 o1 : Option Dropping) → DropsRel j o1 o2 → Twin X j (record s2.top { dropping = o2 }) (record s1.top { dropping = o1 })
   twin_drop o2 o1 dr = record { other = al.other; function = al.function; block = al.block; at = al.at; roots = al.roots; only = al.only; drops = dr }
 
-  visit_goes : (d e : Dropping) (i k : Visit) (is js : List Visit) (v w : Value) (g : Option ℕ) (x : Next) → destructor_of D i.ty ≡ g → DropRel j d e → VisitRel j i k → VisitsRel j is js → AddrTy D G d.place.addr d.place.ty → ValueRel j v w → (is_hole v ≡ true → is_hole w ≡ true) → visit X.source s1 d i is v g ≡ Some x → Goes X P (visit (target X) s2 e k js w g) x
-  unfolding visit
-  visit_goes d e i k is js v w None x eg dr h vs ty rel f q =
-      work_on_goes X P V Inv laws G j s2 s1 s2.top s1.top r.core.base r.core.linked al ag be ks d e (visits_of D i.addr i.ty v ++ is) (visits_of D k.addr k.ty w ++ js) x dr
-      (append_rel j (visits_of D i.addr i.ty v) (visits_of D k.addr k.ty w) is js (subst (λ u. VisitsRel j (visits_of D i.addr i.ty v) (visits_of D k.addr u w)) h.ty (parts_rel D j i.addr k.addr i.ty v w h.addr rel f)) vs) ty q
-  visit_goes d e i k is js v w (Some g) x eg dr h vs ty rel f q =
-      let d' : Dropping = record d { items = i ∷ is } in
-      let e' : Dropping = record e { items = k ∷ js } in
-      let rels : DropsRel j (Some d') (Some e') = record { place = dr.place; target = dr.target; items = (h, vs) } in
-      enter_goes X P V Inv laws G j s2 s1 s2.memory s1.memory r.core.base r.core.linked (record s2.top { dropping = Some e' }) (record s1.top { dropping = Some d' }) None None ks
-      (below_this s2.memory s1.memory (record s2.top { dropping = Some e' }) (record s1.top { dropping = Some d' }) None None refl refl refl refl (twin_drop (Some e') (Some d') rels) ag tt start)
-      (pointer i.addr ∷ []) (pointer k.addr ∷ []) ((h.addr, tt), (tt, tt)) g x (λ b eb. V.destroys i.ty g b eg eb) q
-
-  unless_goes : (d e : Dropping) (i k : Visit) (is js : List Visit) (v w : Value) (c : Bool) (x : Next) → DropRel j d e → VisitRel j i k → VisitsRel j is js → AddrTy D G d.place.addr d.place.ty → ValueRel j v w → (is_hole v ≡ true → is_hole w ≡ true) → visit_unless X.source s1 d i is v c ≡ Some x → Goes X P (visit_unless (target X) s2 e k js w c) x
-  unfolding visit_unless
-  unless_goes d e i k is js v w true x dr h vs ty rel f q = work_on_goes X P V Inv laws G j s2 s1 s2.top s1.top r.core.base r.core.linked al ag be ks d e is js x dr vs ty q
-  unless_goes d e i k is js v w false x dr h vs ty rel f q = goes_by X P _ _ x (ap (λ u. visit (target X) s2 e k js w (destructor_of D u)) (sym h.ty)) (visit_goes d e i k is js v w (destructor_of D i.ty) x refl dr h vs ty rel f q)
-
-  if_goes : (d e : Dropping) (i k : Visit) (is js : List Visit) (c : Bool) (x : Next) (y : ℕ) (lt : Tree) (bo : TypedBody) → slice_get X.source.bodies s1.top.function ≡ Some bo → slice_get bo.locals y ≡ Some lt → InLocal X.source s1.top.frame y i → AddrTy D G i.addr i.ty → DropRel j d e → VisitRel j i k → VisitsRel j is js → AddrTy D G d.place.addr d.place.ty → needs_drop D i.ty ≡ c → visit_if X.source s1 d i is c ≡ Some x → Goes X P (visit_if (target X) s2 e k js c) x
-  unfolding visit_if
-  if_goes d e i k is js false x y lt bo eb ey il at dr h vs ty nd q = work_on_goes X P V Inv laws G j s2 s1 s2.top s1.top r.core.base r.core.linked al ag be ks d e is js x dr vs ty q
-  if_goes d e i k is js true x y lt bo eb ey il at dr h vs ty nd q =
-      let (v, e1, k1) = bind_some q in
-      let (w, g1, rel, agr) = item_at X P V Inv laws G j s2 s1 s2.top s1.top r.core.base r.core.linked al ag be ks y lt bo i k v eb ey il at h e1 in
-      goes_by X P _ _ x (some_bind _ g1 (ap (λ c. visit_unless (target X) s2 e k js w c) (sym (same_hole j D i.ty v w nd rel agr)))) (unless_goes d e i k is js v w (is_hole v) x dr h vs ty rel (λ z. hole_too D i.ty v w nd agr z) k1)
-
-  work_off_goes : (d e : Dropping) (is js : List Visit) (x : Next) (y : ℕ) (lt : Tree) (bo : TypedBody) → slice_get X.source.bodies s1.top.function ≡ Some bo → slice_get bo.locals y ≡ Some lt → Items X.source s1.top.frame y is → VisitsTy X.source V.valid1 G is → DropRel j d e → VisitsRel j is js → AddrTy D G d.place.addr d.place.ty → work_off X.source s1 d is ≡ Some x → Goes X P (work_off (target X) s2 e js) x
-  unfolding work_off
-  work_off_goes d e [] js x y lt bo eb ey its tys dr vs ty q = absurd (grind arith)
-  work_off_goes d e (i ∷ is) (k ∷ js) x y lt bo eb ey its tys dr vs ty q = goes_by X P _ _ x (ap (λ u. visit_if (target X) s2 e k js (needs_drop D u)) (sym vs.0.ty)) (if_goes d e i k is js (needs_drop D i.ty) x y lt bo eb ey its.0 tys.0 dr vs.0 vs.1 ty refl q)
-  work_off_goes d e (i ∷ is) [] x y lt bo eb ey its tys dr vs ty q = absurd vs
+  -- one item of a drop of this frame
+  work_off_goes : (d e : Dropping) (x : Next) → OwnDrop X.source s1.top d → VisitsTy X.source V.valid1 G d.items → DropRel j d e → AddrTy D G d.place.addr d.place.ty → work_off X.source s1 d d.items ≡ Some x → Goes X P (work_off (target X) s2 e e.items) x
+  work_off_goes d e x own tys dr ty q =
+      visits.work_off_goes X P V Inv G j s2 s1 s2.top s1.top r.core.linked (agrees_all X P V Inv laws G j s2 s1 s2.top s1.top r.core.base r.core.linked al ag be ks) ks.0 (λ u1 u2. u1 ≡ u2)
+      (dropping_goes X P V Inv laws G j s2 s1 s2.top s1.top r.core.base r.core.linked al ag be ks) (dropped_goes X P V Inv laws G j s2 s1 s2.top s1.top r.core.base r.core.linked al ag be ks) laws refl refl r.core.base ks
+      (λ d e vs tg. below_this s2.memory s1.memory (record s2.top { dropping = Some e }) (record s1.top { dropping = Some d }) None None refl refl refl refl (twin_drop (Some e) (Some d) (record { place = vs.place; target = tg; items = vs.items })) ag tt start)
+      d e x own tys (record { place = dr.place; items = dr.items }) dr.target ty q
 
   module _ (bo : TypedBody) (eb : slice_get X.source.bodies s1.top.function ≡ Some bo) where
     -- ---- statements and operands
-
-    abbrev Q : Between
-    Q m2 m1 = Left m2 m1 × MemTy D G m1
 
     abbrev H1 : Here
     H1 = record { shapes = D; locals = bo.locals; frame = s1.top.frame }
@@ -194,88 +170,37 @@ module _ (X : Change) (P : Pass) (V : Valids X) (Inv : State → Type 0) (laws :
     abbrev low : (f x : ℕ) (t : ℕ × ℕ) → j f x ≡ Some t → j f x ≡ Some t
     low f x t e = e
 
-    clears : (m2 m1 : Memory) (x y : ℕ) (t : Tree) → Q m2 m1 → j s1.top.frame x ≡ Some (s2.top.frame, y) → slice_get bo.locals x ≡ Some t → Q (write m2 (local_addr s2.top.frame y) (blank D t)) (write m1 (local_addr s1.top.frame x) (blank D t))
-    unfolding local_addr
-    clears m2 m1 x y t (h, mt) e et =
-        let a : Addr = record { frame = s1.top.frame; local = x; path = [] } in
-        let b : Addr = record { frame = s2.top.frame; local = y; path = [] } in
-        let ab : AddrRel j a b = record { root = e; path = refl } in
-        let at : AddrTy D G a t = record { local = t; is = lok x t et; path = refl } in
-        let B = blank D t in
-        let same : x ≡ y = (al.only s1.top.frame x y e).1 in
-        let once : (h x' : ℕ) (v : Value) → j h x' ≡ Some (s2.top.frame, y) → (h ≡ s1.top.frame) × (x' ≡ x) = λ h x' v q. (let (p1, p2) = al.only h x' y q in (p1, p2 ∙ sym same)) in (
-          (
-            write_clear j j m2 m1 a b B B h.0 ab (blank_rel j D t) (λ f x' u q z. (once f x' u q)),
-            leaves_then D G j j j (suc s2.top.frame) (suc s1.top.frame) s2.memory s1.memory m2 m1 (write m2 b B) (write m1 a B) h.1 (leaves_write D G j m2 m1 a b B B h.0.mem ab t at (tight_agree D B B t (tight_self B)) (λ h x' v q z. once h x' v q) (suc s2.top.frame) (suc s1.top.frame)),
-          ),
-          write_ty D G m1 a t B mt at (bok t),
-        )
+    nears : (h x g y : ℕ) → j h x ≡ Some (g, y) → (j h x ≡ Some (g, y)) ⊎ ((j h x ≡ None) × (suc s1.top.frame ≤ h) × (suc s2.top.frame ≤ g) × ((h' x' : ℕ) → j h' x' ≡ Some (g, y) → ⊥))
+    nears h x g y e = inl e
 
-    alones : (m2 m1 : Memory) (a b : Addr) (t : Tree) (v w old : Value) → Q m2 m1 → AddrRel j a b → AddrTy D G a t → needs_drop D t ≡ false → value_at m1 a ≡ Some old → value_at m2 b ≡ Some w → HasTy D G t v → ValueRel j v w → Q m2 (write m1 a v)
-    alones m2 m1 a b t v w old (h, mt) ab at nd e1 e2 ty rel =
-        let (o, eo) = root_of m1 a old e1 in
-        let l' = write_linked j j m2 m1 a b v w old h.0 ab rel e1 in (
-          (
-            record { apart = l'.apart; mem = record { at = λ f x g y ll u' e. (let (z, f2, r2) = l'.mem.at f x g y ll u' e in (z, sym (write_again m2 b w g y e2) ∙ f2, r2)) } },
-            leaves_then D G j j j (suc s2.top.frame) (suc s1.top.frame) s2.memory s1.memory m2 m1 m2 (write m1 a v) h.1 (leaves_alone D G V.needs j m2 m1 a b v w t (suc s2.top.frame) (suc s1.top.frame) h.0.mem ab at nd e2 (λ h' x u q z. h.0.apart h' x a.frame a.local (b.frame, b.local) u o q ab.root z eo)),
-          ),
-          write_ty D G m1 a t v mt at ty,
-        )
+    onces : (x y h x' : ℕ) (v : Value) → j s1.top.frame x ≡ Some (s2.top.frame, y) → j h x' ≡ Some (s2.top.frame, y) → local_at s1.memory h x' ≡ Some v → (h ≡ s1.top.frame) × (x' ≡ x)
+    onces x y h x' v e e' q = let (a, b) = al.only h x' y e' in let (c, d) = al.only s1.top.frame x y e in (a, b ∙ sym d)
 
-    abbrev K : Type 0
-    K = kept.Kept D bo.locals bo.locals s1.top.frame s2.top.frame j j low G bok lok Q
+    abbrev Q : Between
+    Q = near.Q D bo.locals bo.locals s1.top.frame s2.top.frame j j low G bok lok V.needs (suc s2.top.frame) (suc s1.top.frame) s2.memory s1.memory nears onces
 
-    keeps : K
-    keeps = record {
-      rel = λ m2 m1 h. h.0.0.mem;
-      typed = λ m2 m1 h. h.1;
-      both = λ m2 m1 a b t v w old h ab at e fair ty hv. (left_write X P V Inv laws G j s2 s1 s2.top s1.top r.core.base r.core.linked al ag be ks m2 m1 a b v w old t h.0 ab at (tight_agree D v w t hv.1) hv.0 e, write_ty D G m1 a t v h.1 at ty);
-      clear = clears;
-      alone = alones;
-    }
+    keeps : kept.Kept D bo.locals bo.locals s1.top.frame s2.top.frame j j low G bok lok Q
+    keeps = near.near_kept D bo.locals bo.locals s1.top.frame s2.top.frame j j low G bok lok V.needs (suc s2.top.frame) (suc s1.top.frame) s2.memory s1.memory nears onces
+
+    left : (m2 m1 : Memory) → Q m2 m1 → Left m2 m1
+    left m2 m1 q = (q.linked, q.leaves)
 
     place_as : (p : Place) → kept.PlaceAs D bo.locals bo.locals s1.top.frame s2.top.frame j j low G bok lok j p p
-    place_as p = record { root = al.roots p.local; proj = refl; ty = refl }
-
-    operand_as : (o : Operand) → kept.OperandAs D bo.locals bo.locals s1.top.frame s2.top.frame j j low G bok lok o o
-    operand_as (operand.Copy p) = place_as p
-    operand_as (operand.Move p) = place_as p
-    operand_as (operand.Const c) = refl
-
-    operands_as : (os : List Operand) → text.OperandsRel D bo.locals bo.locals s1.top.frame s2.top.frame j j low os os
-    operands_as [] = tt
-    operands_as (o ∷ os) = (operand_as o, operands_as os)
-
-    moves_as : (os : List Operand) → AllMoves H1 os → kept.MovesOk D bo.locals bo.locals s1.top.frame s2.top.frame j j low G bok lok Q keeps os
-    moves_as [] h = tt
-    moves_as (o ∷ os) h = (h.0, moves_as os h.1)
-
-    rvalue_as : (q : TypedRvalue) → RvalueMoves H1 q → kept.RvalueAs D bo.locals bo.locals s1.top.frame s2.top.frame j j low G bok lok Q keeps q q
-    rvalue_as («use» o) h = (operand_as o, h)
-    rvalue_as (binary op a c) h = (refl, (operand_as a, operand_as c), h)
-    rvalue_as (overflow op a c) h = (refl, (operand_as a, operand_as c), h)
-    rvalue_as (unary op a) h = (refl, operand_as a, h)
-    rvalue_as (cast a t) h = (refl, operand_as a, h)
-    rvalue_as (rvalue.ref p) h = inl (place_as p)
-    rvalue_as (rvalue.ref_mut p) h = inl (place_as p)
-    rvalue_as (discriminant p) h = place_as p
-    rvalue_as (tuple os) h = (operands_as os, moves_as os h)
-    rvalue_as (build d i os) h = (refl, refl, operands_as os, moves_as os h)
-
-    stmt_as : (st : TypedStmt) → StmtMoves H1 st → StmtTy D G bok bo.locals s1.top.frame lok st → kept.StmtAs D bo.locals bo.locals s1.top.frame s2.top.frame j j low G bok lok Q keeps st st
-    stmt_as (assign p q) h ty = (place_as p, rvalue_as q h, ty)
-    stmt_as (storage_live x) h ty = record { root = al.roots x; ty = refl }
-    stmt_as (storage_dead x) h ty = record { root = al.roots x; ty = refl }
-    stmt_as (set_discriminant p i) h ty = (place_as p, refl, h)
+    place_as p = itself.place_self D bo.locals bo.locals s1.top.frame s2.top.frame j j low G bok lok (λ x. refl) j p (al.roots p.local)
 
     reads_all : (os : List Operand) → AllMoves H1 os → AllRead (kept.sides D bo.locals bo.locals s1.top.frame s2.top.frame j j low G bok lok) Q os os
-    reads_all os h = kept.all_as D bo.locals bo.locals s1.top.frame s2.top.frame j j low G bok lok Q keeps os os (operands_as os) (moves_as os h)
+    reads_all os h =
+        kept.all_as D bo.locals bo.locals s1.top.frame s2.top.frame j j low G bok lok Q keeps os os (itself.operands_self D bo.locals bo.locals s1.top.frame s2.top.frame j j low G bok lok (λ x. refl) os (all_operands (λ x. j s1.top.frame x ≡ Some (s2.top.frame, x)) al.roots os))
+        (itself.moves_self D bo.locals bo.locals s1.top.frame s2.top.frame j j low G bok lok (λ x. refl) Q keeps os h)
 
     reads_one : (o : Operand) → MoveOk H1 o → Reads (kept.sides D bo.locals bo.locals s1.top.frame s2.top.frame j j low G bok lok) Q o o
-    reads_one o h = kept.reads_as D bo.locals bo.locals s1.top.frame s2.top.frame j j low G bok lok Q keeps o o (operand_as o) h
+    reads_one o h = kept.reads_as D bo.locals bo.locals s1.top.frame s2.top.frame j j low G bok lok Q keeps o o (itself.operand_self D bo.locals bo.locals s1.top.frame s2.top.frame j j low G bok lok (λ x. refl) o (all_operand (λ x. j s1.top.frame x ≡ Some (s2.top.frame, x)) al.roots o)) h
+
+    stmt_as : (st : TypedStmt) → StmtMoves H1 st → StmtTy D G bok bo.locals s1.top.frame lok st → kept.StmtAs D bo.locals bo.locals s1.top.frame s2.top.frame j j low G bok lok Q keeps st st
+    stmt_as st h ty = itself.stmt_self D bo.locals bo.locals s1.top.frame s2.top.frame j j low G bok lok (λ x. refl) Q keeps st (itself.all_ok D bo.locals bo.locals s1.top.frame s2.top.frame j j low G bok lok (λ x. refl) al.roots st) h ty
 
     first : Q s2.memory s1.memory
-    first = (start, r.typed1.mem)
+    first = near.near_start D bo.locals bo.locals s1.top.frame s2.top.frame j j low G bok lok V.needs (suc s2.top.frame) (suc s1.top.frame) s2.memory s1.memory nears onces r.core.linked r.typed1.mem
 
     -- the body of the target
     body2 : slice_get X.bodies s2.top.function ≡ Some bo
@@ -298,7 +223,7 @@ module _ (X : Change) (P : Pass) (V : Valids X) (Inv : State → Type 0) (laws :
 
     check_goes : (m2 m1 : Memory) (c : Bool) (words : List ℕ) (os : List Operand) (u : ℕ) (x : Next) → Q m2 m1 → AllMoves H1 os → check H1 s1 m1 c words os u ≡ Some x → Goes X P (check H2 s2 m2 c words os u) x
     unfolding check
-    check_goes m2 m1 true words os u x h ok e = to_block_goes m2 m1 u x h.0 e
+    check_goes m2 m1 true words os u x h ok e = to_block_goes m2 m1 u x (left m2 m1 h) e
     check_goes m2 m1 false words os u x h ok e =
         let (q, e1, k1) = bind_some e in
         let (q', g1, same, _) = integers_read S Q os os (reads_all os ok) m2 m1 q h e1 in
@@ -328,7 +253,7 @@ module _ (X : Change) (P : Pass) (V : Valids X) (Inv : State → Type 0) (laws :
     finish_goes (Switch o arms u) x fw ok ty hd e fl =
         let (q, e1, k1) = bind_some e in
         let (q', g1, same, h) = number_read S Q o o (reads_one o ok) s2.memory s1.memory q first e1 in
-        goes_by X P _ _ x (some_bind _ g1 (ap (λ i. go_on s2 q'.1 (to_block (take_arm i arms u) s2.top)) (sym same))) (to_block_goes q'.1 q.1 (take_arm q.0 arms u) x h.0 k1)
+        goes_by X P _ _ x (some_bind _ g1 (ap (λ i. go_on s2 q'.1 (to_block (take_arm i arms u) s2.top)) (sym same))) (to_block_goes q'.1 q.1 (take_arm q.0 arms u) x (left q'.1 q.1 h) k1)
     finish_goes Return x fw ok ty hd e fl =
         let (v, e1, k1) = bind_some e in
         let ((w, g1, rel), at) = text.read_at_rel D bo.locals bo.locals s1.top.frame s2.top.frame j j low s2.memory s1.memory (local_addr s1.top.frame 0) (local_addr s2.top.frame 0) v zero r.core.linked.mem e1 in
@@ -340,15 +265,14 @@ module _ (X : Change) (P : Pass) (V : Valids X) (Inv : State → Type 0) (laws :
     finish_goes (Drop p u) x fw ok ty hd e fl =
         let (d, e1, k1) = bind_some e in
         let (d2, g1, dr, pty, tys) = begun_goes p u s1.top.dropping s2.top.dropping d refl al.drops e1 in
-        let (b', y, lt, eb', ey, pl, its) = begun_own X.source s1 r.drops bo eb p u s1.top.dropping d hd refl e1 in
-        goes_by X P _ _ x (some_bind _ g1 refl) (work_off_goes d d2 d.items d2.items x y lt b' eb' ey its tys dr dr.items pty k1)
+        goes_by X P _ _ x (some_bind _ g1 refl) (work_off_goes d d2 x (begun_own X.source s1 r.drops bo eb p u s1.top.dropping d hd refl e1) tys dr pty k1)
     finish_goes (Call p g os u) x fw ok (t, pt, ct) hd e fl =
         let (d, e1, k1) = bind_some e in
         let (q, e2, k2) = bind_some k1 in
         let (d2, g1, dr) = kept.dest_as D bo.locals bo.locals s1.top.frame s2.top.frame j j low G bok lok Q keeps s2.memory s1.memory p p d (place_as p) first e1 in
         let (q', g2, hv, h) = all_read S Q os os (reads_all os ok) s2.memory s1.memory q first e2 in
         let at = dest_ty D G bok bo.locals s1.top.frame lok s1.memory p t d r.typed1.mem pt e1 in
-        goes_by X P _ _ x (some_bind _ g1 (some_bind _ g2 refl)) (call_goes q'.1 q.1 u d2 d g os q.0 q'.0 t x fw (read_long H1 os s1.memory q e2) h.0 dr at hv k2)
+        goes_by X P _ _ x (some_bind _ g1 (some_bind _ g2 refl)) (call_goes q'.1 q.1 u d2 d g os q.0 q'.0 t x fw (read_long H1 os s1.memory q e2) (left q'.1 q.1 h) dr at hv k2)
     finish_goes (Assert o c words os u) x fw ok ty hd e fl =
         let (q, e1, k1) = bind_some e in
         let (q', g1, same, h) = number_read S Q o o (reads_one o ok.0) s2.memory s1.memory q first e1 in
@@ -362,7 +286,7 @@ module _ (X : Change) (P : Pass) (V : Valids X) (Inv : State → Type 0) (laws :
         let (so, sty) = sk st refl in
         let (m1', e1, k1) = bind_some e in
         let (m2', g1, h) = kept.exec_as D bo.locals bo.locals s1.top.frame s2.top.frame j j low G bok lok Q keeps st st (stmt_as st so sty) s2.memory s1.memory m1' (λ z. payloads) first e1 in
-        goes_by X P _ _ x (some_bind _ g1 (ap₂ (λ i a. go_on s2 m2' (record s2.top { block = i; at = suc a })) al.block al.at)) (goes_at X P _ x _ k1 (goes_on X P V Inv laws G j s2 s1 s2.top s1.top r.core.base r.core.linked al ag be ks m2' m1' s1.top.block (suc s1.top.at) s2.top.dropping s1.top.dropping h.0 al.drops))
+        goes_by X P _ _ x (some_bind _ g1 (ap₂ (λ i a. go_on s2 m2' (record s2.top { block = i; at = suc a })) al.block al.at)) (goes_at X P _ x _ k1 (goes_on X P V Inv laws G j s2 s1 s2.top s1.top r.core.base r.core.linked al ag be ks m2' m1' s1.top.block (suc s1.top.at) s2.top.dropping s1.top.dropping (left m2' m1' h) al.drops))
 
   -- one step
   pub other_step : (x : Next) → step X.source s1 ≡ Some x → Flat x → Goes X P (step (target X) s2) x

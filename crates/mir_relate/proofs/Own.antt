@@ -11,7 +11,7 @@ use Rattle.mir_syntax.specs.Shapes.{Shape}
 use Rattle.mir_num.specs.Numbers.{wrap, flag}
 use Rattle.mir_semantics.specs.Values.{Value, number, nil}
 use Rattle.mir_semantics.specs.Memory.{Memory, local_at, close_frame}
-use Rattle.mir_semantics.specs.Step.{Dest, Control, Called, State, aborted, no_answer, Next, stop, fail, local_addr, dest_of, store, read_at, go_on, to_block, take_arm, calling, answered, ask, call, return_to, check, finish}
+use Rattle.mir_semantics.specs.Step.{Dest, Control, Called, State, aborted, no_answer, Next, stop, fail, local_addr, dest_of, store, read_at, read_number, read_all, go_on, to_block, take_arm, calling, answered, ask, call, return_to, check, finish}
 use Rattle.mir_renaming.specs.Renaming.{Renaming}
 use Rattle.mir_renaming.proofs.Memory.{bind_some, some_bind}
 use Rattle.mir_renaming.proofs.Statements.{Linked}
@@ -86,6 +86,32 @@ module _ (X : Change) (P : Pass) (V : Valids X) (Inv : State → Type 0) (laws :
       pub waits : (m2 m1 : Memory) → Q m2 m1 → P.waits j (Some d2) (Some d1) (to_block u2 s2.top) (to_block u1 s1.top) gs m2 m1
       pub gets : (m2 m1 m1' : Memory) (v : Value) → Q m2 m1 → Same j v v → store D m1 d1 v ≡ Some m1' → (m2' : Memory) × (store D m2 d2 v ≡ Some m2') × Left m2' m1' × To m2' m1' u2 u1
 
+    -- the same, where something is known of the source's memory
+    abbrev pub EdgeIf : (Memory → Type 0) → ℕ → ℕ → Type 0
+    EdgeIf A u2 u1 = (m2 m1 : Memory) → Q m2 m1 → A m1 → To m2 m1 u2 u1
+
+    pub record GoalIf (A : Memory → Type 0) (d2 d1 : Dest) (u2 u1 : ℕ) : Type 0 where
+      pub waits : (m2 m1 : Memory) → Q m2 m1 → A m1 → P.waits j (Some d2) (Some d1) (to_block u2 s2.top) (to_block u1 s1.top) gs m2 m1
+      pub gets : (m2 m1 m1' : Memory) (v : Value) → Q m2 m1 → A m1 → Same j v v → store D m1 d1 v ≡ Some m1' → (m2' : Memory) × (store D m2 d2 v ≡ Some m2') × Left m2' m1' × To m2' m1' u2 u1
+
+    -- the source's operands leave this memory; its operand is this number
+    abbrev pub Spent : List Operand → Memory → Type 0
+    Spent os m1 = (vs : List Value) × (read_all S.source s1.memory os ≡ Some (vs, m1))
+
+    abbrev pub IsNumber : Operand → ℕ → Memory → Type 0
+    IsNumber o i m1 = read_number S.source s1.memory o ≡ Some (i, m1)
+
+    -- both do the same, and edges and goals are told what the source has read
+    abbrev pub SameStepIf : Term → Term → Type 0
+    SameStepIf (Goto u1) (Goto u2) = Edge u2 u1
+    SameStepIf (Switch o arms1 u1) (Switch p arms2 u2) = Reads S Q o p × ((i : ℕ) → EdgeIf (IsNumber o i) (take_arm i arms2 u2) (take_arm i arms1 u1))
+    SameStepIf Return Return = (gs ≡ []) × ((v : Value) → read_at s1.memory (local_addr S.source.frame 0) ≡ Some v → (w : Value) × (read_at s2.memory (local_addr S.target.frame 0) ≡ Some w) × Same j v w)
+    SameStepIf Unreachable t = Unit {0}
+    SameStepIf (Call p g os u1) (Call q h ps u2) = (g ≡ h) × AllRead S Q os ps × ((d1 : Dest) → dest_of S.source s1.memory p ≡ Some d1 → (d2 : Dest) × (dest_of S.target s2.memory q ≡ Some d2) × GoalIf (Spent os) d2 d1 u2 u1)
+    SameStepIf (Assert o c words os u1) (Assert p c' words' ps u2) = Reads S Q o p × (c ≡ c') × (words ≡ words') × AllRead S Q os ps × ((i : ℕ) → nat_eq i (flag c) ≡ true → EdgeIf (IsNumber o i) u2 u1)
+    SameStepIf t u = ⊥
+
+    -- and where nothing needs to be known
     abbrev pub SameStep : Term → Term → Type 0
     SameStep (Goto u1) (Goto u2) = Edge u2 u1
     SameStep (Switch o arms1 u1) (Switch p arms2 u2) = Reads S Q o p × ((i : ℕ) → Edge (take_arm i arms2 u2) (take_arm i arms1 u1))
@@ -95,10 +121,24 @@ module _ (X : Change) (P : Pass) (V : Valids X) (Inv : State → Type 0) (laws :
     SameStep (Assert o c words os u1) (Assert p c' words' ps u2) = Reads S Q o p × (c ≡ c') × (words ≡ words') × AllRead S Q os ps × Edge u2 u1
     SameStep t u = ⊥
 
+    goal_if : (A : Memory → Type 0) (d2 d1 : Dest) (u2 u1 : ℕ) → Goal d2 d1 u2 u1 → GoalIf A d2 d1 u2 u1
+    goal_if A d2 d1 u2 u1 g = record { waits = λ m2 m1 q a. g.waits m2 m1 q; gets = λ m2 m1 m1' v q a hv k. g.gets m2 m1 m1' v q hv k }
+
+    same_step_if : (t u : Term) → SameStep t u → SameStepIf t u
+    same_step_if (Goto u1) (Goto u2) h = h
+    same_step_if (Switch o arms1 u1) (Switch p arms2 u2) (ho, he) = (ho, λ i m2 m1 q a. he i m2 m1 q)
+    same_step_if Return Return h = h
+    same_step_if Unreachable u h = tt
+    same_step_if (Call p g os u1) (Call q g' ps u2) (hg, ho, hd) = (hg, ho, λ d1 e. (let (d2, k, gl) = hd d1 e in (d2, k, goal_if (Spent os) d2 d1 u2 u1 gl)))
+    same_step_if (Assert o c words os u1) (Assert p c' words' ps u2) (hp, hc, hw, ho, he) = (hp, hc, hw, ho, λ i z m2 m1 q a. he m2 m1 q)
+    same_step_if t u h = absurd h
+
+    -- the frame goes on at the start of a block
+    there_goes : (m2 m1 : Memory) (u2 u1 : ℕ) (x : Next) → Q m2 m1 → To m2 m1 u2 u1 → go_on s1 m1 (to_block u1 s1.top) ≡ Some x → Goes X P (go_on s2 m2 (to_block u2 s2.top)) x
+    there_goes m2 m1 u2 u1 x q (n', o) k = goes_at X P _ x _ k (n', _, refl, own_core n' m2 m1 (to_block u2 s2.top) (to_block u1 s1.top) refl refl refl refl (left m2 m1 q) o)
+
     pub to_goes : (m2 m1 : Memory) (u2 u1 : ℕ) (x : Next) → Q m2 m1 → Edge u2 u1 → go_on s1 m1 (to_block u1 s1.top) ≡ Some x → Goes X P (go_on s2 m2 (to_block u2 s2.top)) x
-    to_goes m2 m1 u2 u1 x q e k =
-        let (n', o) = e m2 m1 q in
-        goes_at X P _ x _ k (n', _, refl, own_core n' m2 m1 (to_block u2 s2.top) (to_block u1 s1.top) refl refl refl refl (left m2 m1 q) o)
+    to_goes m2 m1 u2 u1 x q e k = there_goes m2 m1 u2 u1 x q (e m2 m1 q) k
 
     answered_goes : (t2 t1 : List Called) (r2 r1 : List ℕ) (u2 u1 : ℕ) (o2 o1 : Option Memory) (x : Next) → t2 ≡ t1 → r2 ≡ r1 → ((m1' : Memory) → o1 ≡ Some m1' → (m2' : Memory) × (o2 ≡ Some m2') × Left m2' m1' × To m2' m1' u2 u1) → answered (calling s1 t1 r1) (to_block u1 s1.top) o1 ≡ Some x → Goes X P (answered (calling s2 t2 r2) (to_block u2 s2.top) o2) x
     answered_goes t2 t1 r2 r1 u2 u1 o2 None x ts rs hm e = goes_at X P _ x (fail t1) e tt
@@ -108,29 +148,29 @@ module _ (X : Change) (P : Pass) (V : Valids X) (Inv : State → Type 0) (laws :
         goes_by X P _ _ x (ap (answered (calling s2 t2 r2) (to_block u2 s2.top)) g) (goes_at X P _ x _ e
         (n', _, refl, record { lent = k.lent; base = record { fresh1 = k.base.fresh1; fresh2 = k.base.fresh2; top1 = k.base.top1; top2 = k.base.top2; answers = rs; trace = ts }; linked = k.linked; runs = k.runs }))
 
-    ask_goes : (m2 m1 : Memory) (u2 u1 : ℕ) (d2 d1 : Dest) (o : ℕ) (ns : List ℕ) (t : Tree) (answers : List ℕ) (x : Next) → Q m2 m1 → Goal d2 d1 u2 u1 → ask D s1 m1 (to_block u1 s1.top) d1 o ns t answers ≡ Some x → Goes X P (ask D s2 m2 (to_block u2 s2.top) d2 o ns t answers) x
+    ask_goes : (A : Memory → Type 0) (m2 m1 : Memory) → A m1 → (u2 u1 : ℕ) (d2 d1 : Dest) (o : ℕ) (ns : List ℕ) (t : Tree) (answers : List ℕ) (x : Next) → Q m2 m1 → GoalIf A d2 d1 u2 u1 → ask D s1 m1 (to_block u1 s1.top) d1 o ns t answers ≡ Some x → Goes X P (ask D s2 m2 (to_block u2 s2.top) d2 o ns t answers) x
     unfolding ask
-    ask_goes m2 m1 u2 u1 d2 d1 o ns (scalar t) [] x q gl e = goes_at X P _ x (stop no_answer) e refl
-    ask_goes m2 m1 u2 u1 d2 d1 o ns (scalar t) (a ∷ rest) x q gl e =
-        answered_goes _ _ rest rest u2 u1 _ _ x (ap (λ t'. record { outside = o; args = ns; answer = Some (wrap t a) } ∷ t') r.core.base.trace) refl (λ m1' k. gl.gets m2 m1 m1' (number (wrap t a)) q (refl, tt) k) e
-    ask_goes m2 m1 u2 u1 d2 d1 o ns t answers x q gl e =
-        answered_goes _ _ answers answers u2 u1 _ _ x (ap (λ t'. record { outside = o; args = ns; answer = None } ∷ t') r.core.base.trace) refl (λ m1' k. gl.gets m2 m1 m1' nil q (tt, tt) k) e
+    ask_goes A m2 m1 am u2 u1 d2 d1 o ns (scalar t) [] x q gl e = goes_at X P _ x (stop no_answer) e refl
+    ask_goes A m2 m1 am u2 u1 d2 d1 o ns (scalar t) (a ∷ rest) x q gl e =
+        answered_goes _ _ rest rest u2 u1 _ _ x (ap (λ t'. record { outside = o; args = ns; answer = Some (wrap t a) } ∷ t') r.core.base.trace) refl (λ m1' k. gl.gets m2 m1 m1' (number (wrap t a)) q am (refl, tt) k) e
+    ask_goes A m2 m1 am u2 u1 d2 d1 o ns t answers x q gl e =
+        answered_goes _ _ answers answers u2 u1 _ _ x (ap (λ t'. record { outside = o; args = ns; answer = None } ∷ t') r.core.base.trace) refl (λ m1' k. gl.gets m2 m1 m1' nil q am (tt, tt) k) e
 
-    below_this : (m2 m1 : Memory) (u2 u1 : ℕ) (d2 d1 : Dest) → Q m2 m1 → Goal d2 d1 u2 u1 → Below X P j (Some d2) (Some d1) s2.next s1.next (to_block u2 s2.top ∷ s2.callers) (to_block u1 s1.top ∷ s1.callers) m2 m1
-    below_this m2 m1 u2 u1 d2 d1 q gl = inr (to_block u1 s1.top, gs, ds, ap (λ cs. to_block u1 s1.top ∷ cs) split, r.core.base.top1, r.core.base.top2, low_at (to_block u1 s1.top) refl, gl.waits m2 m1 q, below_at m2 m1 (to_block u2 s2.top) (to_block u1 s1.top) refl refl refl refl (left m2 m1 q))
+    below_this : (A : Memory → Type 0) (m2 m1 : Memory) → A m1 → (u2 u1 : ℕ) (d2 d1 : Dest) → Q m2 m1 → GoalIf A d2 d1 u2 u1 → Below X P j (Some d2) (Some d1) s2.next s1.next (to_block u2 s2.top ∷ s2.callers) (to_block u1 s1.top ∷ s1.callers) m2 m1
+    below_this A m2 m1 am u2 u1 d2 d1 q gl = inr (to_block u1 s1.top, gs, ds, ap (λ cs. to_block u1 s1.top ∷ cs) split, r.core.base.top1, r.core.base.top2, low_at (to_block u1 s1.top) refl, gl.waits m2 m1 q am, below_at m2 m1 (to_block u2 s2.top) (to_block u1 s1.top) refl refl refl refl (left m2 m1 q))
 
-    call_goes : (m2 m1 : Memory) (u2 u1 : ℕ) (d2 d1 : Dest) (g : Callee) (os : List Operand) (vs ws : List Value) (x : Next) → FewArgs X.source g os → length vs ≡ length os → Q m2 m1 → Goal d2 d1 u2 u1 → AllSame j vs ws → call X.source s1 m1 (to_block u1 s1.top) d1 g vs ≡ Some x → Goes X P (call (target X) s2 m2 (to_block u2 s2.top) d2 g ws) x
+    call_goes : (A : Memory → Type 0) (m2 m1 : Memory) → A m1 → (u2 u1 : ℕ) (d2 d1 : Dest) (g : Callee) (os : List Operand) (vs ws : List Value) (x : Next) → FewArgs X.source g os → length vs ≡ length os → Q m2 m1 → GoalIf A d2 d1 u2 u1 → AllSame j vs ws → call X.source s1 m1 (to_block u1 s1.top) d1 g vs ≡ Some x → Goes X P (call (target X) s2 m2 (to_block u2 s2.top) d2 g ws) x
     unfolding call
-    call_goes m2 m1 u2 u1 d2 d1 (callee.Local g) os vs ws x few long q gl hv e =
-        enter_goes X P V Inv laws G j s2 s1 m2 m1 r.core.base (left m2 m1 q).0 (to_block u2 s2.top) (to_block u1 s1.top) (Some d2) (Some d1) knows (below_this m2 m1 u2 u1 d2 d1 q gl) vs ws hv g.0 x (λ b eb. (let f = few b eb in omega (arith, f, long))) e
-    call_goes m2 m1 u2 u1 d2 d1 (callee.Outside o) os vs ws x few long q gl hv e =
+    call_goes A m2 m1 am u2 u1 d2 d1 (callee.Local g) os vs ws x few long q gl hv e =
+        enter_goes X P V Inv laws G j s2 s1 m2 m1 r.core.base (left m2 m1 q).0 (to_block u2 s2.top) (to_block u1 s1.top) (Some d2) (Some d1) knows (below_this A m2 m1 am u2 u1 d2 d1 q gl) vs ws hv g.0 x (λ b eb. (let f = few b eb in omega (arith, f, long))) e
+    call_goes A m2 m1 am u2 u1 d2 d1 (callee.Outside o) os vs ws x few long q gl hv e =
         let (out, e1, k1) = bind_some e in
         let (ns, e2, k2) = bind_some k1 in
-        goes_by X P _ _ x (some_bind _ e1 (some_bind _ (numbers_same j vs ws ns hv.0 e2) (ap (λ an. ask D s2 m2 (to_block u2 s2.top) d2 o.0 ns out.result an) r.core.base.answers))) (ask_goes m2 m1 u2 u1 d2 d1 o.0 ns out.result s1.answers x q gl k2)
+        goes_by X P _ _ x (some_bind _ e1 (some_bind _ (numbers_same j vs ws ns hv.0 e2) (ap (λ an. ask D s2 m2 (to_block u2 s2.top) d2 o.0 ns out.result an) r.core.base.answers))) (ask_goes A m2 m1 am u2 u1 d2 d1 o.0 ns out.result s1.answers x q gl k2)
 
-    check_goes : (m2 m1 : Memory) (c : Bool) (words : List ℕ) (os ps : List Operand) (u2 u1 : ℕ) (x : Next) → Q m2 m1 → AllRead S Q os ps → Edge u2 u1 → check S.source s1 m1 c words os u1 ≡ Some x → Goes X P (check S.target s2 m2 c words ps u2) x
+    check_goes : (m2 m1 : Memory) (c : Bool) (words : List ℕ) (os ps : List Operand) (u2 u1 : ℕ) (x : Next) → Q m2 m1 → AllRead S Q os ps → (c ≡ true → To m2 m1 u2 u1) → check S.source s1 m1 c words os u1 ≡ Some x → Goes X P (check S.target s2 m2 c words ps u2) x
     unfolding check
-    check_goes m2 m1 true words os ps u2 u1 x q h e k = to_goes m2 m1 u2 u1 x q e k
+    check_goes m2 m1 true words os ps u2 u1 x q h e k = there_goes m2 m1 u2 u1 x q (e refl) k
     check_goes m2 m1 false words os ps u2 u1 x q h e k =
         let (a, e1, k1) = bind_some k in
         let (a', g1, same, _) = integers_read S Q os ps h m2 m1 a q e1 in
@@ -146,27 +186,30 @@ module _ (X : Change) (P : Pass) (V : Valids X) (Inv : State → Type 0) (laws :
           go [] e q b = subst (λ cs. Below X P j s2.top.dest s1.top.dest s2.top.frame s1.top.frame s2.callers cs s2.memory s1.memory) (sym q) b
           go (g ∷ gs) e q b = absurd (grind arith)
 
-      pub same_step_goes : (t u : Term) (x : Next) → FewTerm X.source t → SameStep t u → finish X.source S.source s1 t ≡ Some x → Flat x → Goes X P (finish (target X) S.target s2 u) x
+      pub step_if_goes : (t u : Term) (x : Next) → FewTerm X.source t → SameStepIf t u → finish X.source S.source s1 t ≡ Some x → Flat x → Goes X P (finish (target X) S.target s2 u) x
       unfolding finish closed1 closed2
-      same_step_goes (Goto u1) (Goto u2) x few h e fl = to_goes s2.memory s1.memory u2 u1 x first h e
-      same_step_goes (Switch o arms1 u1) (Switch p arms2 u2) x few (ho, he) e fl =
+      step_if_goes (Goto u1) (Goto u2) x few h e fl = to_goes s2.memory s1.memory u2 u1 x first h e
+      step_if_goes (Switch o arms1 u1) (Switch p arms2 u2) x few (ho, he) e fl =
           let (a, e1, k1) = bind_some e in
           let (a', g1, same, q) = number_read S Q o p ho s2.memory s1.memory a first e1 in
-          goes_by X P _ _ x (some_bind _ g1 (ap (λ i. go_on s2 a'.1 (to_block (take_arm i arms2 u2) s2.top)) (sym same))) (to_goes a'.1 a.1 (take_arm a.0 arms2 u2) (take_arm a.0 arms1 u1) x q (he a.0) k1)
-      same_step_goes Return Return x few h e fl =
+          goes_by X P _ _ x (some_bind _ g1 (ap (λ i. go_on s2 a'.1 (to_block (take_arm i arms2 u2) s2.top)) (sym same))) (there_goes a'.1 a.1 (take_arm a.0 arms2 u2) (take_arm a.0 arms1 u1) x q (he a.0 a'.1 a.1 q e1) k1)
+      step_if_goes Return Return x few h e fl =
           let (v, e1, k1) = bind_some e in
           let (w, g1, hv) = h.1 v e1 in
           goes_by X P _ _ x (some_bind _ g1 (ap (λ i. return_to D s2 (close_frame s2.memory i) s2.top.dest s2.callers w) frame2))
           (return_goes X P V Inv laws n s2 s1 r only none (alone h.0) bo eb v w x hv (ap (λ i. return_to D s1 (close_frame s1.memory i) s1.top.dest s1.callers v) (sym frame1) ∙ k1) fl)
-      same_step_goes Unreachable u x few h e fl = absurd (grind arith)
-      same_step_goes (Call p g os u1) (Call p' g' ps u2) x few (hg, ho, hd) e fl =
+      step_if_goes Unreachable u x few h e fl = absurd (grind arith)
+      step_if_goes (Call p g os u1) (Call p' g' ps u2) x few (hg, ho, hd) e fl =
           let (d1, e1, k1) = bind_some e in
           let (a, e2, k2) = bind_some k1 in
           let (d2, g1, gl) = hd d1 e1 in
           let (a', g2, hv, q) = all_read S Q os ps ho s2.memory s1.memory a first e2 in
-          goes_by X P _ _ x (some_bind _ g1 (some_bind _ g2 (ap (λ g. call (target X) s2 a'.1 (to_block u2 s2.top) d2 g a'.0) (sym hg)))) (call_goes a'.1 a.1 u2 u1 d2 d1 g os a.0 a'.0 x few (read_long S.source os s1.memory a e2) q gl (subst (λ i. AllSame i a.0 a'.0) lent hv) k2)
-      same_step_goes (Assert o c words os u1) (Assert p c' words' ps u2) x few (hp, hc, hw, ho, he) e fl =
+          goes_by X P _ _ x (some_bind _ g1 (some_bind _ g2 (ap (λ g. call (target X) s2 a'.1 (to_block u2 s2.top) d2 g a'.0) (sym hg)))) (call_goes (Spent os) a'.1 a.1 (a.0, e2) u2 u1 d2 d1 g os a.0 a'.0 x few (read_long S.source os s1.memory a e2) q gl (subst (λ i. AllSame i a.0 a'.0) lent hv) k2)
+      step_if_goes (Assert o c words os u1) (Assert p c' words' ps u2) x few (hp, hc, hw, ho, he) e fl =
           let (a, e1, k1) = bind_some e in
           let (a', g1, same, q) = number_read S Q o p hp s2.memory s1.memory a first e1 in
-          goes_by X P _ _ x (some_bind _ g1 (ap₂ (λ c words. check S.target s2 a'.1 (nat_eq a'.0 (flag c)) words ps u2) (sym hc) (sym hw) ∙ ap (λ i. check S.target s2 a'.1 (nat_eq i (flag c)) words ps u2) (sym same))) (check_goes a'.1 a.1 (nat_eq a.0 (flag c)) words os ps u2 u1 x q ho he k1)
-      same_step_goes t u x few h e fl = absurd h
+          goes_by X P _ _ x (some_bind _ g1 (ap₂ (λ c words. check S.target s2 a'.1 (nat_eq a'.0 (flag c)) words ps u2) (sym hc) (sym hw) ∙ ap (λ i. check S.target s2 a'.1 (nat_eq i (flag c)) words ps u2) (sym same))) (check_goes a'.1 a.1 (nat_eq a.0 (flag c)) words os ps u2 u1 x q ho (λ z. he a.0 z a'.1 a.1 q e1) k1)
+      step_if_goes t u x few h e fl = absurd h
+
+      pub same_step_goes : (t u : Term) (x : Next) → FewTerm X.source t → SameStep t u → finish X.source S.source s1 t ≡ Some x → Flat x → Goes X P (finish (target X) S.target s2 u) x
+      same_step_goes t u x few h e fl = step_if_goes t u x few (same_step_if t u h) e fl

@@ -20,7 +20,6 @@ use Rattle.mir_relate.proofs.Leaves.{some_val, leaves_close}
 use Rattle.mir_relate.proofs.Opens.{linked_close}
 use Rattle.mir_relate.proofs.Stacks.{knows_all, below_kept}
 use Rattle.mir_relate.proofs.Enter.{goes_at, goes_by}
-use Rattle.mir_relate.proofs.Drops as drops
 use Rattle.mir_relate.proofs.Drops.{left_same, left_store, goes_here, destroyed_goes}
 
 module _ (X : Change) (P : Pass) (V : Valids X) (Inv : State → Type 0) (laws : FrameLaws X P V Inv) (n : ℕ) (s2 s1 : State) (r : Related X P V Inv n s2 s1) (only : (h x y : ℕ) (v : Value) → r.core.lent h x ≡ Some (s2.top.frame, y) → local_at s1.memory h x ≡ Some v → h ≡ s1.top.frame) (none : (h x y : ℕ) → h < s1.top.frame → r.core.lent h x ≡ Some (s2.top.frame, y) → ⊥) (be : Below X P r.core.lent s2.top.dest s1.top.dest s2.top.frame s1.top.frame s2.callers s1.callers s2.memory s1.memory) where
@@ -63,11 +62,7 @@ module _ (X : Change) (P : Pass) (V : Valids X) (Inv : State → Type 0) (laws :
       let t2 = r.core.base.top2 in
       destroyed_goes X P V Inv laws G j (record s2 { memory = closed2; callers = cs2 }) (record s1 { memory = closed1; callers = ds }) c2 c1
       (record { fresh1 = r.core.base.fresh1; fresh2 = r.core.base.fresh2; top1 = omega (arith, lt1, t1); top2 = omega (arith, lt2, t2); answers = r.core.base.answers; trace = r.core.base.trace })
-      linked_closed a g b k x (λ d q. (own.0 d q, own.1 d q, (subst (MaybeDrop X.source V.valid1 G) q ty.dropping).0, all_visits d.items (subst (MaybeDrop X.source V.valid1 G) q ty.dropping).1)) e
-    where
-      all_visits : (is : List Visit) → VisitsTy X.source V.valid1 G is → drops.VisitsAll X P V Inv laws G j (record s2 { memory = closed2; callers = cs2 }) (record s1 { memory = closed1; callers = ds }) c2 c1 (record { fresh1 = r.core.base.fresh1; fresh2 = r.core.base.fresh2; top1 = (let t1 = r.core.base.top1 in omega (arith, lt1, t1)); top2 = (let t2 = r.core.base.top2 in omega (arith, lt2, t2)); answers = r.core.base.answers; trace = r.core.base.trace }) linked_closed a g b k is
-      all_visits [] h = tt
-      all_visits (i ∷ is) h = (h.0, all_visits is h.1)
+      linked_closed a g b k x (λ d q. (let t = subst (MaybeDrop X.source V.valid1 G) q ty.dropping in (own.0 d q, own.1 d q, t.0, t.1))) e
   back_goes c2 c1 cs2 ds (Some d2) (Some d1) v w x k ty own dt lt1 lt2 a g dr b hv e =
       let t1 = r.core.base.top1 in
       let t2 = r.core.base.top2 in

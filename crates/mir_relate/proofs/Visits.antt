@@ -1,13 +1,14 @@
 -- A drop that goes on in any frame whose locals agree with what stands for them: the frame says where it stands after an item, and at the end.
-use Rattle.std.proofs.Common.{◌≡◌, refl, sym, ap, ap₂, ◌∙◌, subst, ℕ, ◌<◌, Bool, true, false, if◌then◌else◌, List, [], ◌∷◌, ◌++◌, Option, Some, None, slice_get, arith}
+use Rattle.std.proofs.Common.{◌≡◌, refl, sym, ap, ap₂, ◌∙◌, subst, ℕ, suc, ◌<◌, Bool, true, false, if◌then◌else◌, List, [], ◌∷◌, ◌++◌, Option, Some, None, slice_get, arith}
+use Rattle.mir_syntax.specs.declared.body.Proj.TheVariants.{Field, Downcast}
 use Rattle.mir_syntax.specs.Tree.{Tree, scalar, empty, more, ref, ref_mut, named}
-use Rattle.mir_syntax.specs.Shapes.{Shape, path_ty, needs_drop, destructor_of}
+use Rattle.mir_syntax.specs.Shapes.{Shape, path_ty, struct_fields, needs_drop, destructor_of}
 use Rattle.mir_syntax.specs.Crate.{TypedBody}
-use Rattle.mir_semantics.specs.Values.{Addr, Value, pointer, hole, is_hole, at_path, blank}
-use Rattle.mir_semantics.specs.Memory.{Memory, local_at, value_at, write}
-use Rattle.mir_semantics.specs.Step.{Visit, Dropping, Control, State, Next, on, go_on, to_block, visits_of, work_on, visit, visit_unless, visit_if, work_off, left_in, left_at, destroyed_at, destroyed}
+use Rattle.mir_semantics.specs.Values.{Addr, Value, number, nil, cons, variant, pointer, hole, is_hole, at_path, blank}
+use Rattle.mir_semantics.specs.Memory.{Memory, local_at, value_at, write, further}
+use Rattle.mir_semantics.specs.Step.{field_visits, variant_visits, enum_visits, shape_visits, Visit, Dropping, Control, State, Next, on, go_on, to_block, visits_of, work_on, visit, visit_unless, visit_if, work_off, left_in, left_at, destroyed_at, destroyed}
 use Rattle.mir_renaming.specs.Renaming.{Renaming, AddrRel, ValueRel}
-use Rattle.mir_renaming.proofs.Memory.{bind_some, some_bind, value_at_rel}
+use Rattle.mir_renaming.proofs.Memory.{bind_some, some_bind, value_at_rel, further_rel}
 use Rattle.mir_renaming.proofs.Statements.{Linked, blank_rel, write_linked}
 use Rattle.mir_renaming.proofs.Types.{TypeMap, AddrTy, some_eq}
 use Rattle.mir_renaming.proofs.Typed.{VisitsTy}
@@ -19,7 +20,58 @@ use Rattle.mir_relate.specs.Frames.{Change, target, Pass, VisitRel, VisitsRel, V
 use Rattle.mir_relate.specs.Pass.{Knows, KnowsAll, Valids, FrameLaws, Goes}
 use Rattle.mir_relate.proofs.Leaves.{some_val, leaves_write}
 use Rattle.mir_relate.proofs.Enter.{goes_at, goes_by, enter_goes}
-use Rattle.mir_relate.proofs.Drops.{parts_rel, append_rel}
+
+-- ---- the visits of related places
+
+pub fields_rel : (j : Renaming) (a b : Addr) (i : ℕ) (t : Tree) → AddrRel j a b → VisitsRel j (field_visits a i t) (field_visits b i t)
+fields_rel j a b i (more t ts) h = (record { addr = further_rel j a b (Field i) h; ty = refl }, fields_rel j a b (suc i) ts h)
+fields_rel j a b i (scalar s) h = tt
+fields_rel j a b i empty h = tt
+fields_rel j a b i (ref t) h = tt
+fields_rel j a b i (ref_mut t) h = tt
+fields_rel j a b i (named d) h = tt
+
+variants_rel : (j : Renaming) (a b : Addr) (k : ℕ) (o : Option Tree) → AddrRel j a b → VisitsRel j (variant_visits a k o) (variant_visits b k o)
+variants_rel j a b k None h = tt
+variants_rel j a b k (Some t) h = fields_rel j (further a (Downcast k)) (further b (Downcast k)) 0 t (further_rel j a b (Downcast k) h)
+
+enums_rel : (j : Renaming) (a b : Addr) (ts : List Tree) (v w : Value) → AddrRel j a b → ValueRel j v w → (is_hole v ≡ true → is_hole w ≡ true) → VisitsRel j (enum_visits a ts v) (enum_visits b ts w)
+enums_rel j a b ts hole hole h r f = tt
+enums_rel j a b ts hole (number n) h r f = absurd (let z = f refl in grind arith)
+enums_rel j a b ts hole nil h r f = absurd (let z = f refl in grind arith)
+enums_rel j a b ts hole (cons w ws) h r f = absurd (let z = f refl in grind arith)
+enums_rel j a b ts hole (variant k w) h r f = absurd (let z = f refl in grind arith)
+enums_rel j a b ts hole (pointer c) h r f = absurd (let z = f refl in grind arith)
+enums_rel j a b ts (variant k v) (variant i w) h r f = subst (λ i. VisitsRel j (variant_visits a k (slice_get ts k)) (variant_visits b i (slice_get ts i))) r.0 (variants_rel j a b k (slice_get ts k) h)
+enums_rel j a b ts (number n) (number m) h r f = tt
+enums_rel j a b ts nil nil h r f = tt
+enums_rel j a b ts (cons v vs) (cons w ws) h r f = tt
+enums_rel j a b ts (pointer c) (pointer d) h r f = tt
+enums_rel j a b ts v w h r f = absurd r
+
+shapes_rel : (j : Renaming) (a b : Addr) (o : Option Shape) (v w : Value) → AddrRel j a b → ValueRel j v w → (is_hole v ≡ true → is_hole w ≡ true) → VisitsRel j (shape_visits a o v) (shape_visits b o w)
+shapes_rel j a b None v w h r f = tt
+shapes_rel j a b (Some s) v w h r f = go s.is_enum
+  where
+    go : (c : Bool) → VisitsRel j (if c then enum_visits a s.variants v else field_visits a 0 (struct_fields s)) (if c then enum_visits b s.variants w else field_visits b 0 (struct_fields s))
+    go true = enums_rel j a b s.variants v w h r f
+    go false = fields_rel j a b 0 (struct_fields s) h
+
+pub parts_rel : (D : List Shape) (j : Renaming) (a b : Addr) (t : Tree) (v w : Value) → AddrRel j a b → ValueRel j v w → (is_hole v ≡ true → is_hole w ≡ true) → VisitsRel j (visits_of D a t v) (visits_of D b t w)
+parts_rel D j a b (named d) v w h r f = shapes_rel j a b (slice_get D d) v w h r f
+parts_rel D j a b (scalar s) v w h r f = tt
+parts_rel D j a b empty v w h r f = tt
+parts_rel D j a b (more u us) v w h r f = fields_rel j a b 0 (more u us) h
+parts_rel D j a b (ref u) v w h r f = tt
+parts_rel D j a b (ref_mut u) v w h r f = tt
+
+pub append_rel : (j : Renaming) (is ks ls ms : List Visit) → VisitsRel j is ks → VisitsRel j ls ms → VisitsRel j (is ++ ls) (ks ++ ms)
+append_rel j [] [] ls ms h g = g
+append_rel j (i ∷ is) (k ∷ ks) ls ms h g = (h.0, append_rel j is ks ls ms h.1 g)
+append_rel j [] (k ∷ ks) ls ms h g = absurd h
+append_rel j (i ∷ is) [] ls ms h g = absurd h
+
+-- ---- what is left of a frame
 
 -- what leaves a frame's locals leaves their agreement
 pub agrees_by : (X : Change) (G : TypeMap) (j j' : Renaming) (n2 n1 : ℕ) (m2' m1' m2 m1 : Memory) (c1 : Control) → c1.frame < n1 → Knows X G c1 → Leaves X.source.shapes G j j' n2 n1 m2' m1' m2 m1 → AgreesBy X j c1 m2 m1 → AgreesBy X j' c1 m2' m1'

@@ -100,11 +100,11 @@ pub put_rel : (j : Renaming) (ps : List Proj) (v w : Value) → ValueRel j v w �
 put_rel j [] v w h v' w' h' = h
 put_rel j (p ∷ ps) v w h v' w' h' = change_inner_rel j p (put ps v) (put ps w) (put_rel j ps v w h) v' w' h'
 
-and_both : (a b : Bool) → (a && b) ≡ true → (a ≡ true) × (b ≡ true)
+pub and_both : (a b : Bool) → (a && b) ≡ true → (a ≡ true) × (b ≡ true)
 and_both true b e = (refl, e)
 and_both false b e = absurd (grind arith)
 
-both_and : (a b : Bool) → a ≡ true → b ≡ true → (a && b) ≡ true
+pub both_and : (a b : Bool) → a ≡ true → b ≡ true → (a && b) ≡ true
 both_and true b e f = f
 both_and false b e f = e
 
