@@ -10,9 +10,11 @@ use Rattle.mir_syntax.specs.Crate as rvalue
 use Rattle.mir_syntax.specs.Shapes.{Shape, ◌>>=◌, variant_ty, place_ty, needs_drop}
 use Rattle.mir_semantics.specs.Values.{Addr, Value, variant, pointer, blank}
 use Rattle.mir_semantics.specs.Memory.{Memory, local_at, value_at, write, walk}
-use Rattle.mir_semantics.specs.Step.{Dest, Here, local_addr, resolve, type_of, has_deref, guard_of, dest_of, store, read, read_all, eval, set_blank, is_variant, write_unless, exec}
+use Rattle.mir_syntax.specs.Parts.{has_deref}
+use Rattle.mir_semantics.specs.Step.{Dest, Here, local_addr, resolve, type_of, guard_of, dest_of, store, read, read_all, eval, set_blank, is_variant, write_unless, exec}
 use Rattle.mir_renaming.specs.Renaming.{Renaming, ValueRel, SomeRel, Sub, MemRel, AddrThere}
-use Rattle.mir_renaming.proofs.Memory.{bind_some, some_bind, walk_rel, write_other, write_back, fewer}
+use Rattle.mir_syntax.proofs.Binds.{bind_some, some_bind}
+use Rattle.mir_renaming.proofs.Memory.{walk_rel, write_other, write_back, fewer}
 use Rattle.mir_renaming.proofs.Statements.{blank_rel, Linked, Got, got_at, store_rel, PlaceRel, OperandRel, OperandsRel, eval_rel, dest_rel, exec_rel}
 use Rattle.mir_renaming.proofs.Types.{TypeMap, HasTy, MemTy, some_eq, value_at_ty, resolve_ty, blank_fits}
 use Rattle.mir_live.proofs.Among.{Among, OkOperand, OkOperands, OkRvalue}

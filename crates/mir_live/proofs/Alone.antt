@@ -10,7 +10,8 @@ use Rattle.mir_semantics.specs.Values.{Addr, Value, blank}
 use Rattle.mir_semantics.specs.Memory.{Memory, value_at, write}
 use Rattle.mir_semantics.specs.Step.{Here, read_at, read, read_all, read_number, read_two, eval}
 use Rattle.mir_renaming.specs.Renaming.{Renaming, AddrRel, ValueRel, Sub}
-use Rattle.mir_renaming.proofs.Memory.{bind_some, value_at_rel, write_again}
+use Rattle.mir_syntax.proofs.Binds.{bind_some}
+use Rattle.mir_renaming.proofs.Memory.{value_at_rel, write_again}
 use Rattle.mir_renaming.proofs.Statements.{Linked, write_linked, H1, resolve_rel}
 use Rattle.mir_renaming.proofs.Types.{TypeMap, HasTy, MemTy, value_at_ty, write_ty, resolve_ty, blank_any}
 use Rattle.mir_live.proofs.Among.{Among, OkOperand, OkOperands, OkRvalue}

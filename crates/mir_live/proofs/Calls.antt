@@ -7,7 +7,8 @@ use Rattle.mir_semantics.specs.Values.{Addr, Value, number, nil, cons, variant, 
 use Rattle.mir_semantics.specs.Memory.{Memory, local_at, value_at, write}
 use Rattle.mir_semantics.specs.Step.{Dest, Here, store}
 use Rattle.mir_renaming.specs.Renaming.{Renaming, ValueRel, Sub}
-use Rattle.mir_renaming.proofs.Memory.{bind_some, some_bind, value_at_rel}
+use Rattle.mir_syntax.proofs.Binds.{bind_some, some_bind}
+use Rattle.mir_renaming.proofs.Memory.{value_at_rel}
 use Rattle.mir_renaming.proofs.Statements.{blank_rel, ValuesRel}
 use Rattle.mir_syntax.specs.Crate.{TypedBody}
 use Rattle.mir_num.specs.Numbers.{wrap}

@@ -6,9 +6,11 @@ use Rattle.mir_syntax.specs.Crate.{TypedRvalue, TypedStmt, assign, storage_live,
 use Rattle.mir_syntax.specs.Shapes.{place_ty, needs_drop}
 use Rattle.mir_semantics.specs.Values.{Addr, Value, variant, blank}
 use Rattle.mir_semantics.specs.Memory.{Memory}
-use Rattle.mir_semantics.specs.Step.{Dest, Here, local_addr, resolve, type_of, has_deref, is_variant, write_unless, exec}
+use Rattle.mir_syntax.specs.Parts.{has_deref}
+use Rattle.mir_semantics.specs.Step.{Dest, Here, local_addr, resolve, type_of, is_variant, write_unless, exec}
 use Rattle.mir_renaming.specs.Renaming.{Renaming}
-use Rattle.mir_renaming.proofs.Memory.{bind_some, some_bind, same_or_not}
+use Rattle.mir_syntax.proofs.Binds.{bind_some, some_bind}
+use Rattle.mir_renaming.proofs.Memory.{same_or_not}
 use Rattle.mir_syntax.specs.Crate.{TypedBlock, TypedBody}
 use Rattle.mir_semantics.specs.Step.{Code, Control, State, Next, on, stop, fail, next_stmt, perform, step}
 use Rattle.mir_relate.proofs.Aligned.{Flat}

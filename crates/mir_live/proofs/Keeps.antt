@@ -8,7 +8,7 @@ use Rattle.mir_syntax.specs.Shapes.{Shape}
 use Rattle.mir_semantics.specs.Values.{Addr, Value, variant, blank}
 use Rattle.mir_semantics.specs.Memory.{Memory, write}
 use Rattle.mir_semantics.specs.Step.{Dest, Here, allows, store, read, read_all, read_number, read_two, eval, set_blank, is_variant, write_unless, exec}
-use Rattle.mir_renaming.proofs.Memory.{bind_some}
+use Rattle.mir_syntax.proofs.Binds.{bind_some}
 use Rattle.mir_renaming.proofs.Statements.{only_true}
 
 module _ (I : Memory → Type 0) (closed : (m : Memory) (a : Addr) (v : Value) → I m → I (write m a v)) (h : Here) where

@@ -5,7 +5,8 @@ use Rattle.mir_semantics.specs.Values.{Addr, Value, at_path, put}
 use Rattle.mir_semantics.specs.Memory.{Memory, local_at, value_at, write}
 use Rattle.mir_semantics.specs.Step.{Dest, only_if, allows, store}
 use Rattle.mir_renaming.specs.Renaming.{Renaming, ValueRel, Sub, MemRel, RootOf}
-use Rattle.mir_renaming.proofs.Memory.{bind_some, some_bind, same_or_not, root_or_not, write_same, write_other, write_back, write_target, write_source, fewer, write_whole_rel}
+use Rattle.mir_syntax.proofs.Binds.{bind_some, some_bind}
+use Rattle.mir_renaming.proofs.Memory.{same_or_not, root_or_not, write_same, write_other, write_back, write_target, write_source, fewer, write_whole_rel}
 use Rattle.mir_renaming.proofs.Statements.{only_true, Linked, store_rel}
 
 -- each local stands for itself

@@ -9,7 +9,8 @@ use Rattle.mir_syntax.specs.Shapes.{Shape}
 use Rattle.mir_semantics.specs.Values.{Value, blank}
 use Rattle.mir_semantics.specs.Memory.{Memory, local_at}
 use Rattle.mir_semantics.specs.Step.{Dest, Here, dest_of, read_all, exec}
-use Rattle.mir_renaming.proofs.Memory.{bind_some, some_bind, same_or_not}
+use Rattle.mir_syntax.proofs.Binds.{bind_some, some_bind}
+use Rattle.mir_renaming.proofs.Memory.{same_or_not}
 use Rattle.mir_renaming.proofs.Types.{TypeMap, HasTy, AddrTy, MemTy, resolve_ty}
 use Rattle.mir_syntax.specs.declared.body.Callee.{Callee}
 use Rattle.mir_syntax.specs.declared.body.Callee.TheVariants as callee

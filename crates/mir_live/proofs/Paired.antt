@@ -6,7 +6,8 @@ use Rattle.mir_semantics.specs.Values.{Addr, Value, pointer, is_hole, blank}
 use Rattle.mir_semantics.specs.Memory.{Memory, local_at, write}
 use Rattle.mir_semantics.specs.Step.{Dest, store}
 use Rattle.mir_renaming.specs.Renaming.{Renaming, Sub, MemRel}
-use Rattle.mir_renaming.proofs.Memory.{bind_some, same_or_not}
+use Rattle.mir_syntax.proofs.Binds.{bind_some}
+use Rattle.mir_renaming.proofs.Memory.{same_or_not}
 use Rattle.mir_renaming.proofs.Types.{TypeMap, AddrTy}
 use Rattle.mir_syntax.specs.Crate.{TypedBody}
 use Rattle.mir_semantics.specs.Memory.{open_frame, close_frame}

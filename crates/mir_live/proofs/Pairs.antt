@@ -9,9 +9,11 @@ use Rattle.mir_syntax.specs.Crate as rvalue
 use Rattle.mir_syntax.specs.Shapes.{Shape, needs_drop}
 use Rattle.mir_semantics.specs.Values.{Addr, Value, number, nil, variant, blank}
 use Rattle.mir_semantics.specs.Memory.{Memory, value_at, write}
-use Rattle.mir_semantics.specs.Step.{Dest, Here, local_addr, resolve, type_of, has_deref, dest_of, store, read_at, read, read_all, read_number, read_two, eval, set_blank, is_variant, write_unless, exec}
+use Rattle.mir_syntax.specs.Parts.{has_deref}
+use Rattle.mir_semantics.specs.Step.{Dest, Here, local_addr, resolve, type_of, dest_of, store, read_at, read, read_all, read_number, read_two, eval, set_blank, is_variant, write_unless, exec}
 use Rattle.mir_renaming.specs.Renaming.{Renaming, ValueRel, Sub, MemRel}
-use Rattle.mir_renaming.proofs.Memory.{bind_some, value_at_rel}
+use Rattle.mir_syntax.proofs.Binds.{bind_some}
+use Rattle.mir_renaming.proofs.Memory.{value_at_rel}
 use Rattle.mir_renaming.proofs.Statements.{only_true, Linked, resolve_rel}
 use Rattle.mir_renaming.proofs.Types.{TypeMap, HasTy, AddrTy, MemTy, write_ty, resolve_ty}
 use Rattle.mir_semantics.specs.Values.{listed, whole}

@@ -8,9 +8,10 @@ use Rattle.mir_syntax.specs.Crate.{TypedRvalue, TypedStmt, assign, set_discrimin
 use Rattle.mir_syntax.specs.Shapes.{Shape}
 use Rattle.mir_semantics.specs.Values.{Value, blank}
 use Rattle.mir_semantics.specs.Memory.{Memory}
-use Rattle.mir_semantics.specs.Step.{Dest, Here, local_addr, has_deref, dest_of, read_at, read_all, read_number, exec}
+use Rattle.mir_syntax.specs.Parts.{has_deref}
+use Rattle.mir_semantics.specs.Step.{Dest, Here, local_addr, dest_of, read_at, read_all, read_number, exec}
 use Rattle.mir_renaming.specs.Renaming.{Renaming, SomeRel, Sub, MemRel}
-use Rattle.mir_renaming.proofs.Memory.{bind_some, some_bind}
+use Rattle.mir_syntax.proofs.Binds.{bind_some, some_bind}
 use Rattle.mir_renaming.proofs.Statements.{ValuesRel, Linked, Got, got_at, resolve_rel, read_all_rel}
 use Rattle.mir_renaming.proofs.Types.{TypeMap, HasTy, MemTy}
 use Rattle.std.specs.Prelude.{ℤ}

@@ -6,7 +6,8 @@ use Rattle.mir_semantics.specs.Values.{Addr, Value}
 use Rattle.mir_semantics.specs.Memory.{Memory, local_at, value_at}
 use Rattle.mir_semantics.specs.Step.{local_addr}
 use Rattle.mir_renaming.specs.Renaming.{Renaming, AddrRel, ValueRel, SomeRel, Sub, MemRel}
-use Rattle.mir_renaming.proofs.Memory.{some_bind, same_or_not}
+use Rattle.mir_syntax.proofs.Binds.{some_bind}
+use Rattle.mir_renaming.proofs.Memory.{same_or_not}
 use Rattle.mir_renaming.proofs.Statements.{blank_rel, ValuesRel}
 use Rattle.mir_renaming.proofs.Types.{TypeMap, AddrTy, MemTy, some_eq}
 use Rattle.mir_semantics.specs.Memory.{open_frame, close_frame}

@@ -8,7 +8,7 @@ use Rattle.mir_semantics.specs.Values.{Addr, Value, number, nil, blank}
 use Rattle.mir_semantics.specs.Memory.{Memory, value_at}
 use Rattle.mir_semantics.specs.Step.{Dest, Here, local_addr, dest_of, store, read_at, read_all, read_number, exec}
 use Rattle.mir_renaming.specs.Renaming.{Renaming, ValueRel, MemRel}
-use Rattle.mir_renaming.proofs.Memory.{bind_some}
+use Rattle.mir_syntax.proofs.Binds.{bind_some}
 use Rattle.mir_renaming.proofs.Statements.{only_true}
 use Rattle.mir_renaming.proofs.Types.{TypeMap, HasTy, AddrTy, some_eq}
 use Rattle.mir_syntax.specs.declared.body.Callee.{Callee}

@@ -17,7 +17,7 @@ use Rattle.mir_semantics.specs.Memory.{Memory, local_at, open_frame, close_frame
 use Rattle.mir_semantics.specs.Step.{Code, Dest, Control, Called, State, returned, aborted, no_answer, Next, on, stop, fail, Here, local_addr, numbers_in, integers, go_on, to_block, take_arm, new_slots, entered, enter, calling, answered, ask, call, destroyed_at, destroyed, return_to, check, finish, exec}
 use Rattle.mir_semantics.specs.Run.{Entry, start, slots_at}
 use Rattle.mir_renaming.specs.Renaming.{Renaming, AddrRel, ValueRel, SomeRel, Sub}
-use Rattle.mir_renaming.proofs.Memory.{bind_some, some_bind}
+use Rattle.mir_syntax.proofs.Binds.{bind_some, some_bind}
 use Rattle.mir_renaming.proofs.Statements.{ValuesRel, Linked, Got, got_at, DestRel, MemGot, store_rel, number_rel, H1, H2, PlaceRel, OperandRel, OperandsRel, scalar_ty_rel, read_at_rel, read_all_rel, read_number_rel, dest_rel, StmtRel, IsSet, exec_rel}
 use Rattle.mir_renaming.proofs.Ghosts.{addr_mono, value_mono, Ghost, ren, extend, ren_once, extend_sub, extend_new, extend_old, open_linked, close_linked, is_plain, plain_same, AllPlain, plains_self}
 

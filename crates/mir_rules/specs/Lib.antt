@@ -1,5 +1,4 @@
 pub mod Same
-pub mod Parts
 pub mod Typing
 pub mod Formed
 pub mod DefinitionRules
@@ -10,3 +9,4 @@ pub mod Limits
 pub mod Faults
 pub mod Valid
 pub mod Accepted
+pub mod Drops

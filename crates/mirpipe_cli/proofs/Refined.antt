@@ -7,7 +7,7 @@ use Rattle.mir_rules.specs.Faults.{line_at}
 use Rattle.mir_rules.specs.Valid.{Valid, Within}
 use Rattle.mir_rules.proofs.Lists.{gather_empty-at}
 use Rattle.mir_semantics.specs.Refines.{Refines}
-use Rattle.prune_refines.specs.Drops.{is_drop, NoDrops}
+use Rattle.mir_rules.specs.Drops.{is_drop, NoDrops}
 use Rattle.steps_refine.proofs.Law.{steps_refine}
 use Rattle.mirpipe_cli.specs.Passed.{IsPassed, drop_spot, drop_spots, drops, first_drop}
 

@@ -1,7 +1,7 @@
 -- The first block that ends in a `drop`, over blocks with ids; no public promise rests on it.
 use Rattle.std.specs.Prelude.{ℕ, suc, List, [], ◌∷◌, Option, Some, None, if◌then◌else◌}
 use Rattle.mir_syntax.specs.declared.body.Block.{Block}
-use Rattle.prune_refines.specs.Drops.{is_drop}
+use Rattle.mir_rules.specs.Drops.{is_drop}
 
 abbrev pub drop_from : ℕ → List Block → Option ℕ
 drop_from n [] = None

@@ -4,7 +4,7 @@ use Rattle.mir_syntax.specs.declared.lines.Lines.{Lines}
 use Rattle.mir_syntax.specs.Crate.{TypedBlock, TypedFunction, Crate}
 use Rattle.mir_rules.specs.Broken.{Spot, terminator, gather}
 use Rattle.mir_rules.specs.Faults.{line_at}
-use Rattle.prune_refines.specs.Drops.{is_drop}
+use Rattle.mir_rules.specs.Drops.{is_drop}
 use Rattle.pass_order.specs.Stepped.{AllStepped}
 
 -- ---- the passes

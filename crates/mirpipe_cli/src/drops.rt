@@ -2,7 +2,7 @@ ghost use Rattle.std.specs.Prelude.{◌≡◌};
 ghost use Rattle.mir_syntax.specs.Crate.{crate_of};
 ghost use Rattle.mir_rules.specs.Broken.{terminator};
 ghost use Rattle.mir_rules.specs.Faults.{line_at};
-ghost use Rattle.prune_refines.specs.Drops.{is_drop};
+ghost use Rattle.mir_rules.specs.Drops.{is_drop};
 ghost use Rattle.mirpipe_cli.specs.Passed.{first_drop};
 ghost use Rattle.mirpipe_cli.specs.Found.{drop_block};
 

@@ -14,16 +14,15 @@ use Rattle.mir_syntax.specs.Tree.{Tree}
 use Rattle.mir_syntax.specs.Crate.{TypedRvalue, «use», binary, overflow, unary, cast, discriminant, tuple, build, TypedStmt, assign, storage_live, storage_dead, set_discriminant, TypedBlock, TypedBody, TypedFunction, Crate}
 use Rattle.mir_syntax.specs.Crate as rvalue
 use Rattle.mir_syntax.specs.Shapes.{Shape, shapes_of, place_ty, needs_drop}
-use Rattle.mir_rules.specs.Parts.{is_direct, rvalue_operands}
+use Rattle.mir_syntax.specs.Parts.{is_direct, rvalue_operands, has_deref}
 use Rattle.mir_rules.specs.BodyRules.{some_needs_drop, moves_needing_indirectly}
 use Rattle.mir_rules.specs.Valid.{Valid, with_body}
 use Rattle.mir_rules.proofs.Lists.{or_false-left, or_false-right}
 use Rattle.mir_rules.proofs.Statements.{Sets}
 use Rattle.mir_rules.proofs.Terminators.{OwnTyped}
 use Rattle.mir_rules.proofs.ValidCrates.{stmt_at, term_at}
-use Rattle.mir_semantics.specs.Step as semantics
 use Rattle.mir_semantics.specs.Step.{body_in, code_of}
-use Rattle.escape_info.specs.Borrowed.{has_deref, lent, lent_in, dropped, is, borrowed}
+use Rattle.escape_info.specs.Borrowed.{lent, lent_in, dropped, is, borrowed}
 use Rattle.liveness.specs.Live.{Live}
 use Rattle.liveness.proofs.Paths as paths
 use Rattle.mir_live.specs.Reads.{pruned_by}
@@ -31,25 +30,25 @@ use Rattle.mir_live.proofs.Items.{DropPlain}
 use Rattle.mir_live.proofs.Prune as prune
 use Rattle.mir_live.proofs.Prune.{NoDrop, MoveCalm, MovesCalm, RvalueCalm, Laws}
 use Rattle.valid_runs.proofs.Codes.{body_there, body_back}
-use Rattle.prune_refines.specs.Drops.{is_drop, NoDrops}
+use Rattle.mir_rules.specs.Drops.{is_drop, NoDrops}
 use Rattle.prune_refines.proofs.Gone.{Judged}
 use Rattle.prune_refines.proofs.Reading.{reads_stmt, fills_stmt, ResultTyped, reads_term, leads_to, fills_result}
 
 -- ---- dereferences
 
-same_deref : (ps : List Proj) → has_deref ps ≡ semantics.has_deref ps
+same_deref : (ps : List Proj) → has_deref ps ≡ has_deref ps
 same_deref [] = refl
 same_deref (Field i ∷ ps) = same_deref ps
 same_deref (Downcast k ∷ ps) = same_deref ps
 same_deref (Deref ∷ ps) = refl
 
-deref_indirect : (ps : List Proj) → semantics.has_deref ps ≡ true → is_direct ps ≡ false
+deref_indirect : (ps : List Proj) → has_deref ps ≡ true → is_direct ps ≡ false
 deref_indirect [] h = absurd (grind arith)
 deref_indirect (Field i ∷ ps) h = deref_indirect ps h
 deref_indirect (Downcast k ∷ ps) h = refl
 deref_indirect (Deref ∷ ps) h = refl
 
-direct_plain : (ps : List Proj) → is_direct ps ≡ true → semantics.has_deref ps ≡ false
+direct_plain : (ps : List Proj) → is_direct ps ≡ true → has_deref ps ≡ false
 direct_plain [] h = refl
 direct_plain (Field i ∷ ps) h = direct_plain ps h
 direct_plain (Downcast k ∷ ps) h = absurd (grind arith)
@@ -78,10 +77,10 @@ any_flat p f [] i x e h = absurd (grind arith)
 any_flat p f (y ∷ xs) zero x e h = any_left p (f y) (flat_map f xs) (rw (let same : y ≡ x = grind arith in same) h)
 any_flat p f (y ∷ xs) (suc i) x e h = any_right p (f y) (flat_map f xs) (any_flat p f xs i x e h)
 
-lent_direct : (x : ℕ) (q : Place) → q.local ≡ x → semantics.has_deref q.proj ≡ false → list_any (is x) (if has_deref q.proj then [] else q.local ∷ []) ≡ true
+lent_direct : (x : ℕ) (q : Place) → q.local ≡ x → has_deref q.proj ≡ false → list_any (is x) (if has_deref q.proj then [] else q.local ∷ []) ≡ true
 lent_direct x q same h = subst (λ b. list_any (is x) (if b then [] else q.local ∷ []) ≡ true) (sym (same_deref q.proj ∙ h)) (ap (λ b. b || false) (eq-eqb x q.local (sym same)))
 
-lent_here : (p q : Place) (s : TypedStmt) → (s ≡ assign p (rvalue.ref q)) ⊎ (s ≡ assign p (rvalue.ref_mut q)) → semantics.has_deref q.proj ≡ false → list_any (is q.local) (lent s) ≡ true
+lent_here : (p q : Place) (s : TypedStmt) → (s ≡ assign p (rvalue.ref q)) ⊎ (s ≡ assign p (rvalue.ref_mut q)) → has_deref q.proj ≡ false → list_any (is q.local) (lent s) ≡ true
 lent_here p q s (inl e) h = rw e (lent_direct q.local q refl h)
 lent_here p q s (inr e) h = rw e (lent_direct q.local q refl h)
 
@@ -195,7 +194,7 @@ module _ (C : Crate) (valid : Valid C) (f : ℕ) (g : TypedFunction) (there : sl
   judge i n (set_discriminant p k) true (nd, nb, nl) = (sym (same_deref p.proj) ∙ nd, nb, nl)
   judge i n (set_discriminant p k) false h = tt
 
-  lends : (i n : ℕ) (k : TypedBlock) (p q : Place) → slice_get g.body.blocks i ≡ Some k → (slice_get k.stmts n ≡ Some (assign p (rvalue.ref q))) ⊎ (slice_get k.stmts n ≡ Some (assign p (rvalue.ref_mut q))) → semantics.has_deref q.proj ≡ false → borrowed D g.body q.local ≡ true
+  lends : (i n : ℕ) (k : TypedBlock) (p q : Place) → slice_get g.body.blocks i ≡ Some k → (slice_get k.stmts n ≡ Some (assign p (rvalue.ref q))) ⊎ (slice_get k.stmts n ≡ Some (assign p (rvalue.ref_mut q))) → has_deref q.proj ≡ false → borrowed D g.body q.local ≡ true
   lends i n k p q e1 e2 h = any_flat (is q.local) (lent_in D g.body.locals) g.body.blocks i k e1 (any_left (is q.local) (flat_map lent k.stmts) (dropped D g.body.locals k.term) (in_stmts e2))
     where
       in_stmts : (slice_get k.stmts n ≡ Some (assign p (rvalue.ref q))) ⊎ (slice_get k.stmts n ≡ Some (assign p (rvalue.ref_mut q))) → list_any (is q.local) (flat_map lent k.stmts) ≡ true

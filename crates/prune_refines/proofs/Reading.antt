@@ -14,10 +14,9 @@ use Rattle.mir_syntax.specs.declared.body.Term.TheVariants.{Goto, Switch, Return
 use Rattle.mir_syntax.specs.Tree.{Tree}
 use Rattle.mir_syntax.specs.Crate.{TypedRvalue, «use», binary, overflow, unary, cast, discriminant, tuple, build, TypedStmt, assign, storage_live, storage_dead, set_discriminant}
 use Rattle.mir_syntax.specs.Crate as rvalue
-use Rattle.mir_syntax.specs.Shapes.{Shape, destructor_of, proj_ty, path_ty, place_ty}
-use Rattle.mir_rules.specs.Parts.{is_direct, operand_places, rvalue_places, arm_block, targets}
-use Rattle.mir_rules.specs.BodyRules.{path_through, goes_through_destructor}
-use Rattle.mir_renaming.proofs.Memory.{bind_some}
+use Rattle.mir_syntax.specs.Shapes.{Shape, destructor_of, proj_ty, path_ty, place_ty, path_through, goes_through_destructor}
+use Rattle.mir_syntax.specs.Parts.{is_direct, operand_places, rvalue_places, arm_block, targets}
+use Rattle.mir_syntax.proofs.Binds.{bind_some}
 use Rattle.mir_live.specs.Places.{solid, is_nil, fills}
 use Rattle.mir_live.specs.Paths.{ArmLeads, Leads, fills_term}
 use Rattle.mir_live.specs.Reads.{through, ReadsOperand, ReadsAny, ReadsRvalue, ReadsStmt, ReadsTerm}

@@ -25,7 +25,7 @@ use Rattle.valid_runs.proofs.Blanks.{shapes_tupled}
 use Rattle.valid_runs.proofs.Codes.{valid_code}
 use Rattle.valid_runs.proofs.Starts.{args_plain, start_typed}
 use Rattle.valid_runs.proofs.Shown.{Known, step_flat, step_known, start_known}
-use Rattle.prune_refines.specs.Drops.{NoDrops}
+use Rattle.mir_rules.specs.Drops.{NoDrops}
 use Rattle.dead_store.specs.Pruned.{IsPrunedOnce, IsPruned}
 use Rattle.prune_refines.proofs.Gone.{Judged, decided}
 use Rattle.prune_refines.proofs.Needs.{needs_ok}

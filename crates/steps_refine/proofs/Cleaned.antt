@@ -10,7 +10,7 @@ use Rattle.cfg_simplify.specs.Simple.{hopped, regrouped, simple}
 use Rattle.simple_refines.proofs.Hopped.{hopped_body}
 use Rattle.simple_refines.proofs.Rearranged.{Rearranged}
 use Rattle.simple_refines.proofs.Valid.{some_block, leads, hopped_rearranged, regrouped_rearranged, hopped_formed, hopped_keeps}
-use Rattle.prune_refines.specs.Drops.{is_drop, NoDrops}
+use Rattle.mir_rules.specs.Drops.{is_drop, NoDrops}
 
 drop_led : (f : ℕ → ℕ) (t : Term) → is_drop (retarget f t) ≡ is_drop t
 drop_led f (Goto b) = refl

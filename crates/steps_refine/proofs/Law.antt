@@ -12,7 +12,7 @@ use Rattle.mir_relate.proofs.Refine.{refines_refl, refines_trans}
 use Rattle.cfg_simplify.specs.Simple.{simple}
 use Rattle.simple_refines.proofs.Refined.{simple_refines_again}
 use Rattle.dead_store.specs.Pruned.{IsPruned}
-use Rattle.prune_refines.specs.Drops.{NoDrops}
+use Rattle.mir_rules.specs.Drops.{NoDrops}
 use Rattle.prune_refines.proofs.Refined.{pruned_refines_again}
 use Rattle.trim_locals.specs.Trimmed.{trimmed}
 use Rattle.trim_refines.proofs.Refined.{trimmed_refines_again}

@@ -10,7 +10,7 @@ ghost use Rattle.std.specs.Prelude.{◌≡◌, ℕ, Some, slice_get};
 ghost use Rattle.mir_syntax.specs.Crate.{TypedFunction, Crate};
 ghost use Rattle.mir_semantics.specs.Refines.{Refines};
 ghost use Rattle.mir_rules.specs.Valid.{Valid, Within};
-ghost use Rattle.prune_refines.specs.Drops.{NoDrops};
+ghost use Rattle.mir_rules.specs.Drops.{NoDrops};
 ghost use Rattle.pass_order.specs.Stepped.{AllStepped};
 
 /// A valid crate within the limits stays valid with each of its bodies after the steps; and where none of its bodies holds a `drop`, it is

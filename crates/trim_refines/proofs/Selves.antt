@@ -12,7 +12,8 @@ use Rattle.mir_syntax.specs.Shapes.{Shape, shapes_of, destructor_of}
 use Rattle.mir_rules.specs.Typing as rules
 use Rattle.mir_rules.specs.Typing.{operands_ty}
 use Rattle.mir_rules.specs.Valid.{Valid}
-use Rattle.mir_rules.proofs.Lists.{bind_some, and_true-right}
+use Rattle.mir_syntax.proofs.Binds.{bind_some}
+use Rattle.mir_rules.proofs.Lists.{and_true-right}
 use Rattle.mir_rules.proofs.Terminators.{OwnTyped}
 use Rattle.mir_rules.proofs.ValidCrates.{result_there, body_formed_at, term_at}
 use Rattle.mir_rules.proofs.Destructors.{destructor_found}

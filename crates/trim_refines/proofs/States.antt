@@ -10,7 +10,7 @@ use Rattle.mir_semantics.specs.Values.{Value}
 use Rattle.mir_semantics.specs.Memory.{Memory, open_frame}
 use Rattle.mir_semantics.specs.Step.{Code, Dest, Visit, Dropping, Control, State, Next, on, stop, fail, go_on, to_block, new_slots, entered, enter}
 use Rattle.mir_renaming.specs.Renaming.{Renaming, AddrRel, Sub}
-use Rattle.mir_renaming.proofs.Memory.{bind_some, some_bind}
+use Rattle.mir_syntax.proofs.Binds.{bind_some, some_bind}
 use Rattle.mir_renaming.proofs.Statements.{ValuesRel, DestRel}
 use Rattle.mir_renaming.proofs.Ghosts.{addr_mono, value_mono, extend, extend_sub, extend_new, extend_old, open_linked}
 use Rattle.mir_relate.proofs.Aligned.{new_control}

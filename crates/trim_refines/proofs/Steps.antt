@@ -17,7 +17,8 @@ use Rattle.mir_semantics.specs.Values.{Addr, Value, number, nil, cons, variant, 
 use Rattle.mir_semantics.specs.Memory.{Memory, value_at, write, further, close_frame}
 use Rattle.mir_semantics.specs.Step.{Code, Dest, Visit, Dropping, Control, Called, State, returned, aborted, no_answer, Next, on, stop, fail, Here, local_addr, read_all, numbers_in, integers, go_on, to_block, next_stmt, take_arm, calling, answered, ask, call, field_visits, variant_visits, enum_visits, shape_visits, visits_of, work_on, visit, visit_unless, visit_if, work_off, begun, left_in, left_at, destroyed_at, destroyed, return_to, check, finish, perform, step}
 use Rattle.mir_renaming.specs.Renaming.{Renaming, AddrRel}
-use Rattle.mir_renaming.proofs.Memory.{bind_some, some_bind, further_rel}
+use Rattle.mir_syntax.proofs.Binds.{bind_some, some_bind}
+use Rattle.mir_renaming.proofs.Memory.{further_rel}
 use Rattle.mir_renaming.proofs.Statements.{ValuesRel, DestRel, number_rel, scalar_ty_rel}
 use Rattle.mir_renaming.proofs.Ghosts.{ren_is, close_linked, plain_same}
 use Rattle.mir_relate.proofs.Aligned.{Flat}

@@ -11,7 +11,7 @@ use Rattle.mir_syntax.specs.declared.body.Term.{Term}
 use Rattle.mir_syntax.specs.declared.body.Term.TheVariants.{Goto, Switch, Return, Unreachable, Drop, Call, Assert}
 use Rattle.mir_syntax.specs.Crate.{TypedRvalue, «use», binary, overflow, unary, cast, discriminant, tuple, build, TypedStmt, assign, storage_live, storage_dead, set_discriminant, TypedBlock, TypedBody, TypedFunction, Crate}
 use Rattle.mir_syntax.specs.Crate as rvalue
-use Rattle.mir_rules.specs.Parts.{operand_places, rvalue_operands, rvalue_places, term_operands, term_places, targets}
+use Rattle.mir_syntax.specs.Parts.{operand_places, rvalue_operands, rvalue_places, term_operands, term_places, targets}
 use Rattle.mir_rules.specs.Formed.{place_formed, operand_formed, shape_formed, call_formed, block_there, stmt_formed, term_formed, body_formed}
 use Rattle.mir_rules.proofs.Lists.{and_true-left, and_true-right}
 use Rattle.mir_rules.proofs.ValidCrates.{args_below, result_there, stmt_formed_at, term_formed_at}

@@ -9,7 +9,8 @@ use Rattle.mir_semantics.specs.Values.{Addr, Value, number, nil, cons, variant, 
 use Rattle.mir_semantics.specs.Memory.{Memory, local_at, value_at, write}
 use Rattle.mir_semantics.specs.Step.{Dest, Here, local_addr, resolve, type_of, dest_of, store, read_at, read_all, read_number, set_blank, is_variant, write_unless, exec}
 use Rattle.mir_renaming.specs.Renaming.{Renaming, AddrRel, ValueRel}
-use Rattle.mir_renaming.proofs.Memory.{bind_some, some_bind, value_at_rel, write_source, write_target}
+use Rattle.mir_syntax.proofs.Binds.{bind_some, some_bind}
+use Rattle.mir_renaming.proofs.Memory.{value_at_rel, write_source, write_target}
 use Rattle.mir_renaming.proofs.Statements.{blank_rel, ValuesRel, Linked, DestRel, store_rel, write_linked, resolve_rel, read_at_rel, read_all_rel, read_number_rel, dest_rel, IsSet, exec_rel}
 use Rattle.mir_renaming.proofs.Ghosts.{in_function, with_frame, ren, ren_parts, ren_is, ren_once}
 use Rattle.trim_refines.specs.Renumbered.{Numbering, PlaceSame, OperandSame, OperandsSame, StmtSame, Gone}

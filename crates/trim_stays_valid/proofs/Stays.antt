@@ -17,7 +17,7 @@ use Rattle.mir_rules.proofs.Keeps.{BodyKeeps}
 use Rattle.mir_rules.proofs.Statements.{StmtTyped, stmt_typed, typed_stmt}
 use Rattle.mir_rules.proofs.Terminators.{slice_get_there, term_typed, typed_term}
 use Rattle.mir_rules.proofs.ValidCrates.{args_below, stmt_formed_at, term_formed_at, body_formed_at, keeps, holds_body, valid_again}
-use Rattle.prune_refines.specs.Drops.{is_drop, NoDrops}
+use Rattle.mir_rules.specs.Drops.{is_drop, NoDrops}
 use Rattle.trim_locals.specs.Trimmed.{used_marks, new_numbers, number_in, renamed_term, marked_items, trimmed_block, trimmed}
 use Rattle.trim_refines.specs.Renumbered.{Numbering, StmtSame, TermSame, StmtsSame}
 use Rattle.trim_refines.proofs.Numbers.{ahead, behind, ahead_behind}

@@ -9,7 +9,7 @@
 ghost use Rattle.std.specs.Prelude.{ℕ};
 ghost use Rattle.mir_syntax.specs.Crate.{TypedBody, Crate};
 ghost use Rattle.mir_rules.specs.Valid.{ValidAt};
-ghost use Rattle.prune_refines.specs.Drops.{NoDrops};
+ghost use Rattle.mir_rules.specs.Drops.{NoDrops};
 ghost use Rattle.trim_locals.specs.Trimmed.{trimmed};
 
 /// In the place of a valid body the trimmed body is valid, and it holds no `drop` where the body holds none.
