@@ -1,7 +1,7 @@
 -- What stays by the rows is what is kept by the definition.
 use Rattle.std.proofs.Common.{◌≡◌, ◌⊎◌, inl, inr, refl, sym, ap, ap₂, ◌∙◌, subst, ℕ, zero, suc, ◌+◌, ◌<◌, ◌≤◌, Bool, true, false, not, ◌&&◌, List, [], ◌∷◌, map, drop, length, get_or, Some, slice_get, IsTrue, ◌↔◌, arith}
 use Rattle.std.specs.List.{All, Contains, range_with_len}
-use Rattle.std.proofs.lemmas.Bool.{cases_Bool, both_ways}
+use Rattle.std.proofs.lemmas.Bool.{cases_Bool, both_ways, and_parts, and_from}
 use Rattle.std.proofs.lemmas.List.{length-map, get_or-map, drop-map, get_or_default}
 use Rattle.std.proofs.lemmas.List.FromFn.{length-map-range_with_len, get_or-map-range_with_len}
 use Rattle.std.proofs.lemmas.List.Elements.{All-contains}
@@ -16,10 +16,12 @@ use Rattle.mir_syntax.specs.Tree.{Tree}
 use Rattle.mir_syntax.specs.Crate.{TypedStmt, TypedBlock, TypedBody, stmt_of, block_of, body_of}
 use Rattle.mir_syntax.specs.Shapes.{Shape}
 use Rattle.bit_rows.specs.Rows.{row_at, flag, HasSize}
-use Rattle.escape_info.specs.Borrowed.{has_deref, borrowed}
+use Rattle.mir_syntax.specs.Parts.{has_deref}
+use Rattle.escape_info.specs.Borrowed.{borrowed}
 use Rattle.liveness.specs.Live.{Live}
 use Rattle.liveness.specs.Rows.{before_all, block_at, no_block}
-use Rattle.liveness.specs.Bits.{and_cases, and_is, not_is, not_true, has_first}
+use Rattle.mir_syntax.proofs.Members.{has_first}
+use Rattle.liveness.specs.Bits.{not_is, not_true}
 use Rattle.liveness.proofs.Through.{length-before_all, point_live, live_point}
 use Rattle.dead_store.specs.Pruned.{IsIdle, IsRead, IsUseless, IsUseful, KeptFrom, IsPrunedOnce}
 use Rattle.dead_store.specs.Rounds.{set_locals, SetsBelow, BlockSetsBelow, is_idle, goes, unless, staying, block_after}
@@ -83,8 +85,8 @@ module _ (D : List Shape) (trees : List Tree) (body : Body) (lent ends : List (L
 
       idle : is_idle (row_at lent 0) (before_all (drop (suc n) (map (stmt_of trees) k.stmts)) (row_at ends i)) p ≡ true → IsIdle D (body_of trees body) i n p
       idle e =
-          let two = and_cases (not (has_deref p.proj)) (not (get_or (row_at lent 0) p.local false) && not (get_or after p.local false)) e in
-          let rest = and_cases (not (get_or (row_at lent 0) p.local false)) (not (get_or after p.local false)) two.1 in (
+          let two = and_parts (not (has_deref p.proj)) (not (get_or (row_at lent 0) p.local false) && not (get_or after p.local false)) e in
+          let rest = and_parts (not (get_or (row_at lent 0) p.local false)) (not (get_or after p.local false)) two.1 in (
             is_false (has_deref p.proj) two.0,
             sym (lent_bit p.local p_in) ∙ is_false (get_or (row_at lent 0) p.local false) rest.0,
             λ h. not_true (get_or after p.local false) rest.1 (live_bit (suc n) p.local after_in p_in h),
@@ -101,7 +103,7 @@ module _ (D : List Shape) (trees : List Tree) (body : Body) (lent ends : List (L
           | inl t ↦ inr (inl (sym (lent_bit p.local p_in) ∙ t))
           | inr not_lent ↦ elim (cases_Bool (get_or after p.local false)) [
             | inl t ↦ inr (inr (bit_live (suc n) p.local after_in p_in t))
-            | inr dead ↦ absurd (both_ways (is_idle (row_at lent 0) after p) e (and_is (not (has_deref p.proj)) (not (get_or (row_at lent 0) p.local false) && not (get_or after p.local false)) (ap not no_deref) (and_is (not (get_or (row_at lent 0) p.local false)) (not (get_or after p.local false)) (ap not not_lent) (ap not dead))))
+            | inr dead ↦ absurd (both_ways (is_idle (row_at lent 0) after p) e (and_from (not (has_deref p.proj)) (not (get_or (row_at lent 0) p.local false) && not (get_or after p.local false)) (ap not no_deref) (and_from (not (get_or (row_at lent 0) p.local false)) (not (get_or after p.local false)) (ap not not_lent) (ap not dead))))
           ]
         ]
       ]

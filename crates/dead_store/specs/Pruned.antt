@@ -3,7 +3,8 @@ use Rattle.std.specs.Prelude.{◌≡◌, ◌⊎◌, ℕ, zero, suc, Bool, true, 
 use Rattle.mir_syntax.specs.declared.body.Place.{Place}
 use Rattle.mir_syntax.specs.Crate.{TypedStmt, assign, storage_live, storage_dead, set_discriminant, TypedBlock, TypedBody}
 use Rattle.mir_syntax.specs.Shapes.{Shape}
-use Rattle.escape_info.specs.Borrowed.{has_deref, borrowed}
+use Rattle.mir_syntax.specs.Parts.{has_deref}
+use Rattle.escape_info.specs.Borrowed.{borrowed}
 use Rattle.liveness.specs.Live.{Live}
 
 -- to write a place at a statement of a block changes nothing that is read: the place isn't behind a reference, and its local is neither

@@ -11,7 +11,7 @@ use Rattle.mir_syntax.specs.Tree.{Tree}
 use Rattle.mir_syntax.specs.Crate.{stmt_of}
 use Rattle.mir_syntax.specs.Ids.{BodyInTable}
 use Rattle.mir_cfg.specs.Paths.{terms_of, Closed}
-use Rattle.escape_info.specs.Borrowed.{has_deref}
+use Rattle.mir_syntax.specs.Parts.{has_deref}
 use Rattle.liveness.specs.Rows.{before_all}
 
 -- the local that a statement writes into

@@ -1,10 +1,10 @@
 -- What spreads from marks: which definitions need drop, which hold a certain one, which stand deep.
 use Rattle.std.proofs.Common.{◌≡◌, ◌⊎◌, inl, inr, ℕ, zero, suc, Bool, true, false, ◌||◌, ◌==◌, List, length, slice_get, Option, Some, None, is_some, refl, sym, ap, ap₂, ◌∙◌, eqb-true}
 use Rattle.std.proofs.Math.Path.{fun_ext}
-use Rattle.std.proofs.lemmas.Bool.{false_from_ne_true}
+use Rattle.std.proofs.lemmas.Bool.{false_from_ne_true, or_cases}
 use Rattle.mir_syntax.specs.Shapes.{Shape, needs_of, needs_def}
 use Rattle.mir_rules.specs.DefinitionRules.{holds_one, holds, breaks_v01}
-use Rattle.mir_rules.proofs.Depth.{any_mono, or_cases, is_deep}
+use Rattle.mir_rules.proofs.Depth.{any_mono, is_deep}
 use Rattle.drop_tables.specs.Marks.{spread}
 use Rattle.drop_tables.specs.Marks.{own_of}
 

@@ -2,8 +2,6 @@
 -- destructor.
 use Rattle.std.specs.Prelude.{ℕ, Bool, true, false, ◌==◌, List, [], ◌∷◌, ◌++◌, if◌then◌else◌, Option, Some, None}
 use Rattle.std.specs.List.{list_any, flat_map}
-use Rattle.mir_syntax.specs.declared.body.Proj.{Proj}
-use Rattle.mir_syntax.specs.declared.body.Proj.TheVariants.{Deref}
 use Rattle.mir_syntax.specs.declared.body.Place.{Place}
 use Rattle.mir_syntax.specs.declared.body.Rvalue.{Rvalue}
 use Rattle.mir_syntax.specs.declared.body.Rvalue.TheVariants as rvalue
@@ -13,14 +11,8 @@ use Rattle.mir_syntax.specs.declared.body.Term.{Term}
 use Rattle.mir_syntax.specs.declared.body.Term.TheVariants as term
 use Rattle.mir_syntax.specs.Tree.{Tree}
 use Rattle.mir_syntax.specs.Crate.{TypedRvalue, ref, ref_mut, TypedStmt, assign, TypedBlock, TypedBody}
+use Rattle.mir_syntax.specs.Parts.{has_deref}
 use Rattle.mir_syntax.specs.Shapes.{Shape, whole_place_ty, needs_drop}
-
-abbrev pub is_deref : Proj → Bool
-is_deref Deref = true
-is_deref _ = false
-
-abbrev pub has_deref : List Proj → Bool
-has_deref ps = list_any is_deref ps
 
 abbrev pub if_direct : Place → List ℕ
 if_direct p = if has_deref p.proj then [] else p.local ∷ []

@@ -12,13 +12,15 @@ ghost use Rattle.mir_syntax.specs.Crate.{crate_of, body_of, stmt_of, rvalue_of, 
 ghost use Rattle.mir_syntax.specs.Shapes.{shapes_of};
 ghost use Rattle.mir_syntax.specs.Drops.{KnowsDrops};
 ghost use Rattle.mir_syntax.specs.Ids.{IdsInTable, BodyInTable};
-ghost use Rattle.escape_info.specs.Borrowed.{has_deref, if_direct, lent_by, lent, bare_lent, dropped, lent_in, place_needs_drop as needs_drop_at, borrowed};
+ghost use Rattle.mir_syntax.specs.Parts.{has_deref};
+ghost use Rattle.escape_info.specs.Borrowed.{if_direct, lent_by, lent, bare_lent, dropped, lent_in, place_needs_drop as needs_drop_at, borrowed};
 
 use bit_rows::BitRows;
 use mir_syntax::{Body, OutOfMemory, Place, Program, Proj, Rvalue, Stmt, Term};
 use std::alloc::Global;
 
 /// Whether a place has a dereference.
+#[tactic(auto, using(mir_syntax::proofs::Parts::deref_other))]
 pub fn is_behind_a_reference(place: &Place) -> bool
     ensures { result ≡ has_deref place.now.proj }
 {

@@ -15,7 +15,7 @@ use Rattle.mir_syntax.specs.declared.body.Block.{Block}
 use Rattle.mir_syntax.specs.declared.body.Body.{Body}
 use Rattle.mir_syntax.specs.Table.{all_below}
 use Rattle.mir_syntax.specs.Ids.{stmt_below, block_below}
-use Rattle.mir_rules.specs.Parts.{targets, arm_block}
+use Rattle.mir_syntax.specs.Parts.{targets, arm_block}
 use Rattle.mir_cfg.specs.Paths.{block_term, terms_of, exits, Closed}
 use Rattle.dead_store.specs.Rounds.{set_locals, BlockSetsBelow, SetsBelow, IsReady}
 use Rattle.flow_rows.specs.Ready.{are_below, arm_fits, id_fits, stmt_fits, block_fits, body_fits}

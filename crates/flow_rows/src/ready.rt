@@ -2,7 +2,7 @@ ghost use Rattle.std.specs.Prelude.{◌≡◌, ◌<◌, ◌^◌, length};
 ghost use Rattle.std.specs.Bool.{OnTrue};
 ghost use Rattle.std.specs.List.{list_all};
 ghost use Rattle.mir_syntax.specs.Ids.{rvalue_below};
-ghost use Rattle.mir_rules.specs.Parts.{targets};
+ghost use Rattle.mir_syntax.specs.Parts.{targets};
 ghost use Rattle.dead_store.specs.Rounds.{IsReady};
 ghost use Rattle.flow_rows.specs.Ready.{are_below, arm_fits, id_fits, stmt_fits, block_fits, body_fits};
 

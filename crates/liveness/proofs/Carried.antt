@@ -10,7 +10,7 @@ use Rattle.mir_syntax.specs.Tree.{Tree}
 use Rattle.mir_syntax.specs.declared.body.Stmt.{Stmt}
 use Rattle.mir_syntax.specs.declared.body.Stmt.TheVariants as stmt
 use Rattle.mir_syntax.specs.Crate.{TypedStmt, rvalue_of, stmt_of}
-use Rattle.mir_rules.specs.Parts.{operand_places, rvalue_places}
+use Rattle.mir_syntax.specs.Parts.{operand_places, rvalue_places}
 use Rattle.liveness.specs.Live.{place_local, operand_locals, stmt_fills}
 use Rattle.liveness.specs.Rows.{before_stmt, before_all, bare_rvalue_reads, bare_fills}
 

@@ -4,10 +4,9 @@ use Rattle.std.specs.Option.{option_map}
 use Rattle.mir_syntax.specs.declared.types.FnId.{FnId}
 use Rattle.mir_syntax.specs.Drops.{fn_number}
 use Rattle.mir_syntax.specs.Tree.{Tree}
-use Rattle.mir_syntax.specs.Shapes.{Shape, proj_ty, destructor_of}
+use Rattle.mir_syntax.specs.Shapes.{Shape, proj_ty, destructor_of, path_through}
 use Rattle.mir_syntax.specs.declared.body.Proj.{Proj}
-use Rattle.mir_rules.specs.BodyRules.{path_through}
-use Rattle.mir_rules.proofs.Destructors.{through_none}
+use Rattle.mir_syntax.proofs.Places.{through_none}
 
 pub is_some-map : (o : Option FnId) → is_some (option_map fn_number o) ≡ is_some o
 is_some-map None = refl

@@ -4,15 +4,17 @@ use Rattle.std.specs.List.{Contains}
 use Rattle.std.proofs.lemmas.Option.{slice_get-get_or}
 use Rattle.std.proofs.lemmas.List.{length-replicate}
 use Rattle.std.proofs.lemmas.Simd.{length-zip2, get_or-zip2}
+use Rattle.std.proofs.lemmas.Bool.{or_cases, or_left, or_right}
 use lib.Lanes.{zip2}
 use Rattle.mir_syntax.specs.Crate.{TypedBlock, TypedBody}
 use Rattle.mir_syntax.specs.Shapes.{Shape}
-use Rattle.mir_rules.specs.Parts.{targets}
+use Rattle.mir_syntax.specs.Parts.{targets}
 use Rattle.bit_rows.specs.Rows.{row_at, flag, HasSize}
 use Rattle.liveness.specs.Live.{term_reads, term_fills, Live}
 use Rattle.liveness.specs.Rows.{blank, cleared, or_rows, end_row, block_at, no_block}
 use Rattle.bit_rows.proofs.Marks.{length-marked}
-use Rattle.liveness.specs.Bits.{length-cleared, or_cases, or_left_is, or_right_is, has_first, has_later, has_cases, has_none, blank_bit}
+use Rattle.mir_syntax.proofs.Members.{has_first, has_later, has_cases, has_none}
+use Rattle.liveness.specs.Bits.{length-cleared, blank_bit}
 use Rattle.liveness.proofs.Through.{bit_splits, bit_joins, end_live, live_end}
 
 or_long : (rows : List (List Bool)) (row : List Bool) (us : List ℕ) → ((u : ℕ) → Contains us u → length (row_at rows u) ≡ length row) → length (or_rows rows row us) ≡ length row
@@ -36,7 +38,7 @@ or_keeps rows row [] x h l e = e
 or_keeps rows row (u ∷ us) x h l e =
     let here = h u (has_first u us) in
     let one : length (zip2 (λ a b. a || b) row (row_at rows u)) ≡ length row = length-zip2 (λ a b. a || b) row (row_at rows u) (sym here) in
-    or_keeps rows (zip2 (λ a b. a || b) row (row_at rows u)) us x (λ v c. h v (has_later u v us c) ∙ sym one) (omega arith) (get_or-zip2 (λ a b. a || b) row (row_at rows u) x false false false l (omega arith) ∙ or_left_is (get_or row x false) (flag rows u x) e)
+    or_keeps rows (zip2 (λ a b. a || b) row (row_at rows u)) us x (λ v c. h v (has_later u v us c) ∙ sym one) (omega arith) (get_or-zip2 (λ a b. a || b) row (row_at rows u) x false false false l (omega arith) ∙ or_left (get_or row x false) (flag rows u x) e)
 
 or_joins : (rows : List (List Bool)) (row : List Bool) (us : List ℕ) (x v : ℕ) → ((u : ℕ) → Contains us u → length (row_at rows u) ≡ length row) → x < length row → Contains us v → flag rows v x ≡ true → get_or (or_rows rows row us) x false ≡ true
 or_joins rows row [] x v h l c e = absurd (has_none v c)
@@ -44,7 +46,7 @@ or_joins rows row (u ∷ us) x v h l c e =
     let here = h u (has_first u us) in
     let one : length (zip2 (λ a b. a || b) row (row_at rows u)) ≡ length row = length-zip2 (λ a b. a || b) row (row_at rows u) (sym here) in
     elim (has_cases u v us c) [
-      | inl s ↦ or_keeps rows (zip2 (λ a b. a || b) row (row_at rows u)) us x (λ v c. h v (has_later u v us c) ∙ sym one) (omega arith) (get_or-zip2 (λ a b. a || b) row (row_at rows u) x false false false l (omega arith) ∙ or_right_is (get_or row x false) (flag rows u x) (ap (λ v. flag rows v x) s ∙ e))
+      | inl s ↦ or_keeps rows (zip2 (λ a b. a || b) row (row_at rows u)) us x (λ v c. h v (has_later u v us c) ∙ sym one) (omega arith) (get_or-zip2 (λ a b. a || b) row (row_at rows u) x false false false l (omega arith) ∙ or_right (get_or row x false) (flag rows u x) (ap (λ v. flag rows v x) s ∙ e))
       | inr q ↦ or_joins rows (zip2 (λ a b. a || b) row (row_at rows u)) us x v (λ v c. h v (has_later u v us c) ∙ sym one) (omega arith) q e
     ]
 

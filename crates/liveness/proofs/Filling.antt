@@ -7,7 +7,7 @@ use Rattle.std.proofs.lemmas.List.Elements.{Contains-append_left, Contains-appen
 use Rattle.std.proofs.lemmas.Simd.{length-zip2}
 use lib.Lanes.{zip2}
 use Rattle.mir_syntax.specs.Crate.{TypedBlock}
-use Rattle.mir_rules.specs.Parts.{targets}
+use Rattle.mir_syntax.specs.Parts.{targets}
 use Rattle.bit_rows.specs.Rows.{row_at, HasSize}
 use Rattle.flow_engine.specs.declared.edges.Edge.{Edge}
 use Rattle.liveness.specs.Rows.{blank, or_rows, edge_back, block_at, IsRows, IsTurned}

@@ -3,7 +3,7 @@ use Rattle.std.proofs.Common.{◌≡◌, ◌⊎◌, inl, inr, refl, sym, ap, ◌
 use Rattle.std.specs.List.{Contains}
 use Rattle.mir_syntax.specs.Crate.{TypedStmt, TypedBlock, TypedBody}
 use Rattle.mir_syntax.specs.Shapes.{Shape}
-use Rattle.mir_rules.specs.Parts.{targets}
+use Rattle.mir_syntax.specs.Parts.{targets}
 use Rattle.liveness.specs.Live.{stmt_reads, stmt_fills, term_reads, term_fills, LiveIn, LiveBy, Live}
 
 some_one : {x y : TypedBlock} → Some x ≡ Some y → x ≡ y

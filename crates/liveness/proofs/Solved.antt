@@ -3,10 +3,11 @@ use Rattle.std.proofs.Common.{◌≡◌, ◌⊎◌, inl, inr, refl, sym, ap, ap�
 use Rattle.std.specs.List.{Contains, flat_map}
 use Rattle.std.proofs.lemmas.Option.{slice_get_within, slice_get-get_or, get_or_from_slice_get}
 use Rattle.std.proofs.lemmas.List.Elements.{Contains-append_left, Contains-append_right, Contains-append_cases}
+use Rattle.std.proofs.lemmas.Bool.{or_cases, and_parts, and_from, or_left}
 use Rattle.mir_syntax.specs.Tree.{Tree}
 use Rattle.mir_syntax.specs.Crate.{TypedStmt, TypedBlock, TypedBody}
 use Rattle.mir_syntax.specs.Shapes.{Shape}
-use Rattle.mir_rules.specs.Parts.{targets}
+use Rattle.mir_syntax.specs.Parts.{targets}
 use Rattle.bit_rows.specs.Rows.{row_at, flag, HasSize}
 use Rattle.flow_engine.specs.declared.edges.Edge.{Edge}
 use Rattle.flow_engine.specs.Flow.{Least, Lawful, problem}
@@ -14,7 +15,7 @@ use Rattle.flow_engine.proofs.Least.{least_long, least_edge, least_start, least_
 use Rattle.liveness.specs.Live.{stmt_reads, stmt_fills, term_reads, term_fills, LiveIn, Live}
 use Rattle.liveness.specs.Rows.{block_fills, blank, gen_row, kill_row, edge_back, block_at, no_block, IsRows, IsTurned}
 use Rattle.liveness.specs.Facts.{IsSized, IsBelow, count_ones, begun, joined, after, along, sent}
-use Rattle.liveness.specs.Bits.{or_cases, or_left_is, or_right_is, and_cases, and_is, not_is, not_true, bit_within, blank_bit}
+use Rattle.liveness.specs.Bits.{not_is, not_true, bit_within, blank_bit}
 use Rattle.liveness.specs.Lattice.{live_lawful, row_long, joined_bit, after_long, after_bit}
 use Rattle.liveness.proofs.Paths.{live_least}
 use Rattle.liveness.proofs.Through.{Through, through_map, through_split, through_unfilled, gen_through, through_gen, blank_has, has_blank, block_live, live_block, end_live, live_end}
@@ -84,7 +85,7 @@ module _ (D : List Shape) (b : TypedBody) (n bits : ℕ) (nb : n ≡ length b.bl
       let low : y < bits = (let m = bit_within (after (row_at x 0) (row_at kills e.to) (row_at gens e.to)) y q2 in omega (arith, after_long bits (row_at x 0) (row_at kills e.to) (row_at gens e.to) rl (kill_size e.to l) (gen_size e.to l))) in
       elim (or_cases (get_or (row_at x 0) y false && not (get_or (row_at kills e.to) y false)) (get_or (row_at gens e.to) y false) (sym (after_bit bits (row_at x 0) (row_at kills e.to) (row_at gens e.to) rl (kill_size e.to l) (gen_size e.to l) y low) ∙ q2)) [
         | inr g ↦ gen_lives e.to y l g
-        | inl h ↦ (let two = and_cases (get_or (row_at x 0) y false) (not (get_or (row_at kills e.to) y false)) h in
+        | inl h ↦ (let two = and_parts (get_or (row_at x 0) y false) (not (get_or (row_at kills e.to) y false)) h in
             on l low two.0 (λ c. not_true (get_or (row_at kills e.to) y false) two.1 (ap (λ row. get_or row y false) (kr.each e.to l) ∙ has_blank (length b.locals) (block_fills (block_at b.blocks e.to)) y (omega (arith, nl)) c)))
       ]
     where
@@ -133,8 +134,8 @@ module _ (D : List Shape) (b : TypedBody) (n bits : ℕ) (nb : n ≡ length b.bl
       let is : along bits gens kills (get_or facts u []) (slice_get edges p.0) ≡ after (row_at (get_or facts u []) 0) (row_at kills i) (row_at gens i) ∷ [] = ap (along bits gens kills (get_or facts u [])) p.1 in
       let rl = row_long bits (get_or facts u []) (fact_size u lu) in
       below.ones x (ap (λ t. flag t 0 x) is ∙ after_bit bits (row_at (get_or facts u []) 0) (row_at kills i) (row_at gens i) rl (kill_size i l) (gen_size i l) x low
-      ∙ or_left_is (get_or (row_at (get_or facts u []) 0) x false && not (get_or (row_at kills i) x false)) (get_or (row_at gens i) x false)
-      (and_is (get_or (row_at (get_or facts u []) 0) x false) (not (get_or (row_at kills i) x false)) live (not_is (get_or (row_at kills i) x false) (λ e. unfilled (blank_has (length b.locals) (block_fills (block_at b.blocks i)) x (omega (arith, nl)) (ap (λ row. get_or row x false) (sym (kr.each i l)) ∙ e))))))
+      ∙ or_left (get_or (row_at (get_or facts u []) 0) x false && not (get_or (row_at kills i) x false)) (get_or (row_at gens i) x false)
+      (and_from (get_or (row_at (get_or facts u []) 0) x false) (not (get_or (row_at kills i) x false)) live (not_is (get_or (row_at kills i) x false) (λ e. unfilled (blank_has (length b.locals) (block_fills (block_at b.blocks i)) x (omega (arith, nl)) (ap (λ row. get_or row x false) (sym (kr.each i l)) ∙ e))))))
 
   -- at a block's start
   start_in : (i x : ℕ) → i < n → x < bits → Through (block_at b.blocks i).stmts (Behind (block_at b.blocks i) x) x → flag (get_or facts i []) 0 x ≡ true

@@ -3,15 +3,16 @@ use Rattle.std.proofs.Common.{◌≡◌, ◌⊎◌, inl, inr, refl, sym, ap, ap�
 use Rattle.std.specs.List.{Contains, flat_map}
 use Rattle.std.proofs.lemmas.List.{length-replicate, length-drop}
 use Rattle.std.proofs.lemmas.List.Elements.{Contains-append_left, Contains-append_right, Contains-append_cases}
+use Rattle.std.proofs.lemmas.Bool.{or_cases, and_parts, and_from, or_left, or_right}
 use Rattle.mir_syntax.specs.Tree.{Tree}
 use Rattle.mir_syntax.specs.Crate.{TypedStmt, TypedBlock, TypedBody}
 use Rattle.mir_syntax.specs.Shapes.{Shape}
-use Rattle.mir_rules.specs.Parts.{targets}
+use Rattle.mir_syntax.specs.Parts.{targets}
 use Rattle.bit_rows.specs.Rows.{marked, stands}
 use Rattle.bit_rows.proofs.Marks.{length-marked, marked-at}
 use Rattle.liveness.specs.Live.{stmt_reads, stmt_fills, term_reads, term_fills, LiveIn, Live}
 use Rattle.liveness.specs.Rows.{cleared, before_stmt, before_all, blank, gen_row, kill_row, block_fills}
-use Rattle.liveness.specs.Bits.{or_cases, or_left_is, or_right_is, and_cases, and_is, not_is, not_true, stands_has, has_stands, length-cleared, cleared-at, bit_within, blank_bit}
+use Rattle.liveness.specs.Bits.{not_is, not_true, stands_has, has_stands, length-cleared, cleared-at, bit_within, blank_bit}
 use Rattle.liveness.proofs.Paths.{live_stmt, live_next, live_splits, live_solves}
 
 -- what holds of a local before statements, where E holds of it behind them: read, or not filled and so on
@@ -50,13 +51,13 @@ mixed_bit_is row fills reads x l = marked-at (cleared row fills) reads x (omega 
 
 pub bit_splits : (row : List Bool) (fills reads : List ℕ) (x : ℕ) → x < length row → get_or (marked (cleared row fills) reads) x false ≡ true → Contains reads x ⊎ ((Contains fills x → ⊥) × (get_or row x false ≡ true))
 bit_splits row fills reads x l e = elim (or_cases (get_or row x false && not (stands x fills)) (stands x reads) (sym (mixed_bit_is row fills reads x l) ∙ e)) [
-  | inl h ↦ (let p = and_cases (get_or row x false) (not (stands x fills)) h in inr (λ c. not_true (stands x fills) p.1 (has_stands x fills c), p.0))
+  | inl h ↦ (let p = and_parts (get_or row x false) (not (stands x fills)) h in inr (λ c. not_true (stands x fills) p.1 (has_stands x fills c), p.0))
   | inr h ↦ inl (stands_has x reads h)
 ]
 
 pub bit_joins : (row : List Bool) (fills reads : List ℕ) (x : ℕ) → x < length row → Contains reads x ⊎ ((Contains fills x → ⊥) × (get_or row x false ≡ true)) → get_or (marked (cleared row fills) reads) x false ≡ true
-bit_joins row fills reads x l (inl h) = mixed_bit_is row fills reads x l ∙ or_right_is (get_or row x false && not (stands x fills)) (stands x reads) (has_stands x reads h)
-bit_joins row fills reads x l (inr (q, e)) = mixed_bit_is row fills reads x l ∙ or_left_is (get_or row x false && not (stands x fills)) (stands x reads) (and_is (get_or row x false) (not (stands x fills)) e (not_is (stands x fills) (λ s. q (stands_has x fills s))))
+bit_joins row fills reads x l (inl h) = mixed_bit_is row fills reads x l ∙ or_right (get_or row x false && not (stands x fills)) (stands x reads) (has_stands x reads h)
+bit_joins row fills reads x l (inr (q, e)) = mixed_bit_is row fills reads x l ∙ or_left (get_or row x false && not (stands x fills)) (stands x reads) (and_from (get_or row x false) (not (stands x fills)) e (not_is (stands x fills) (λ s. q (stands_has x fills s))))
 
 pub row_through : (ss : List TypedStmt) (row : List Bool) (x : ℕ) → x < length row → get_or (before_all ss row) x false ≡ true → Through ss (get_or row x false ≡ true) x
 row_through [] row x l e = e
@@ -78,7 +79,7 @@ blank_has n xs x l e = elim (or_cases (get_or (blank n) x false) (stands x xs) (
 ]
 
 pub has_blank : (n : ℕ) (xs : List ℕ) (x : ℕ) → x < n → Contains xs x → get_or (marked (blank n) xs) x false ≡ true
-has_blank n xs x l c = marked-at (blank n) xs x (omega (arith, length-replicate n false)) ∙ or_right_is (get_or (blank n) x false) (stands x xs) (has_stands x xs c)
+has_blank n xs x l c = marked-at (blank n) xs x (omega (arith, length-replicate n false)) ∙ or_right (get_or (blank n) x false) (stands x xs) (has_stands x xs c)
 
 marked_long : (n : ℕ) (xs : List ℕ) → length (marked (blank n) xs) ≡ n
 marked_long n xs = length-marked (blank n) xs ∙ length-replicate n false

@@ -10,7 +10,7 @@ use Rattle.mir_syntax.specs.Shapes.{Shape}
 use Rattle.mir_syntax.specs.declared.body.Block.{Block}
 use Rattle.mir_syntax.specs.declared.body.Body.{Body}
 use Rattle.mir_syntax.specs.declared.body.Term.TheVariants.{Unreachable}
-use Rattle.mir_rules.specs.Parts.{targets}
+use Rattle.mir_syntax.specs.Parts.{targets}
 use Rattle.mir_cfg.specs.Paths.{block_term, terms_of, Closed}
 use Rattle.bit_rows.specs.Rows.{row_at, flag, HasSize}
 use Rattle.flow_engine.specs.declared.edges.Edge.{Edge}

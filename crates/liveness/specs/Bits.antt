@@ -1,50 +1,17 @@
 -- Bits of rows, and members of lists: proofs alone, which `Lattice` cites.
 use Rattle.std.proofs.Common.{◌≡◌, ◌⊎◌, inl, inr, refl, sym, ap, ap₂, ◌∙◌, ℕ, zero, suc, ◌+◌, ◌<◌, ◌≤◌, List, [], ◌∷◌, ◌++◌, Bool, true, false, not, ◌==◌, ◌&&◌, ◌||◌, cond, map, length, get_or, set, replicate, sum_by, arith}
 use Rattle.std.specs.List.{Contains, flat_map}
-use Rattle.std.proofs.lemmas.Bool.{cases_eq, cases_Bool, eq-eqb, ne_eqb, eqb-true, both_ways}
+use Rattle.std.proofs.lemmas.Bool.{cases_eq, cases_Bool, eq-eqb, ne_eqb, eqb-true, both_ways, or_cases, or_left, or_right}
 use Rattle.std.proofs.lemmas.List.{length-set, length-replicate, get_or-replicate, get_or-set_same, get_or-set_other, get_or_past}
 use Rattle.std.proofs.lemmas.List.Elements.{Contains-append_left, Contains-append_right, Contains-append_cases}
 use Rattle.std.proofs.lemmas.List.Sums.{sum_by-cons}
+use Rattle.mir_syntax.proofs.Members.{has_later, has_cases, has_none}
 use Rattle.bit_rows.specs.Rows.{marked, stands}
 use Rattle.bit_rows.proofs.Marks.{length-marked, marked-at}
 use Rattle.liveness.specs.Rows.{cleared}
 use Rattle.liveness.specs.Facts.{one_if, ones}
 
 -- ---- members
-
-pub has_first : (x : ℕ) (xs : List ℕ) → Contains (x ∷ xs) x
-has_first x xs = (0, omega arith, refl)
-
-pub has_later : (y x : ℕ) (xs : List ℕ) → Contains xs x → Contains (y ∷ xs) x
-has_later y x xs p = (suc p.0, (let l = p.1 in omega arith), p.2)
-
-pub has_cases : (y x : ℕ) (xs : List ℕ) → Contains (y ∷ xs) x → (y ≡ x) ⊎ Contains xs x
-has_cases y x xs (zero, l, e) = inl e
-has_cases y x xs (suc k, l, e) = inr (k, omega arith, e)
-
-pub has_none : (x : ℕ) → Contains {X = ℕ} [] x → ⊥
-has_none x p = absurd (let l = p.1 in omega arith)
-
-or_right : (a : Bool) → (a || true) ≡ true
-or_right true = refl
-or_right false = refl
-
-pub or_cases : (a b : Bool) → (a || b) ≡ true → (a ≡ true) ⊎ (b ≡ true)
-or_cases true b e = inl refl
-or_cases false b e = inr e
-
-pub or_left_is : (a b : Bool) → a ≡ true → (a || b) ≡ true
-or_left_is a b e = ap (λ a. a || b) e
-
-pub or_right_is : (a b : Bool) → b ≡ true → (a || b) ≡ true
-or_right_is a b e = ap (λ b. a || b) e ∙ or_right a
-
-pub and_cases : (a b : Bool) → (a && b) ≡ true → (a ≡ true) × (b ≡ true)
-and_cases true b e = (refl, e)
-and_cases false b e = absurd (grind arith)
-
-pub and_is : (a b : Bool) → a ≡ true → b ≡ true → (a && b) ≡ true
-and_is a b e f = ap₂ (λ a b. a && b) e f
 
 pub not_is : (a : Bool) → (a ≡ true → ⊥) → not a ≡ true
 not_is true h = absurd (h refl)
@@ -64,8 +31,8 @@ stands_has x (y ∷ xs) e = elim (or_cases (x == y) (stands x xs) e) [
 pub has_stands : (x : ℕ) (xs : List ℕ) → Contains xs x → stands x xs ≡ true
 has_stands x [] p = absurd (has_none x p)
 has_stands x (y ∷ xs) p = elim (has_cases y x xs p) [
-  | inl e ↦ or_left_is (x == y) (stands x xs) (eq-eqb x y (sym e))
-  | inr q ↦ or_right_is (x == y) (stands x xs) (has_stands x xs q)
+  | inl e ↦ or_left (x == y) (stands x xs) (eq-eqb x y (sym e))
+  | inr q ↦ or_right (x == y) (stands x xs) (has_stands x xs q)
 ]
 
 -- ---- rows that are cleared

@@ -1,6 +1,6 @@
 -- Rows of live locals are a lattice, and the flow of live locals rises: proofs alone, of the law that `solve` asks for.
 use Rattle.std.proofs.Common.{◌≡◌, ◌⊎◌, inl, inr, refl, sym, ap, ap₂, ◌∙◌, subst, ℕ, zero, suc, ◌<◌, ◌≤◌, List, [], ◌∷◌, Bool, true, false, not, ◌&&◌, ◌||◌, if◌then◌else◌, nat_lt, length, get_or, set, replicate, Option, Some, None, slice_get, arith}
-use Rattle.std.proofs.lemmas.Bool.{cases_Bool}
+use Rattle.std.proofs.lemmas.Bool.{cases_Bool, or_cases, and_parts, and_from, or_left, or_right}
 use Rattle.std.proofs.lemmas.List.{length-set, length-replicate, get_or_past}
 use Rattle.std.proofs.lemmas.Simd.{length-zip2, get_or-zip2}
 use lib.Lanes.{zip2}
@@ -10,7 +10,7 @@ use Rattle.flow_engine.specs.declared.edges.Edge.{Edge}
 use Rattle.flow_engine.specs.Flow.{Lawful}
 use Rattle.liveness.specs.Rows.{blank}
 use Rattle.liveness.specs.Facts.{IsSized, IsBelow, ones, count_ones, begun, joined, after, along, sent}
-use Rattle.liveness.specs.Bits.{or_cases, or_left_is, or_right_is, and_cases, and_is, bit_within, Lower, ones_low, ones_same, ones_few}
+use Rattle.liveness.specs.Bits.{bit_within, Lower, ones_low, ones_same, ones_few}
 
 abbrev pub Fact : Type 0
 Fact = List (List Bool)
@@ -97,9 +97,9 @@ module _ (blocks bits : ℕ) (edges : List Edge) (gens kills : Fact) (s : IsSize
           let was = sym (after_bit bits (row_at x 0) (row_at kills e.to) (row_at gens e.to) (row_long bits x okx) kl gl k l) ∙ q in
           after_bit bits (row_at y 0) (row_at kills e.to) (row_at gens e.to) (row_long bits y oky) kl gl k l
           ∙ elim (or_cases (get_or (row_at x 0) k false && not (get_or (row_at kills e.to) k false)) (get_or (row_at gens e.to) k false) was) [
-            | inl p ↦ (let two = and_cases (get_or (row_at x 0) k false) (not (get_or (row_at kills e.to) k false)) p in
-                or_left_is (get_or (row_at y 0) k false && not (get_or (row_at kills e.to) k false)) (get_or (row_at gens e.to) k false) (and_is (get_or (row_at y 0) k false) (not (get_or (row_at kills e.to) k false)) (b.ones k two.0) two.1))
-            | inr p ↦ or_right_is (get_or (row_at y 0) k false && not (get_or (row_at kills e.to) k false)) (get_or (row_at gens e.to) k false) p
+            | inl p ↦ (let two = and_parts (get_or (row_at x 0) k false) (not (get_or (row_at kills e.to) k false)) p in
+                or_left (get_or (row_at y 0) k false && not (get_or (row_at kills e.to) k false)) (get_or (row_at gens e.to) k false) (and_from (get_or (row_at y 0) k false) (not (get_or (row_at kills e.to) k false)) (b.ones k two.0) two.1))
+            | inr p ↦ or_right (get_or (row_at y 0) k false && not (get_or (row_at kills e.to) k false)) (get_or (row_at gens e.to) k false) p
           ]
 
   begun_long : (b : ℕ) (c : Bool) → (c ≡ true → b < blocks) → length (if c then row_at gens b else blank bits) ≡ bits
@@ -113,14 +113,14 @@ module _ (blocks bits : ℕ) (edges : List Edge) (gens kills : Fact) (s : IsSize
   left x y ok ok2 = record {
     first_size = ok;
     second_size = joined_size bits x y ok ok2;
-    ones = λ k e. joined_bit bits x y ok ok2 k (flag_within bits x ok k e) ∙ or_left_is (flag x 0 k) (flag y 0 k) e;
+    ones = λ k e. joined_bit bits x y ok ok2 k (flag_within bits x ok k e) ∙ or_left (flag x 0 k) (flag y 0 k) e;
   }
 
   right : (x y : Fact) → Ok x → Ok y → IsBelow bits y (joined x y)
   right x y ok ok2 = record {
     first_size = ok2;
     second_size = joined_size bits x y ok ok2;
-    ones = λ k e. joined_bit bits x y ok ok2 k (flag_within bits y ok2 k e) ∙ or_right_is (flag x 0 k) (flag y 0 k) e;
+    ones = λ k e. joined_bit bits x y ok ok2 k (flag_within bits y ok2 k e) ∙ or_right (flag x 0 k) (flag y 0 k) e;
   }
 
   least : (x y z : Fact) → Ok x → Ok y → IsBelow bits x z → IsBelow bits y z → IsBelow bits (joined x y) z

@@ -8,9 +8,8 @@ use Rattle.mir_syntax.specs.declared.body.Term.{Term}
 use Rattle.mir_syntax.specs.declared.body.Term.TheVariants as term
 use Rattle.mir_syntax.specs.Tree.{Tree}
 use Rattle.mir_syntax.specs.Crate.{TypedStmt, assign, storage_live, storage_dead, set_discriminant, TypedBlock, TypedBody}
-use Rattle.mir_syntax.specs.Shapes.{Shape}
-use Rattle.mir_rules.specs.Parts.{is_direct, operand_places, rvalue_places, targets}
-use Rattle.mir_rules.specs.BodyRules.{goes_through_destructor}
+use Rattle.mir_syntax.specs.Shapes.{Shape, goes_through_destructor}
+use Rattle.mir_syntax.specs.Parts.{is_direct, operand_places, rvalue_places, targets}
 
 abbrev pub place_local : Place → ℕ
 place_local p = p.local

@@ -12,7 +12,7 @@ use Rattle.mir_syntax.specs.declared.body.Term.TheVariants.{Unreachable}
 use Rattle.mir_syntax.specs.Tree.{Tree}
 use Rattle.mir_syntax.specs.Crate.{TypedStmt, TypedBlock, TypedBody}
 use Rattle.mir_syntax.specs.Shapes.{Shape}
-use Rattle.mir_rules.specs.Parts.{targets}
+use Rattle.mir_syntax.specs.Parts.{targets}
 use Rattle.bit_rows.specs.Rows.{row_at, marked}
 use Rattle.flow_engine.specs.declared.edges.Edge.{Edge}
 use Rattle.liveness.specs.Live.{place_local, operand_locals, whole, stmt_reads, stmt_fills, term_reads, term_fills}

@@ -1,7 +1,7 @@
 ghost use Rattle.std.specs.Prelude.{◌≡◌, ◌<◌, [], ◌∷◌, ◌++◌, List, set, length};
 ghost use Rattle.std.specs.List.{flat_map};
 ghost use Rattle.bit_rows.specs.Rows.{row_at, marked};
-ghost use Rattle.mir_rules.specs.Parts.{is_direct as path_is_direct};
+ghost use Rattle.mir_syntax.specs.Parts.{is_direct as path_is_direct};
 ghost use Rattle.mir_syntax.specs.Tree.{Tree};
 ghost use Rattle.mir_syntax.specs.Crate.{stmt_of};
 ghost use Rattle.liveness.specs.Live.{operand_locals, written_reads, whole};

@@ -6,7 +6,7 @@ ghost use Rattle.mir_syntax.specs.Crate.{crate_of, body_of};
 ghost use Rattle.mir_syntax.specs.Shapes.{shapes_of};
 ghost use Rattle.mir_syntax.specs.Drops.{KnowsDrops};
 ghost use Rattle.mir_syntax.specs.Ids.{IdsInTable, BodyInTable};
-ghost use Rattle.mir_rules.specs.Parts.{targets};
+ghost use Rattle.mir_syntax.specs.Parts.{targets};
 ghost use Rattle.mir_cfg.specs.Paths.{terms_of, Closed};
 ghost use Rattle.liveness.specs.Live.{Live, term_reads, term_fills};
 ghost use Rattle.liveness.specs.Rows.{cleared, or_rows, end_row, block_at, IsRows};

@@ -2,11 +2,10 @@
 ghost use Rattle.std.specs.Prelude.{◌≡◌, ◌<◌, ◌||◌, not, set, length, IsTrue, false, true};
 ghost use Rattle.std.specs.List.{flat_map};
 ghost use Rattle.bit_rows.specs.Rows.{row_at, marked};
-ghost use Rattle.mir_rules.specs.Parts.{is_direct as path_is_direct};
-ghost use Rattle.mir_rules.specs.BodyRules.{goes_through_destructor};
+ghost use Rattle.mir_syntax.specs.Parts.{is_direct as path_is_direct};
 ghost use Rattle.mir_syntax.specs.Tree.{trees_of};
 ghost use Rattle.mir_syntax.specs.Crate.{crate_of, body_of};
-ghost use Rattle.mir_syntax.specs.Shapes.{shapes_of};
+ghost use Rattle.mir_syntax.specs.Shapes.{shapes_of, goes_through_destructor};
 ghost use Rattle.mir_syntax.specs.Drops.{KnowsDrops};
 ghost use Rattle.mir_syntax.specs.Ids.{IdsInTable, BodyInTable};
 ghost use Rattle.liveness.specs.Live.{result_reads, term_reads, term_fills, whole};

@@ -85,10 +85,6 @@ coded_then line a b c xs ys same coded w = record {
   notes = w.notes ∙ ap (λ k. noted k (on_line line ys)) coded ∙ sym (noted_on a.notes line xs ys);
 }
 
-pub map-map : {X Y Z : Type 0} (f : Y → Z) (h : X → Y) (xs : List X) → map f (map h xs) ≡ map (λ x. f (h x)) xs
-map-map f h [] = refl
-map-map f h (x ∷ xs) = ap (λ l. f (h x) ∷ l) (map-map f h xs)
-
 -- where there is a first one, it doesn't matter what stands in for it
 pub first_any : {X : Type 0} (left : List X) (d e : X) → 1 ≤ length left → get_or left 0 d ≡ get_or left 0 e
 first_any [] d e h = absurd (omega arith)

@@ -9,6 +9,7 @@ use Rattle.mir_syntax.specs.declared.types.Ty.{Ty}
 use Rattle.mir_syntax.specs.Tree.{Tree, scalar, empty, more, ref, ref_mut, named, at_id, trees_of}
 use Rattle.mir_syntax.specs.Table.{IsTable}
 use Rattle.mir_syntax.proofs.OneId.{one-id-each}
+use Rattle.mir_syntax.proofs.Bools.{same_tests}
 use Rattle.mir_text.specs.Names.{int_number, same_scalar, same_type}
 
 abbrev all_ints : List IntTy
@@ -70,11 +71,6 @@ same_type_refl (ref t) = same_type_refl t
 same_type_refl (ref_mut t) = same_type_refl t
 same_type_refl (named d) = eq-eqb d d refl
 
-both_true : (a b : Bool) → (a ≡ true → b ≡ true) → (b ≡ true → a ≡ true) → a ≡ b
-both_true true b to from = sym (to refl)
-both_true false true to from = from refl
-both_true false false to from = refl
-
 -- ids of a table differ where the types differ that they stand for
 pub differ_ids : (types : List Ty) (a b : TyId) → IsTable types → a.0 < length types → b.0 < length types
     → not (nat_eq a.0 b.0) ≡ not (same_type (at_id (trees_of types) a) (at_id (trees_of types) b))
@@ -82,7 +78,7 @@ differ_ids types a b table ha hb =
     let t = at_id (trees_of types) a in
     let u = at_id (trees_of types) b in
     ap not
-    (both_true (nat_eq a.0 b.0) (same_type t u)
+    (same_tests (nat_eq a.0 b.0) (same_type t u)
     (λ e. let one : ℕ → Tree = λ n. get_or (trees_of types) n (scalar s.Bool) in
     ap (same_type t) (sym (ap one (eqb-true a.0 b.0 e))) ∙ same_type_refl t)
     (λ e. eq-eqb a.0 b.0 (ap (λ id. id.0) (one-id-each types a b table ha hb (same_type_is t u e)))))

@@ -1,6 +1,6 @@
 ghost use Rattle.std.specs.Prelude.{◌≡◌, ℕ, ◌<◌, ◌^◌, ◌==◌, [], ◌∷◌, ◌++◌, map, length, get_or, replicate, IfOk, OnOk};
 ghost use Rattle.std.specs.List.{All, filter, range_with_len};
-ghost use Rattle.mir_rules.specs.Parts.{targets, arm_block};
+ghost use Rattle.mir_syntax.specs.Parts.{targets, arm_block};
 ghost use Rattle.mir_cfg.specs.Paths.{terms_of, Closed, sources};
 
 use mir_syntax::{Arm, Block, Body, List, OutOfMemory, Term};

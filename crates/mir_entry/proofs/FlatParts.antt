@@ -110,13 +110,6 @@ pub fields_other : (f : ℕ → Value → Option (List ℤ)) (trees : List Tree)
 fields_other f trees [] v a h = both_none a (flat_by f empty v) (empty_other f v h)
 fields_other f trees (x ∷ fields) v a h = both_none a (flat_by f (more (at_id trees x.ty) (fields_tree trees fields)) v) (more_other f (at_id trees x.ty) (fields_tree trees fields) v h)
 
-listed_variant : (vs : List Value) → variant_in (listed vs) ≡ None
-listed_variant [] = refl
-listed_variant (v ∷ vs) = refl
-
-pub parts_variant : (d : Datum) (vs : List Datum) → d ≡ Parts vs → None ≡ variant_in (value_of d)
-parts_variant d vs e = sym (ap (λ x. variant_in (value_of x)) e ∙ (ap variant_in (view_parts vs) ∙ listed_variant (map value_of vs)))
-
 -- ---- what was put at the end
 
 pub pushed_true : (b : Bool) (ns : List Number) (x : Option (List ℤ)) → x ≡ pushed b ns → b ≡ true → x ≡ Some (map integer_in ns)

@@ -13,19 +13,13 @@ use Rattle.mir_syntax.specs.declared.program.Program.{Program}
 use Rattle.mir_syntax.specs.Tree.{Tree, more, at_id, at_ids, trees_of}
 use Rattle.mir_syntax.specs.Crate.{variant_of}
 use Rattle.mir_syntax.specs.Shapes.{Shape, ◌>>=◌, fields_tree, fields_tuple, first_variant}
-use Rattle.mir_syntax.proofs.Places.{shape-at, shape-past}
+use Rattle.mir_syntax.proofs.Places.{shape-at, shape-past, variants_at}
 use Rattle.mir_semantics.specs.Values.{Value, cons, listed}
 use Rattle.mir_meaning.specs.Programs.{shapes_in}
 use Rattle.mir_meaning.proofs.Blanks.{depth_enough}
 use Rattle.mir_meaning.proofs.Walks.{take_at}
 use Rattle.mir_entry.specs.Readings.{Reading, read_by, read_of, read_def, read_variant, reading, behind, in_front, small_natural, numbered, with_number, variant_named}
 use Rattle.mir_entry.proofs.Finding.{found_there}
-
-pub variants_at : (trees : List Tree) (variants : List Variant) (k : ℕ)
-    → slice_get (map fields_tuple (map (variant_of trees) variants)) k ≡ option_map (λ v. fields_tree trees v.fields) (slice_get variants k)
-variants_at trees [] k = refl
-variants_at trees (v ∷ vs) zero = refl
-variants_at trees (v ∷ vs) (suc k) = variants_at trees vs k
 
 pub named_some : (trees : List Tree) (variants : List Variant) (i : ℤ) (k : ℕ) (v : Variant) (fs : List Field) → Some k ≡ small_natural i → slice_get variants k ≡ Some v → fs ≡ v.fields
     → Some (k, fields_tree trees fs) ≡ variant_named (map fields_tuple (map (variant_of trees) variants)) i

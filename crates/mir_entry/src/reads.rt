@@ -168,7 +168,7 @@ fn small_natural(number: Number) -> Option<u32>
 }
 
 /// The variant that a number names: its place, and its fields.
-#[tactic(auto, using(crate::proofs::Variants::variants_at))]
+#[tactic(auto, using(mir_syntax::proofs::Places::variants_at))]
 fn variant_at(variants: &List<Variant>, number: Number) -> Option<(u32, &[Field])>
     ensures { (trees : List Tree) → option_map (λ f. (f.0, fields_tree trees f.1.now)) result ≡ spec.variant_named (map fields_tuple (map (variant_of trees) variants.now)) (integer_in number) }
 {

@@ -41,7 +41,7 @@ pub fn parts(value: &Datum) -> Option<&[Datum]>
 }
 
 /// The variant of an enum: its place, and its values.
-#[tactic(auto, using(crate::proofs::FlatParts::parts_variant))]
+#[tactic(auto, using(mir_meaning::proofs::Values::parts_variant))]
 pub fn variant(value: &Datum) -> Option<(u32, &[Datum])>
     ensures { MatchOption result (None ≡ variant_in (value_of value.now)) (λ on. value_of value.now ≡ sem.variant on.0 (fields_of on.1.now)) }
 {

@@ -2,6 +2,7 @@
 use Rattle.std.proofs.Common.{◌≡◌, ℕ, ◌<◌, ◌&&◌, ◌||◌, not, Bool, true, false, cond, List, [], ◌∷◌, ◌++◌, map, length, codes, Option, refl, sym, ap, ap₂, ◌∙◌}
 use Rattle.std.proofs.lemmas.Slice.Eq.{bytes_eq-Decides}
 use Rattle.std.specs.Str.{bytes_eq}
+use Rattle.mir_syntax.proofs.Bools.{same_tests}
 use Rattle.mir_text.specs.NameFaults.{Fault, Defined, on_line, unless, each, stands_in, same_flag, same_path, is_variant_path, clashes, any_clashes, path_faults, variant_paths}
 use Rattle.mir_text.specs.GrammarItems.{VariantRule}
 use Rattle.mir_text.specs.Names.{Strings, string_at, path_bytes}
@@ -41,13 +42,8 @@ or-pairs false false c d = refl
 or-threes : (p s q v r w : Bool) → (p || s) || ((q || v) || (r || w)) ≡ ((p || (q || r)) || (s || (v || w)))
 or-threes p s q v r w = ap (λ x. (p || s) || x) (or-pairs q v r w) ∙ or-pairs p s (q || r) (v || w)
 
-same-test : (a b : Bool) → (a ≡ true → b ≡ true) → (b ≡ true → a ≡ true) → a ≡ b
-same-test true b f g = sym (f refl)
-same-test false true f g = g refl
-same-test false false f g = refl
-
 bytes_eq-sym : (a b : List ℕ) → bytes_eq a b ≡ bytes_eq b a
-bytes_eq-sym a b = same-test (bytes_eq a b) (bytes_eq b a)
+bytes_eq-sym a b = same_tests (bytes_eq a b) (bytes_eq b a)
     (λ e. (bytes_eq-Decides b a).1 (sym ((bytes_eq-Decides a b).0 e)))
     (λ e. (bytes_eq-Decides a b).1 (sym ((bytes_eq-Decides b a).0 e)))
 

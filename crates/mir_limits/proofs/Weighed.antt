@@ -7,8 +7,8 @@ use Rattle.mir_syntax.specs.Crate.{TypedBlock, TypedBody, Crate, block_of}
 use Rattle.mir_syntax.specs.Tree.{Tree}
 use Rattle.mir_syntax.specs.declared.body.Block.{Block}
 use Rattle.type_sizes.proofs.Sums.{Summing}
-use Rattle.mir_rules.specs.Parts.{term_places, targets}
-use Rattle.mir_rules.specs.Formed.{path_formed, place_formed, block_there, term_formed, block_formed, type_formed, has_start, body_formed}
+use Rattle.mir_syntax.specs.Parts.{term_places, targets, path_formed}
+use Rattle.mir_rules.specs.Formed.{place_formed, block_there, term_formed, block_formed, type_formed, has_start, body_formed}
 use Rattle.mir_rules.proofs.Lists.{and_true-left, and_true-right}
 use Rattle.std.proofs.lemmas.Bool.{lt-ltb, le-ltb}
 use Rattle.type_sizes.specs.UpTo.{Tells}

@@ -6,7 +6,7 @@ use Rattle.mir_semantics.specs.Values.{Value}
 use Rattle.mir_semantics.specs.Step.{number_in, numbers_in}
 use Rattle.mir_meaning.specs.declared.datum.Datum.{Datum}
 use Rattle.mir_meaning.specs.Views.{value_of}
-use Rattle.mir_meaning.proofs.Binds.{bind_gone}
+use Rattle.mir_syntax.proofs.Binds.{bind_gone}
 
 -- what is left of them, after the numbers so far
 abbrev pub then_numbers : List ℕ → Option (List ℕ) → Option (List ℕ)

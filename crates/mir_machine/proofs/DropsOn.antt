@@ -18,7 +18,7 @@ use Rattle.mir_semantics.specs.Values.{Addr, Value, pointer, blank, is_hole, hol
 use Rattle.mir_semantics.specs.Memory.{Memory, value_at, write}
 use Rattle.mir_semantics.specs.Step as sem
 use Rattle.mir_semantics.specs.Step.{Code, Here, State, Control, Next, on, resolve, type_of, work_on, to_block, visit, visits_of, enter, entered, work_off, visit_if, visit_unless, variant_in, left_at, left_in, destroyed, destroyed_at}
-use Rattle.mir_meaning.proofs.Binds.{bind_at, bind_gone}
+use Rattle.mir_syntax.proofs.Binds.{bind_at, bind_gone}
 use Rattle.mir_machine.specs.declared.control.Visit.{Visit}
 use Rattle.mir_machine.specs.Seen.{begun, dropped, items_in, visit_in}
 

@@ -26,7 +26,7 @@ use Rattle.mir_num.specs.Numbers as num
 use Rattle.mir_semantics.specs.Values.{Value, number, nil}
 use Rattle.mir_semantics.specs.Memory.{Memory, close_frame}
 use Rattle.mir_semantics.specs.Step.{Code, Dest, Visit, Dropping, Control, Called, State, on, stop, fail, returned, aborted, no_answer, Here, store, exec, read_at, read_all, read_number, local_addr, dest_of, scalar_in, take_arm, to_block, next_stmt, calling, answered, enter, entered, ask, call, numbers_in, return_to, work_on, left_at, visits_of, destroyed_at, destroyed, integers, check, finish, perform, step}
-use Rattle.mir_meaning.proofs.Binds.{bind_at, bind_gone}
+use Rattle.mir_syntax.proofs.Binds.{bind_at, bind_gone}
 use Rattle.mir_machine.specs.Ends.{returned_to, frame_ended, told, asked, outside_called}
 
 -- ---- goto and switch

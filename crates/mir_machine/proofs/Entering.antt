@@ -14,7 +14,7 @@ use Rattle.mir_syntax.specs.Shapes.{Shape}
 use Rattle.mir_semantics.specs.Values.{Addr, Value, blank}
 use Rattle.mir_semantics.specs.Memory.{Memory, open_frame}
 use Rattle.mir_semantics.specs.Step.{Code, Here, Dest, Control, State, on, body_in, resolve, type_of, dest_of, blanks, first_of, new_slots, entered, enter}
-use Rattle.mir_meaning.proofs.Binds.{bind_at, bind_gone}
+use Rattle.mir_syntax.proofs.Binds.{bind_at, bind_gone}
 use Rattle.mir_machine.specs.Seen.{code_in}
 
 -- ---- destinations

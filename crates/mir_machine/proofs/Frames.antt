@@ -9,7 +9,7 @@ use Rattle.mir_semantics.specs.Step.{read_at, local_addr, only_if}
 use Rattle.mir_meaning.specs.declared.memory.Store.{Store}
 use Rattle.mir_meaning.specs.Views.{memory_of, memory_from, store_of, address}
 use Rattle.mir_meaning.proofs.Memories.{memory_push}
-use Rattle.mir_meaning.proofs.Binds.{bind_at, bind_gone}
+use Rattle.mir_syntax.proofs.Binds.{bind_at, bind_gone}
 use Rattle.mir_machine.specs.declared.control.Control.{Control}
 use Rattle.mir_machine.specs.declared.machine.Machine.{Machine}
 use Rattle.mir_machine.specs.Seen.{control_in, state_in}

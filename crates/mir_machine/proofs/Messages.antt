@@ -8,7 +8,7 @@ use Rattle.mir_num.specs.Numbers.{integer_of}
 use Rattle.mir_semantics.specs.Memory.{Memory}
 use Rattle.mir_semantics.specs.Step.{Here, scalar_ty_of, read_number, integers}
 use Rattle.mir_meaning.proofs.Operands.{drop_next}
-use Rattle.mir_meaning.proofs.Binds.{bind_at, bind_gone}
+use Rattle.mir_syntax.proofs.Binds.{bind_at, bind_gone}
 
 -- what is left of them, after the integers so far
 abbrev pub then_integers : List ℤ → Option (List ℤ × Memory) → Option (List ℤ × Memory)

@@ -179,11 +179,6 @@ shows_last p seen n s r e k ends h =
     none true e f = absurd cc
     none false e f = past s.taken n e
 
-pub below_both : (a b : Bool) → (a && b) ≡ true → (a ≡ true) × (b ≡ true)
-below_both true true e = (refl, refl)
-below_both true false e = absurd cc
-below_both false b e = absurd cc
-
 pub below : (a n : ℕ) → nat_lt a n ≡ true → a < n
 below a n e = grind arith
 

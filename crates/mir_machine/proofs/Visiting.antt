@@ -10,7 +10,7 @@ use Rattle.mir_syntax.specs.Tree.{Tree, at_id, at_ids, trees_of, node}
 use Rattle.mir_syntax.specs.declared.types.Ty.{Ty}
 use Rattle.mir_syntax.specs.declared.types.Ty.TheVariants.{Scalar, Tuple, Ref, RefMut, Named}
 use Rattle.mir_syntax.specs.Shapes.{Shape, fields_tree, fields_of_struct, struct_fields, variant_of_enum, ◌>>=◌}
-use Rattle.mir_rules.specs.Formed.{path_formed}
+use Rattle.mir_syntax.specs.Parts.{path_formed}
 use Rattle.mir_semantics.specs.Values.{Addr, Value, number, nil, cons, variant, pointer, hole}
 use Rattle.mir_semantics.specs.Memory.{further}
 use Rattle.mir_semantics.specs.Step as sem

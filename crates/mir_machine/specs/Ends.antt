@@ -1,12 +1,7 @@
 -- How the steps of a machine end.
 use Rattle.std.specs.Prelude.{ℕ, List, ◌∷◌, slice_get, map, reverse, ℤ, pos, neg_ℤ, if◌then◌else◌, Bool, true, ◌&&◌, Option, Result, Ok, Err}
-use Rattle.std.specs.List.{list_all}
 use Rattle.mir_syntax.specs.declared.number.Number.{Number}
-use Rattle.mir_syntax.specs.declared.body.Block.{Block}
-use Rattle.mir_syntax.specs.declared.body.Term.{Term}
-use Rattle.mir_syntax.specs.declared.body.Term.TheVariants as term
 use Rattle.mir_syntax.specs.declared.program.Program.{Program}
-use Rattle.mir_rules.specs.Formed.{path_formed}
 use Rattle.mir_syntax.specs.Tree.{Tree}
 use Rattle.mir_syntax.specs.Shapes.{Shape, ◌>>=◌}
 use Rattle.mir_semantics.specs.Values.{Value}
@@ -16,7 +11,6 @@ use Rattle.mir_semantics.specs.Step.{Next, on, stop, fail, returned, aborted, no
 use Rattle.mir_meaning.specs.declared.stop.Stop.{Stop}
 use Rattle.mir_meaning.specs.declared.stop.Stop.TheVariants as stops
 use Rattle.mir_meaning.specs.Views.{value_of}
-use Rattle.mir_meaning.specs.Sight.{operand_whole, stmt_whole}
 use Rattle.mir_machine.specs.declared.machine.Called.{Called}
 use Rattle.mir_machine.specs.declared.machine.Machine.{Machine}
 use Rattle.mir_machine.specs.declared.outcome.Outcome.{Outcome}
@@ -48,19 +42,6 @@ Stays (Ok (Aborted text ns)) same = same
 Stays (Ok NoAnswer) same = same
 Stays (Err stops.Undefined) same = same
 Stays (Err stops.OutOfMemory) same = Unit {0}
-
--- each downcast of a terminator's places is followed by a field
-abbrev pub term_whole : Term → Bool
-term_whole (term.Switch a arms other) = operand_whole a
-term_whole (term.Drop p next) = path_formed p.proj
-term_whole (term.Call p callee args next) = path_formed p.proj && list_all operand_whole args
-term_whole (term.Assert a expected text args next) = operand_whole a && list_all operand_whole args
-term_whole (term.Goto next) = true
-term_whole term.Return = true
-term_whole term.Unreachable = true
-
-abbrev pub block_whole : Block → Bool
-block_whole b = list_all stmt_whole b.stmts && term_whole b.term
 
 -- the frame on top has ended with a value: its caller gets it, or the run ends
 abbrev pub returned_to : List Shape → sem.State → Value → Option Next

@@ -1,7 +1,7 @@
 ghost use Rattle.std.specs.Prelude.{◌≡◌, ◌<◌, ◌-◌, ◌^◌, IsTrue, option_map};
 ghost use Rattle.mir_syntax.specs.declared.program.Program.{Program};
 ghost use Rattle.mir_syntax.specs.Drops.{KnowsDrops};
-ghost use Rattle.mir_rules.specs.Formed.{path_formed};
+ghost use Rattle.mir_syntax.specs.Parts.{path_formed};
 ghost use Rattle.mir_semantics.specs.Step as sem;
 ghost use Rattle.mir_semantics.specs.Step.{on, variant_in};
 ghost use Rattle.mir_semantics.specs.Values.{Value};

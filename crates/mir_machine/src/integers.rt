@@ -6,7 +6,8 @@ ghost use Rattle.mir_num.specs.Numbers as num;
 ghost use Rattle.mir_num.specs.Numbers.{integer_of};
 ghost use Rattle.mir_semantics.specs.Step as sem;
 ghost use Rattle.mir_meaning.specs.Views.{memory_of};
-ghost use Rattle.mir_meaning.specs.Sight.{here_of, operand_whole};
+ghost use Rattle.mir_syntax.specs.Parts.{operand_whole};
+ghost use Rattle.mir_meaning.specs.Sight.{here_of};
 ghost use Rattle.mir_meaning.specs.Gives.{Gives};
 ghost use Rattle.mir_machine.specs.Ends.{integer_in};
 

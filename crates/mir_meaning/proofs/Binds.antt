@@ -6,19 +6,6 @@ use Rattle.mir_meaning.specs.declared.stop.Stop.{Stop}
 use Rattle.mir_meaning.specs.declared.stop.Stop.TheVariants.{Undefined, OutOfMemory}
 use Rattle.mir_meaning.specs.Gives.{Gives}
 
-pub bind_at : {A B : Type 0} (o : Option A) (x : A) (k : A → Option B) → o ≡ Some x → (o >>= k) ≡ k x
-unfolding ◌>>=◌
-bind_at o x k e = ap (λ p. p >>= k) e
-
-pub bind_gone : {A B : Type 0} (o : Option A) (k : A → Option B) → o ≡ None → (o >>= k) ≡ None
-unfolding ◌>>=◌
-bind_gone o k e = ap (λ p. p >>= k) e
-
-pub bind_dead : {A B : Type 0} (o : Option A) (k : A → Option B) → ((x : A) → k x ≡ None) → (o >>= k) ≡ None
-unfolding ◌>>=◌
-bind_dead None k h = refl
-bind_dead (Some x) k h = h x
-
 pub bind_later : {A B C : Type 0} (o : Option A) (f : A → Option B) (k : A → B → Option C) → (o >>= f) ≡ None → (o >>= λ a. f a >>= k a) ≡ None
 unfolding ◌>>=◌
 bind_later None f k h = refl

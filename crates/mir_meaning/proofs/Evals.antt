@@ -22,7 +22,8 @@ use Rattle.mir_semantics.specs.Memory.{Memory, value_at}
 use Rattle.mir_semantics.specs.Step.{Here, resolve, read, read_all, read_number, read_two, scalar_ty_of, scalar_in, variant_in, pair_of, built, eval}
 use Rattle.mir_meaning.specs.Programs.{shapes_in}
 use Rattle.mir_meaning.specs.Sight.{Misses, Finds}
-use Rattle.mir_meaning.proofs.Binds.{bind_at, bind_gone, bind_dead, bind_later}
+use Rattle.mir_syntax.proofs.Binds.{bind_at, bind_gone, bind_dead}
+use Rattle.mir_meaning.proofs.Binds.{bind_later}
 
 -- a value that is seen as another
 pub same_seen : (v w : Value) (m : Memory) → v ≡ w → ◌≡◌ {A = Option (Value × Memory)} (Some (v, m)) (Some (w, m))

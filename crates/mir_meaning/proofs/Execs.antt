@@ -11,16 +11,13 @@ use Rattle.mir_syntax.specs.Crate as typed
 use Rattle.mir_syntax.specs.Shapes.{Shape, needs_drop, variant_ty, ◌>>=◌}
 use Rattle.mir_semantics.specs.Values.{Addr, Value, number, nil, cons, variant, pointer, hole, blank}
 use Rattle.mir_semantics.specs.Memory.{Memory, value_at, write}
-use Rattle.mir_semantics.specs.Step.{Here, Dest, resolve, type_of, local_addr, has_deref, guard_of, dest_of, store, allows, only_if, variant_in, is_variant, set_blank, write_unless, eval, exec}
+use Rattle.mir_syntax.specs.Parts.{has_deref}
+use Rattle.mir_semantics.specs.Step.{Here, Dest, resolve, type_of, local_addr, guard_of, dest_of, store, allows, only_if, variant_in, is_variant, set_blank, write_unless, eval, exec}
 use Rattle.mir_meaning.specs.Sight.{Misses, Finds}
-use Rattle.mir_meaning.proofs.Binds.{bind_at, bind_gone, bind_later}
+use Rattle.mir_syntax.proofs.Binds.{bind_at, bind_gone}
+use Rattle.mir_meaning.proofs.Binds.{bind_later}
 
 -- ---- guards
-
-pub deref_other : (p : Proj) (ps : List Proj) → (p ≡ Deref → ⊥) → has_deref (p ∷ ps) ≡ has_deref ps
-deref_other (Field i) ps h = refl
-deref_other (Downcast k) ps h = refl
-deref_other Deref ps h = absurd (h refl)
 
 pub guard_if : (D : List Shape) (ps : List Proj) (t : Tree) (b d : Bool) → b ≡ has_deref ps → d ≡ needs_drop D t → guard_of D ps t ≡ (if b && d then Some t else None)
 unfolding guard_of

@@ -14,7 +14,8 @@ use Rattle.mir_meaning.specs.declared.datum.Datum.{Datum, Parts}
 use Rattle.mir_meaning.specs.Views.{value_of}
 use Rattle.mir_meaning.specs.Sight.{Misses, Finds}
 use Rattle.mir_meaning.proofs.Values.{view_parts}
-use Rattle.mir_meaning.proofs.Binds.{bind_at, bind_gone, bind_later}
+use Rattle.mir_syntax.proofs.Binds.{bind_at, bind_gone}
+use Rattle.mir_meaning.proofs.Binds.{bind_later}
 
 read_missed : (m : Memory) (o : Option Addr) → (o >>= value_at m) ≡ None → (o >>= read_at m) ≡ None
 unfolding read_at ◌>>=◌

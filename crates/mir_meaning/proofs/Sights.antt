@@ -2,7 +2,7 @@
 use Rattle.std.proofs.Common.{◌≡◌, IsTrue, Option, Some, None, refl, sym}
 use Rattle.mir_syntax.specs.declared.body.Place.{Place}
 use Rattle.mir_syntax.specs.Shapes.{whole_place_ty, ◌>>=◌}
-use Rattle.mir_rules.specs.Formed.{path_formed}
+use Rattle.mir_syntax.specs.Parts.{path_formed}
 use Rattle.mir_rules.proofs.Whole.{whole_place}
 use Rattle.mir_semantics.specs.Values.{Addr}
 use Rattle.mir_semantics.specs.Memory.{Memory, value_at, walk}

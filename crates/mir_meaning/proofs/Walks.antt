@@ -4,7 +4,7 @@ use Rattle.mir_syntax.specs.declared.body.Proj.{Proj}
 use Rattle.mir_syntax.specs.declared.body.Proj.TheVariants.{Field, Downcast, Deref}
 use Rattle.mir_syntax.specs.Shapes.{◌>>=◌}
 use Rattle.mir_syntax.proofs.Binds.{bind_back}
-use Rattle.mir_rules.specs.Formed.{path_formed, begins_with_field}
+use Rattle.mir_syntax.specs.Parts.{path_formed, begins_with_field}
 use Rattle.mir_semantics.specs.Values.{Value, Addr, inner, at_path}
 use Rattle.mir_meaning.specs.declared.place.Spot.{Spot}
 use Rattle.mir_meaning.specs.declared.part.Part.{Part}

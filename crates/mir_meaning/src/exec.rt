@@ -3,11 +3,11 @@ ghost use Rattle.mir_syntax.specs.Tree.{trees_of};
 ghost use Rattle.mir_syntax.specs.Crate as typed;
 ghost use Rattle.mir_syntax.specs.Crate.{rvalue_of, stmt_of};
 ghost use Rattle.mir_syntax.specs.Drops.{KnowsDrops};
-ghost use Rattle.mir_rules.specs.Formed.{path_formed};
+ghost use Rattle.mir_syntax.specs.Parts.{has_deref, path_formed, rvalue_whole, stmt_whole};
 ghost use Rattle.mir_semantics.specs.Step as sem;
 ghost use Rattle.mir_meaning.specs.Programs.{shapes_in, type_in};
 ghost use Rattle.mir_meaning.specs.Views.{value_of, part_of, memory_of};
-ghost use Rattle.mir_meaning.specs.Sight.{here_of, assigned, rvalue_whole, stmt_whole};
+ghost use Rattle.mir_meaning.specs.Sight.{here_of, assigned};
 ghost use Rattle.mir_meaning.specs.Gives.{Gives};
 
 use crate::blank::{blank, variant_blank};
@@ -23,9 +23,9 @@ use crate::types::needs_drop;
 use mir_syntax::{Place, Program, Proj, Rvalue, Stmt, TyId};
 use std::alloc::Global;
 
-#[tactic(auto, using(crate::proofs::Execs::deref_other))]
+#[tactic(auto, using(mir_syntax::proofs::Parts::deref_other))]
 fn has_deref(path: &[Proj]) -> bool
-    ensures { result ≡ sem.has_deref path.now }
+    ensures { result ≡ has_deref path.now }
 {
     let mut path = path;
     while let Some((first, rest)) = split(path) {

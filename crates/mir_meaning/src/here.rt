@@ -1,5 +1,5 @@
 ghost use Rattle.std.specs.Prelude.{◌≡◌, ◌++◌, None, Some, IsTrue, MatchOption, IfSome, option_map};
-ghost use Rattle.mir_rules.specs.Formed.{path_formed};
+ghost use Rattle.mir_syntax.specs.Parts.{path_formed};
 ghost use Rattle.mir_semantics.specs.Step as sem;
 ghost use Rattle.mir_meaning.specs.Programs.{type_in};
 ghost use Rattle.mir_meaning.specs.Views.{memory_of, part_of};

@@ -1,5 +1,5 @@
 ghost use Rattle.std.specs.Prelude.{◌≡◌, [], map, IsTrue, ◌<◌, length, MatchOption, IfSome, OnOk, option_map, option_copied};
-ghost use Rattle.mir_rules.specs.Formed.{path_formed};
+ghost use Rattle.mir_syntax.specs.Parts.{path_formed};
 ghost use Rattle.mir_semantics.specs.Values as values;
 ghost use Rattle.mir_semantics.specs.Memory as sem;
 ghost use Rattle.mir_semantics.specs.Memory.{local_at, value_at, change_slot, open_frame};

@@ -2,12 +2,12 @@ ghost use Rattle.std.specs.Prelude.{◌≡◌, IsTrue, map};
 ghost use Rattle.std.specs.List.{list_all};
 ghost use Rattle.mir_syntax.specs.declared.body.Operand.{Operand};
 ghost use Rattle.mir_syntax.specs.Drops.{KnowsDrops};
-ghost use Rattle.mir_rules.specs.Formed.{path_formed};
+ghost use Rattle.mir_syntax.specs.Parts.{path_formed, operand_whole};
 ghost use Rattle.mir_semantics.specs.Step as sem;
 ghost use Rattle.mir_semantics.specs.Step.{number_in, scalar_in};
 ghost use Rattle.mir_meaning.specs.Programs.{type_in};
 ghost use Rattle.mir_meaning.specs.Views.{value_of, memory_of};
-ghost use Rattle.mir_meaning.specs.Sight.{here_of, operand_whole};
+ghost use Rattle.mir_meaning.specs.Sight.{here_of};
 ghost use Rattle.mir_meaning.specs.Gives.{Gives};
 
 use crate::blank::blank;

@@ -1,6 +1,6 @@
 ghost use Rattle.std.specs.Prelude.{◌≡◌, ◌<◌, length, take, drop, slice_get, List, [], ◌∷◌, ◌++◌, Some, None, IsTrue, IfOk, MatchOption, IfSome, OnSome, option_map};
 ghost use Rattle.mir_syntax.specs.declared.body.Proj.{Proj};
-ghost use Rattle.mir_rules.specs.Formed.{path_formed};
+ghost use Rattle.mir_syntax.specs.Parts.{path_formed};
 ghost use Rattle.mir_semantics.specs.Memory.{value_at};
 ghost use Rattle.mir_semantics.specs.Memory as sem;
 ghost use Rattle.mir_semantics.specs.Memory.{walk as along};

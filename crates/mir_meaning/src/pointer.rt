@@ -1,5 +1,5 @@
 ghost use Rattle.std.specs.Prelude.{IsTrue};
-ghost use Rattle.mir_rules.specs.Formed.{path_formed};
+ghost use Rattle.mir_syntax.specs.Parts.{path_formed};
 
 use mir_syntax::{List, Proj};
 

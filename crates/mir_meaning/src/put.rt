@@ -1,5 +1,5 @@
 ghost use Rattle.std.specs.Prelude.{◌≡◌, map, IsTrue};
-ghost use Rattle.mir_rules.specs.Formed.{path_formed, begins_with_field};
+ghost use Rattle.mir_syntax.specs.Parts.{path_formed, begins_with_field};
 ghost use Rattle.mir_semantics.specs.Values as sem;
 ghost use Rattle.mir_meaning.specs.Views.{value_of};
 

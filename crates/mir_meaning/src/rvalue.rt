@@ -5,12 +5,12 @@ ghost use Rattle.mir_syntax.specs.Tree.{trees_of};
 ghost use Rattle.mir_syntax.specs.Crate as typed;
 ghost use Rattle.mir_syntax.specs.Crate.{rvalue_of};
 ghost use Rattle.mir_syntax.specs.Drops.{KnowsDrops};
-ghost use Rattle.mir_rules.specs.Formed.{path_formed};
+ghost use Rattle.mir_syntax.specs.Parts.{path_formed, operand_whole, rvalue_whole};
 ghost use Rattle.mir_num.specs.Numbers as num;
 ghost use Rattle.mir_semantics.specs.Step as sem;
 ghost use Rattle.mir_meaning.specs.Programs.{shapes_in, type_in};
 ghost use Rattle.mir_meaning.specs.Views.{value_of, fields_of, memory_of};
-ghost use Rattle.mir_meaning.specs.Sight.{here_of, operand_whole, rvalue_whole};
+ghost use Rattle.mir_meaning.specs.Sight.{here_of};
 ghost use Rattle.mir_meaning.specs.Gives.{Gives};
 
 use crate::datum::Datum;

@@ -1,5 +1,5 @@
 ghost use Rattle.std.specs.Prelude.{◌≡◌, ◌++◌, IsTrue, IfOk};
-ghost use Rattle.mir_rules.specs.Formed.{path_formed};
+ghost use Rattle.mir_syntax.specs.Parts.{path_formed};
 ghost use Rattle.mir_semantics.specs.Memory as sem;
 ghost use Rattle.mir_meaning.specs.Views.{value_of, memory_of};
 ghost use Rattle.mir_meaning.specs.Spots.{spot_of};

@@ -9,7 +9,7 @@ use Rattle.mir_num.specs.Numbers as num
 use Rattle.mir_semantics.specs.Values.{Value, number, pointer, listed}
 use Rattle.mir_semantics.specs.Memory.{Memory}
 use Rattle.mir_semantics.specs.Step.{read_all, read_number, read_two, scalar_in, pair_of, built, eval, exec, integers}
-use Rattle.mir_renaming.proofs.Memory.{bind_some, some_bind}
+use Rattle.mir_syntax.proofs.Binds.{bind_some, some_bind}
 use Rattle.mir_renaming.proofs.Statements.{number_rel, variant_rel, listed_rel, built_rel}
 use Rattle.mir_renaming.proofs.Tight.{listed_tight, built_tight}
 use Rattle.mir_relate.specs.Alike.{Between, Got, GotMemory, Sides, Same, AllSame, Reads, AllRead, Likewise, Evals, Stores, Execs}

@@ -8,7 +8,7 @@ use Rattle.mir_syntax.specs.Crate as rvalue
 use Rattle.mir_semantics.specs.Values.{Value}
 use Rattle.mir_semantics.specs.Memory.{Memory}
 use Rattle.mir_semantics.specs.Step.{const_value, read, read_all, read_number, read_two, eval}
-use Rattle.mir_renaming.proofs.Memory.{bind_some}
+use Rattle.mir_syntax.proofs.Binds.{bind_some}
 use Rattle.mir_renaming.proofs.Statements.{const_rel}
 use Rattle.mir_renaming.proofs.Agree.{tight_self}
 use Rattle.mir_relate.specs.Alike.{Between, Got, Sides, Same, Evals}

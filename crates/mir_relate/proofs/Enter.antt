@@ -6,7 +6,8 @@ use Rattle.mir_semantics.specs.Values.{Value}
 use Rattle.mir_semantics.specs.Memory.{Memory, open_frame}
 use Rattle.mir_semantics.specs.Step.{Dest, Control, State, Next, on, new_slots, entered, enter}
 use Rattle.mir_renaming.specs.Renaming.{Renaming, SomeRel, Sub}
-use Rattle.mir_renaming.proofs.Memory.{bind_some, some_bind, same_or_not}
+use Rattle.mir_syntax.proofs.Binds.{bind_some, some_bind}
+use Rattle.mir_renaming.proofs.Memory.{same_or_not}
 use Rattle.mir_renaming.proofs.Statements.{Linked, ValuesRel}
 use Rattle.mir_renaming.proofs.Types.{TypeMap}
 use Rattle.mir_renaming.proofs.Frames.{open_same, new_control}

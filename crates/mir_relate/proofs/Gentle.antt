@@ -1,5 +1,5 @@
 -- A step of the source is gentle to the frames below, and results of calls go to fair places: invariants of the source alone.
-use Rattle.std.proofs.Common.{◌≡◌, ◌⊎◌, inl, inr, refl, sym, ap, ◌∙◌, subst, ℕ, ◌<◌, ◌≤◌, Bool, true, false, nat_eq, ◌&&◌, if◌then◌else◌, List, [], ◌∷◌, ◌++◌, Option, Some, None, slice_get, arith}
+use Rattle.std.proofs.Common.{◌≡◌, ◌⊎◌, inl, inr, refl, sym, ap, ◌∙◌, subst, ℕ, ◌≤◌, Bool, true, false, nat_eq, ◌&&◌, if◌then◌else◌, List, [], ◌∷◌, ◌++◌, Option, Some, None, slice_get, arith}
 use Rattle.mir_syntax.specs.declared.body.Place.{Place}
 use Rattle.mir_syntax.specs.declared.body.Operand.{Operand}
 use Rattle.mir_syntax.specs.declared.body.Operand.TheVariants as operand
@@ -13,12 +13,13 @@ use Rattle.mir_syntax.specs.Crate.{TypedRvalue, «use», binary, overflow, unary
 use Rattle.mir_syntax.specs.Crate as rvalue
 use Rattle.mir_num.specs.Numbers.{wrap, flag}
 use Rattle.mir_semantics.specs.Values.{Addr, Value, number, nil, variant, pointer, is_hole, whole, blank, full}
-use Rattle.mir_semantics.specs.Memory.{Memory, local_at, value_at, write, open_frame, close_frame}
-use Rattle.mir_semantics.specs.Step.{Code, Here, Dest, Visit, Dropping, Control, Called, State, returned, aborted, no_answer, Next, on, stop, fail, local_addr, resolve, type_of, has_deref, guard_of, dest_of, allows, store, read_at, read_all, read_number, is_variant, write_unless, exec, go_on, to_block, next_stmt, take_arm, new_slots, entered, enter, calling, answered, ask, call, return_to, visits_of, work_on, visit, visit_unless, visit_if, work_off, destroyed_at, destroyed, check, finish, perform, step}
+use Rattle.mir_semantics.specs.Memory.{Memory, value_at, write, open_frame, close_frame}
+use Rattle.mir_semantics.specs.Step.{Code, Here, Dest, Visit, Dropping, Control, Called, State, returned, aborted, no_answer, Next, on, stop, fail, local_addr, resolve, type_of, guard_of, dest_of, allows, store, read_all, read_number, is_variant, write_unless, exec, go_on, to_block, next_stmt, take_arm, new_slots, entered, enter, calling, answered, ask, call, return_to, visits_of, work_on, visit, visit_unless, visit_if, work_off, destroyed_at, destroyed, check, finish, perform, step}
+use Rattle.mir_syntax.specs.Parts.{has_deref}
 use Rattle.mir_renaming.specs.Renaming.{Renaming}
-use Rattle.mir_renaming.proofs.Memory.{bind_some}
+use Rattle.mir_syntax.proofs.Binds.{bind_some}
 use Rattle.mir_renaming.proofs.Statements.{only_true}
-use Rattle.mir_renaming.proofs.Types.{TypeMap, AddrTy, HasTy, MemTy, some_eq, write_ty, resolve_ty, eval_ty, dest_ty, read_at_ty, StmtTy, is_scalar}
+use Rattle.mir_renaming.proofs.Types.{TypeMap, AddrTy, HasTy, MemTy, write_ty, resolve_ty, eval_ty, dest_ty, read_at_ty, StmtTy, is_scalar}
 use Rattle.mir_renaming.proofs.Typed.{Typed, TermTy, CalleeTy, AskTy}
 use Rattle.mir_renaming.proofs.Frames.{open_other, close_other}
 use Rattle.mir_renaming.proofs.Walks.{walk_plain}
@@ -30,7 +31,6 @@ use Rattle.mir_relate.specs.Pass.{MoveOk, AllMoves, RvalueMoves, StmtMoves, Term
 use Rattle.mir_relate.proofs.Leaves.{some_val}
 use Rattle.mir_relate.proofs.Mild.{gentle_none, gentle_then, gentle_less, gentle_same, gentle_above, gentle_write}
 use Rattle.mir_relate.proofs.Wholes.{read_at_whole, eval_whole}
-use Rattle.mir_relate.proofs.Operands.{Clears}
 use Rattle.mir_relate.proofs.Alone.{Spends, AllSpend, RvalueSpends, all_alone, number_alone, eval_alone}
 use Rattle.mir_relate.proofs.Single.{set_blank_is}
 

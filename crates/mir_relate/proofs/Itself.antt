@@ -8,7 +8,8 @@ use Rattle.mir_syntax.specs.Crate.{TypedRvalue, «use», binary, overflow, unary
 use Rattle.mir_syntax.specs.Crate as rvalue
 use Rattle.mir_syntax.specs.Shapes.{Shape}
 use Rattle.mir_semantics.specs.Values.{blank}
-use Rattle.mir_semantics.specs.Step.{Here, has_deref}
+use Rattle.mir_semantics.specs.Step.{Here}
+use Rattle.mir_syntax.specs.Parts.{has_deref}
 use Rattle.mir_renaming.specs.Renaming.{Renaming, Sub}
 use Rattle.mir_renaming.proofs.Statements as text
 use Rattle.mir_renaming.proofs.Types.{TypeMap, HasTy, StmtTy}

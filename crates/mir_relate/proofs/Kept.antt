@@ -10,9 +10,11 @@ use Rattle.mir_syntax.specs.Crate as rvalue
 use Rattle.mir_syntax.specs.Shapes.{Shape, variant_ty, needs_drop}
 use Rattle.mir_semantics.specs.Values.{Addr, Value, variant, whole, blank, full}
 use Rattle.mir_semantics.specs.Memory.{Memory, value_at, write, walk}
-use Rattle.mir_semantics.specs.Step.{Dest, local_addr, resolve, type_of, has_deref, guard_of, dest_of, allows, store, const_value, read_at, read, set_blank, is_variant, write_unless, exec}
+use Rattle.mir_semantics.specs.Step.{Dest, local_addr, resolve, type_of, guard_of, dest_of, allows, store, const_value, read_at, read, set_blank, is_variant, write_unless, exec}
+use Rattle.mir_syntax.specs.Parts.{has_deref}
 use Rattle.mir_renaming.specs.Renaming.{Renaming, AddrRel, ValueRel, Sub, MemRel, AddrThere}
-use Rattle.mir_renaming.proofs.Memory.{bind_some, some_bind, value_at_rel}
+use Rattle.mir_syntax.proofs.Binds.{bind_some, some_bind}
+use Rattle.mir_renaming.proofs.Memory.{value_at_rel}
 use Rattle.mir_renaming.proofs.Statements as text
 use Rattle.mir_renaming.proofs.Statements.{only_true, true_only, blank_rel, const_rel, allows_rel, DestRel}
 use Rattle.mir_renaming.proofs.Types.{TypeMap, AddrTy, HasTy, MemTy, resolve_ty, eval_ty, RvalueTy}

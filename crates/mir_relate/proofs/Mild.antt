@@ -5,7 +5,8 @@ use Rattle.mir_syntax.specs.Shapes.{Shape, path_ty, needs_drop}
 use Rattle.mir_semantics.specs.Values.{Addr, Value, at_path, put, whole, full}
 use Rattle.mir_semantics.specs.Memory.{Memory, local_at, value_at, write}
 use Rattle.mir_renaming.specs.Renaming.{RootOf}
-use Rattle.mir_renaming.proofs.Memory.{bind_some, root_or_not, write_same, write_other}
+use Rattle.mir_syntax.proofs.Binds.{bind_some}
+use Rattle.mir_renaming.proofs.Memory.{root_or_not, write_same, write_other}
 use Rattle.mir_renaming.proofs.Types.{TypeMap, AddrTy, HasTy, some_eq}
 use Rattle.mir_relate.specs.Mild.{Fair, Mild, same, more, Gentle}
 use Rattle.mir_relate.proofs.Leaves.{some_val}

@@ -9,7 +9,8 @@ use Rattle.mir_syntax.specs.Crate as rvalue
 use Rattle.mir_syntax.specs.Shapes.{Shape, needs_drop}
 use Rattle.mir_semantics.specs.Values.{Addr, Value, blank}
 use Rattle.mir_semantics.specs.Memory.{Memory, local_at, value_at, write}
-use Rattle.mir_semantics.specs.Step.{Dest, local_addr, resolve, type_of, has_deref, store}
+use Rattle.mir_semantics.specs.Step.{Dest, local_addr, resolve, type_of, store}
+use Rattle.mir_syntax.specs.Parts.{has_deref}
 use Rattle.mir_renaming.specs.Renaming.{Renaming, AddrRel, ValueRel, Sub, MemRel}
 use Rattle.mir_renaming.proofs.Memory.{value_at_rel, write_other, write_back, write_again, fewer}
 use Rattle.mir_renaming.proofs.Statements as text

@@ -5,7 +5,7 @@ use Rattle.mir_syntax.specs.Shapes.{Shape, struct_fields, first_variant, fields_
 use Rattle.mir_rules.specs.DefinitionRules.{holds}
 use Rattle.mir_rules.proofs.Lists.{or_false-left, or_false-right}
 use Rattle.mir_rules.proofs.Fixed.{needs_drop_named}
-use Rattle.mir_renaming.proofs.Memory.{bind_some}
+use Rattle.mir_syntax.proofs.Binds.{bind_some}
 use Rattle.mir_renaming.proofs.Agree.{NeedsOk}
 
 module _ (D : List Shape) (apart : (d : ℕ) → holds D (length D) d d ≡ false) where

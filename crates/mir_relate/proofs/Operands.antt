@@ -8,7 +8,8 @@ use Rattle.mir_semantics.specs.Values.{Addr, Value, whole, blank}
 use Rattle.mir_semantics.specs.Memory.{Memory, value_at, write}
 use Rattle.mir_semantics.specs.Step.{resolve, type_of, const_value, read_at, read, scalar_ty_of}
 use Rattle.mir_renaming.specs.Renaming.{ValueRel}
-use Rattle.mir_renaming.proofs.Memory.{bind_some, some_bind, whole_rel}
+use Rattle.mir_syntax.proofs.Binds.{bind_some, some_bind}
+use Rattle.mir_renaming.proofs.Memory.{whole_rel}
 use Rattle.mir_renaming.proofs.Statements.{only_true, true_only, const_rel}
 use Rattle.mir_renaming.proofs.Agree.{whole_tight, tight_self}
 use Rattle.mir_relate.specs.Alike.{Between, Got, Sides, Same, Reads, Shows}

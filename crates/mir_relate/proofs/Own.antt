@@ -13,7 +13,7 @@ use Rattle.mir_semantics.specs.Values.{Value, number, nil}
 use Rattle.mir_semantics.specs.Memory.{Memory, local_at, close_frame}
 use Rattle.mir_semantics.specs.Step.{Dest, Control, Called, State, aborted, no_answer, Next, stop, fail, local_addr, dest_of, store, read_at, read_number, read_all, go_on, to_block, take_arm, calling, answered, ask, call, return_to, check, finish}
 use Rattle.mir_renaming.specs.Renaming.{Renaming}
-use Rattle.mir_renaming.proofs.Memory.{bind_some, some_bind}
+use Rattle.mir_syntax.proofs.Binds.{bind_some, some_bind}
 use Rattle.mir_renaming.proofs.Statements.{Linked}
 use Rattle.mir_renaming.proofs.Types.{TypeMap}
 use Rattle.mir_renaming.proofs.Ghosts.{Flat}

@@ -12,11 +12,11 @@ use Rattle.mir_syntax.specs.Tree.{Tree, scalar, more}
 use Rattle.mir_syntax.specs.Tree as tree
 use Rattle.mir_syntax.specs.Crate.{TypedRvalue, «use», binary, overflow, unary, cast, discriminant, tuple, build, TypedStmt, assign, storage_live, storage_dead, set_discriminant, TypedBody, Crate}
 use Rattle.mir_syntax.specs.Crate as rvalue
-use Rattle.mir_syntax.specs.Shapes.{◌>>=◌, Shape, path_ty, place_ty}
-use Rattle.mir_rules.specs.Parts.{is_direct, operand_places, rvalue_operands, rvalue_places, term_operands, term_places, targets}
+use Rattle.mir_syntax.specs.Shapes.{◌>>=◌, Shape, path_ty, place_ty, path_through, goes_through_destructor}
+use Rattle.mir_syntax.specs.Parts.{is_direct, operand_places, rvalue_operands, rvalue_places, term_operands, term_places, targets, path_formed}
 use Rattle.mir_rules.specs.Typing.{binary_ty, overflow_ty, unary_ty, cast_ty, discriminant_ty, build_ty, operand_ty, operands_ty, rvalue_ty}
-use Rattle.mir_rules.specs.BodyRules.{breaks_v21, breaks_v22, path_through, goes_through_destructor, moves_through_destructor, some_needs_drop, moves_needing_indirectly}
-use Rattle.mir_rules.specs.Formed.{path_formed, place_formed, operand_formed, shape_formed, call_formed, local_formed, stmt_formed, term_formed}
+use Rattle.mir_rules.specs.BodyRules.{breaks_v21, breaks_v22, moves_through_destructor, some_needs_drop, moves_needing_indirectly}
+use Rattle.mir_rules.specs.Formed.{place_formed, operand_formed, shape_formed, call_formed, local_formed, stmt_formed, term_formed}
 use Rattle.mir_rules.proofs.Statements.{MovesKept, Assigns, Sets}
 use Rattle.mir_rules.proofs.Terminators.{OwnTyped, TermTyped}
 use Rattle.mir_relate.specs.Renumbered.{Numbering, PlaceSame, OperandSame, OperandsSame, RvalueSame, StmtSame, TermSame}

@@ -9,7 +9,7 @@ use Rattle.mir_syntax.specs.declared.body.Term.TheVariants.{Goto, Switch, Return
 use Rattle.mir_syntax.specs.Crate.{TypedRvalue, «use», binary, overflow, unary, cast, discriminant, tuple, build, TypedStmt, assign, storage_live, storage_dead, set_discriminant, TypedBlock, TypedBody, TypedFunction, Crate}
 use Rattle.mir_syntax.specs.Crate as rvalue
 use Rattle.mir_syntax.specs.Shapes.{shapes_of}
-use Rattle.mir_rules.specs.Parts.{rvalue_operands, term_operands}
+use Rattle.mir_syntax.specs.Parts.{rvalue_operands, term_operands}
 use Rattle.mir_rules.specs.BodyRules.{some_needs_drop, moves_needing_indirectly}
 use Rattle.mir_rules.specs.Valid.{Valid, with_body, at_function}
 use Rattle.mir_rules.proofs.Lists.{or_false-left, or_false-right}

@@ -10,17 +10,18 @@ use Rattle.mir_syntax.specs.declared.body.Term.TheVariants.{Goto, Switch, Return
 use Rattle.mir_syntax.specs.Tree.{Tree, scalar, empty, more, ref, ref_mut, named, tuple_of}
 use Rattle.mir_syntax.specs.Crate.{set_discriminant, TypedBlock, TypedBody, TypedFunction, Crate}
 use Rattle.mir_syntax.specs.Shapes.{Shape, shapes_of, place_ty, needs_drop, destructor_of}
-use Rattle.mir_rules.specs.Parts.{is_direct}
+use Rattle.mir_syntax.specs.Parts.{has_deref, is_direct}
+use Rattle.mir_syntax.proofs.Parts.{direct_no_deref}
 use Rattle.mir_rules.specs.Typing as rules
 use Rattle.mir_rules.specs.Typing.{operands_ty}
 use Rattle.mir_rules.specs.Valid.{Valid}
-use Rattle.mir_rules.proofs.Lists.{bind_some, and_true-right}
+use Rattle.mir_syntax.proofs.Binds.{bind_some}
+use Rattle.mir_rules.proofs.Lists.{and_true-right}
 use Rattle.mir_rules.proofs.Statements.{Sets}
 use Rattle.mir_rules.proofs.Terminators.{OwnTyped}
 use Rattle.mir_rules.proofs.ValidCrates.{stmt_at, term_at}
 use Rattle.mir_rules.proofs.Destructors.{destructor_found}
 use Rattle.mir_semantics.specs.Values.{Value, listed}
-use Rattle.mir_semantics.specs.Step as semantics
 use Rattle.mir_semantics.specs.Step.{body_in, code_of}
 use Rattle.mir_semantics.specs.Run.{Entry}
 use Rattle.mir_semantics.specs.Entry.{IsEntry, is_by, is_def, has_type}
@@ -31,23 +32,17 @@ use Rattle.mir_relate.specs.Pass.{FewTerm}
 
 -- ---- places without a dereference
 
-pub deref_indirect : (ps : List Proj) → semantics.has_deref ps ≡ true → is_direct ps ≡ false
+pub deref_indirect : (ps : List Proj) → has_deref ps ≡ true → is_direct ps ≡ false
 deref_indirect [] h = absurd (grind arith)
 deref_indirect (Field i ∷ ps) h = deref_indirect ps h
 deref_indirect (Downcast k ∷ ps) h = refl
 deref_indirect (Deref ∷ ps) h = refl
 
-direct_plain : (ps : List Proj) → is_direct ps ≡ true → semantics.has_deref ps ≡ false
-direct_plain [] h = refl
-direct_plain (Field i ∷ ps) h = direct_plain ps h
-direct_plain (Downcast k ∷ ps) h = absurd (grind arith)
-direct_plain (Deref ∷ ps) h = absurd (grind arith)
-
 -- ---- all bodies
 
 module _ (C : Crate) (valid : Valid C) where
   drop_plain : (ts : List Tree) (t : Term) → OwnTyped C (shapes_of C) ts t → DropPlain t
-  drop_plain ts (Drop p u) h = direct_plain p.proj h.direct
+  drop_plain ts (Drop p u) h = direct_no_deref p.proj h.direct
   drop_plain ts (Goto u) h = tt
   drop_plain ts (Switch o arms u) h = tt
   drop_plain ts Return h = tt

@@ -7,9 +7,10 @@ use Rattle.mir_syntax.specs.Crate.{TypedBlock, TypedBody}
 use Rattle.mir_syntax.specs.Shapes.{Shape, needs_drop}
 use Rattle.mir_semantics.specs.Values.{Addr, blank}
 use Rattle.mir_semantics.specs.Memory.{Memory, write, walk}
-use Rattle.mir_semantics.specs.Step.{Code, Here, Dest, Control, State, local_addr, resolve, type_of, has_deref, guard_of, dest_of, set_blank, perform, step}
+use Rattle.mir_semantics.specs.Step.{Code, Here, Dest, Control, State, local_addr, resolve, type_of, guard_of, dest_of, set_blank, perform, step}
+use Rattle.mir_syntax.specs.Parts.{has_deref}
 use Rattle.mir_renaming.specs.Renaming.{Renaming}
-use Rattle.mir_renaming.proofs.Memory.{bind_some, some_bind}
+use Rattle.mir_syntax.proofs.Binds.{bind_some, some_bind}
 use Rattle.mir_renaming.proofs.Statements.{Linked}
 use Rattle.mir_renaming.proofs.Types.{TypeMap}
 use Rattle.mir_renaming.proofs.Typed.{FramesTy}

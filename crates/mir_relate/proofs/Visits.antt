@@ -8,7 +8,8 @@ use Rattle.mir_semantics.specs.Values.{Addr, Value, number, nil, cons, variant, 
 use Rattle.mir_semantics.specs.Memory.{Memory, local_at, value_at, write, further}
 use Rattle.mir_semantics.specs.Step.{field_visits, variant_visits, enum_visits, shape_visits, Visit, Dropping, Control, State, Next, on, go_on, to_block, visits_of, work_on, visit, visit_unless, visit_if, work_off, left_in, left_at, destroyed_at, destroyed}
 use Rattle.mir_renaming.specs.Renaming.{Renaming, AddrRel, ValueRel}
-use Rattle.mir_renaming.proofs.Memory.{bind_some, some_bind, value_at_rel, further_rel}
+use Rattle.mir_syntax.proofs.Binds.{bind_some, some_bind}
+use Rattle.mir_renaming.proofs.Memory.{value_at_rel, further_rel}
 use Rattle.mir_renaming.proofs.Statements.{Linked, blank_rel, write_linked}
 use Rattle.mir_renaming.proofs.Types.{TypeMap, AddrTy, some_eq}
 use Rattle.mir_renaming.proofs.Typed.{VisitsTy}

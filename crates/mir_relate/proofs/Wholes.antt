@@ -1,5 +1,5 @@
 -- What is read and evaluated has no holes.
-use Rattle.std.proofs.Common.{◌≡◌, ◌⊎◌, inl, inr, refl, sym, ap, subst, ℕ, Bool, true, false, if◌then◌else◌, List, [], ◌∷◌, Option, Some, slice_get, arith}
+use Rattle.std.proofs.Common.{◌≡◌, refl, sym, subst, ℕ, Bool, true, false, if◌then◌else◌, List, [], ◌∷◌, Some, slice_get}
 use Rattle.mir_syntax.specs.declared.body.Const.{Const}
 use Rattle.mir_syntax.specs.declared.body.Const.TheVariants as constant
 use Rattle.mir_syntax.specs.declared.body.Operand.{Operand}
@@ -11,7 +11,8 @@ use Rattle.mir_syntax.specs.Crate as rvalue
 use Rattle.mir_semantics.specs.Values.{Addr, Value, variant, listed, whole, blank}
 use Rattle.mir_semantics.specs.Memory.{Memory}
 use Rattle.mir_semantics.specs.Step.{Here, const_value, read_at, read, read_all, built, built_by, eval}
-use Rattle.mir_renaming.proofs.Memory.{bind_some, both_and}
+use Rattle.mir_syntax.proofs.Binds.{bind_some}
+use Rattle.std.proofs.lemmas.Bool.{and_from}
 use Rattle.mir_renaming.proofs.Statements.{only_true}
 use Rattle.mir_renaming.proofs.Types.{TypeMap, HasTy, BuiltTy, RvalueTy}
 use Rattle.mir_relate.proofs.Leaves.{some_val}
@@ -38,7 +39,7 @@ AllWhole (v ∷ vs) = (whole v ≡ true) × AllWhole vs
 
 listed_whole : (vs : List Value) → AllWhole vs → whole (listed vs) ≡ true
 listed_whole [] h = refl
-listed_whole (v ∷ vs) h = both_and (whole v) (whole (listed vs)) h.0 (listed_whole vs h.1)
+listed_whole (v ∷ vs) h = and_from (whole v) (whole (listed vs)) h.0 (listed_whole vs h.1)
 
 module _ (H : Here) where
   read_whole : (m : Memory) (o : Operand) (r : Value × Memory) → read H m o ≡ Some r → whole r.0 ≡ true

@@ -11,7 +11,8 @@ use Rattle.mir_syntax.specs.Crate.{TypedRvalue, «use», binary, overflow, unary
 use Rattle.mir_syntax.specs.Crate as rvalue
 use Rattle.mir_semantics.specs.Values.{Value}
 use Rattle.mir_semantics.specs.Memory.{Memory, open_frame, close_frame}
-use Rattle.mir_semantics.specs.Step.{Code, Here, Dest, Control, State, Next, on, stop, fail, type_of, new_slots, return_to, step, has_deref}
+use Rattle.mir_semantics.specs.Step.{Code, Here, Dest, Control, State, Next, on, stop, fail, type_of, new_slots, return_to, step}
+use Rattle.mir_syntax.specs.Parts.{has_deref}
 use Rattle.mir_renaming.specs.Renaming.{Renaming, SomeRel}
 use Rattle.mir_renaming.proofs.Statements.{Linked}
 use Rattle.mir_renaming.proofs.Types.{TypeMap, AddrTy}

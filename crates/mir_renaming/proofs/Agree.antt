@@ -9,7 +9,8 @@ use Rattle.mir_syntax.specs.Shapes.{Shape, fields_of, field_ty, variant_ty, path
 use Rattle.mir_semantics.specs.Values.{Addr, Value, number, nil, cons, variant, pointer, hole, is_hole, part, payload, at_path, change_part, change_payload, put, whole}
 use Rattle.mir_semantics.specs.Memory.{Memory, local_at, value_at, write}
 use Rattle.mir_renaming.specs.Renaming.{Renaming, ValueRel, MemRel, RootOf}
-use Rattle.mir_renaming.proofs.Memory.{bind_some, root_or_not, write_same, write_other, write_back, write_again}
+use Rattle.mir_syntax.proofs.Binds.{bind_some}
+use Rattle.mir_renaming.proofs.Memory.{root_or_not, write_same, write_other, write_back, write_again}
 use Rattle.mir_renaming.proofs.Types.{TypeMap, AddrTy, some_eq}
 use Rattle.mir_semantics.specs.Step.{on}
 

@@ -1,12 +1,14 @@
 -- Frames that open and close under a renaming that goes by the functions of frames; values that hold no reference.
 use Rattle.mir_semantics.specs.Step.{returned, Next, stop}
 use Rattle.std.proofs.Common.{◌≡◌, ◌⊎◌, inl, inr, refl, sym, ap, ap₂, ◌∙◌, subst, ℕ, Bool, true, false, nat_eq, ◌&&◌, if◌then◌else◌, List, [], ◌∷◌, Option, Some, None, slice_get, arith}
+use Rattle.std.proofs.lemmas.Bool.{and_parts}
 use Rattle.mir_semantics.specs.Values.{Addr, Value, number, nil, cons, variant, pointer, hole}
 use Rattle.mir_semantics.specs.Memory.{Memory, local_at, open_frame, close_frame}
 use Rattle.mir_renaming.specs.Renaming.{Renaming, AddrRel, ValueRel, SomeRel, Sub}
 use Rattle.mir_renaming.proofs.Memory.{same_or_not}
 use Rattle.mir_renaming.proofs.Statements.{ValuesRel, Linked}
-use Rattle.mir_renaming.proofs.Frames.{equal, unequal, if_true, if_false, open_same, open_other, close_same, close_other}
+use Rattle.mir_syntax.proofs.Bools.{if_true, if_false}
+use Rattle.mir_renaming.proofs.Frames.{equal, unequal, open_same, open_other, close_same, close_other}
 
 -- a larger renaming
 pub addr_mono : (j k : Renaming) → Sub j k → (a b : Addr) → AddrRel j a b → AddrRel k a b
@@ -138,14 +140,10 @@ is_plain (variant k v) = is_plain v
 is_plain (pointer a) = false
 is_plain hole = false
 
-and_two : (a b : Bool) → (a && b) ≡ true → (a ≡ true) × (b ≡ true)
-and_two true b e = (refl, e)
-and_two false b e = absurd (grind arith)
-
 pub plain_same : (j : Renaming) (v w : Value) → is_plain v ≡ true → ValueRel j v w → v ≡ w
 plain_same j (number n) (number m) e r = ap number r
 plain_same j nil nil e r = refl
-plain_same j (cons v vs) (cons w ws) e r = let (a, b) = and_two (is_plain v) (is_plain vs) e in ap₂ cons (plain_same j v w a r.0) (plain_same j vs ws b r.1)
+plain_same j (cons v vs) (cons w ws) e r = let (a, b) = and_parts (is_plain v) (is_plain vs) e in ap₂ cons (plain_same j v w a r.0) (plain_same j vs ws b r.1)
 plain_same j (variant k v) (variant i w) e r = ap₂ variant r.0 (plain_same j v w e r.1)
 plain_same j v w e r = absurd (grind arith)
 
@@ -162,7 +160,7 @@ plains_same j (v ∷ vs) [] e r = absurd r
 plain_self : (j : Renaming) (v : Value) → is_plain v ≡ true → ValueRel j v v
 plain_self j (number n) e = refl
 plain_self j nil e = tt
-plain_self j (cons v vs) e = let (a, b) = and_two (is_plain v) (is_plain vs) e in (plain_self j v a, plain_self j vs b)
+plain_self j (cons v vs) e = let (a, b) = and_parts (is_plain v) (is_plain vs) e in (plain_self j v a, plain_self j vs b)
 plain_self j (variant k v) e = (refl, plain_self j v e)
 plain_self j (pointer a) e = absurd (grind arith)
 plain_self j hole e = tt

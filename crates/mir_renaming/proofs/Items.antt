@@ -14,8 +14,9 @@ use Rattle.mir_syntax.specs.Shapes.{Shape, struct_fields, destructor_of, needs_d
 use Rattle.mir_num.specs.Numbers.{wrap, flag}
 use Rattle.mir_semantics.specs.Values.{Addr, Value, number, nil, cons, variant, pointer, hole, is_hole}
 use Rattle.mir_semantics.specs.Memory.{Memory, further}
-use Rattle.mir_semantics.specs.Step.{Code, Dest, Visit, Dropping, Control, State, returned, aborted, no_answer, Next, on, stop, fail, Here, local_addr, resolve, type_of, has_deref, go_on, to_block, next_stmt, take_arm, entered, enter, calling, answered, ask, call, return_to, field_visits, variant_visits, enum_visits, shape_visits, visits_of, work_on, visit, visit_unless, visit_if, work_off, begun, destroyed_at, destroyed, check, finish, perform, step}
-use Rattle.mir_renaming.proofs.Memory.{bind_some}
+use Rattle.mir_semantics.specs.Step.{Code, Dest, Visit, Dropping, Control, State, returned, aborted, no_answer, Next, on, stop, fail, Here, local_addr, resolve, type_of, go_on, to_block, next_stmt, take_arm, entered, enter, calling, answered, ask, call, return_to, field_visits, variant_visits, enum_visits, shape_visits, visits_of, work_on, visit, visit_unless, visit_if, work_off, begun, destroyed_at, destroyed, check, finish, perform, step}
+use Rattle.mir_syntax.specs.Parts.{has_deref}
+use Rattle.mir_syntax.proofs.Binds.{bind_some}
 use Rattle.mir_renaming.proofs.Walks.{walk_plain}
 
 pub step_parts : (C : Code) (s : State) (x : Next) → step C s ≡ Some x → (b : TypedBody) × (k : TypedBlock) × (slice_get C.bodies s.top.function ≡ Some b) × (slice_get b.blocks s.top.block ≡ Some k) × (perform C (record { shapes = C.shapes; locals = b.locals; frame = s.top.frame }) s k.term (slice_get k.stmts s.top.at) ≡ Some x)

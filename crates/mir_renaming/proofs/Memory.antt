@@ -1,22 +1,14 @@
 -- Values, places and memories under a renaming of locals.
-use Rattle.std.proofs.Common.{◌≡◌, ◌⊎◌, inl, inr, refl, sym, ap, ap₂, ◌∙◌, subst, ℕ, zero, suc, Bool, true, false, nat_eq, ◌&&◌, if◌then◌else◌, List, [], ◌∷◌, ◌++◌, Option, Some, None, slice_get, option_map, arith}
-use Rattle.std.proofs.lemmas.Bool.{eqb-true, eqb-false}
+use Rattle.std.proofs.Common.{◌≡◌, ◌⊎◌, inl, inr, refl, sym, ap, ap₂, ◌∙◌, subst, ℕ, zero, suc, Bool, true, false, nat_eq, if◌then◌else◌, List, [], ◌∷◌, ◌++◌, Option, Some, None, slice_get, option_map, arith}
+use Rattle.std.proofs.lemmas.Bool.{eqb-true, eqb-false, and_parts, and_from}
 use Rattle.mir_syntax.specs.declared.body.Proj.{Proj}
 use Rattle.mir_syntax.specs.declared.body.Proj.TheVariants.{Field, Downcast, Deref}
 use Rattle.mir_syntax.specs.Shapes.{◌>>=◌}
+use Rattle.mir_syntax.proofs.Binds.{bind_some, some_bind}
+use Rattle.mir_syntax.proofs.Bools.{if_true}
 use Rattle.mir_semantics.specs.Values.{Addr, Value, number, nil, cons, variant, pointer, hole, whole, part, payload, inner, at_path, change_part, change_payload, change_inner, put}
 use Rattle.mir_semantics.specs.Memory.{Memory, slots_of, local_at, value_at, change_slot, change_local, write, further, there, referent, project, walk}
 use Rattle.mir_renaming.specs.Renaming.{Renaming, AddrRel, ValueRel, SomeRel, Sub, MemRel, AddrThere, RootOf, NoClash}
-
--- inversion of a chain of options
-pub bind_some : {A B : Type 0} {o : Option A} {f : A → Option B} {y : B} → (o >>= f) ≡ Some y → (x : A) × (o ≡ Some x) × (f x ≡ Some y)
-unfolding ◌>>=◌
-bind_some {o = None} e = absurd (grind arith)
-bind_some {o = Some x} e = (x, refl, e)
-
-pub some_bind : {A B : Type 0} (f : A → Option B) {o : Option A} {x : A} {y : Option B} → o ≡ Some x → f x ≡ y → (o >>= f) ≡ y
-unfolding ◌>>=◌
-some_bind f {y = y} e h = subst (λ o. (o >>= f) ≡ y) (sym e) h
 
 part_rel : (j : Renaming) (i : ℕ) (v w u : Value) → ValueRel j v w → part i v ≡ Some u → SomeRel j u (part i w)
 part_rel j zero (cons v vs) (cons w ws) u h e = (w, refl, subst (λ x. ValueRel j x w) (grind arith) h.0)
@@ -29,12 +21,6 @@ same_or_not a b = go (nat_eq a b) refl
     go : (x : Bool) → nat_eq a b ≡ x → ((nat_eq a b ≡ true) × (a ≡ b)) ⊎ ((nat_eq a b ≡ false) × (a ≡ b → ⊥))
     go true e = inl (e, eqb-true a b e)
     go false e = inr (e, eqb-false a b e)
-
-if_true : {A : Type 0} {b : Bool} (x y : A) → b ≡ true → (if b then x else y) ≡ x
-if_true x y e = ap (λ b. if b then x else y) e
-
-if_false : {A : Type 0} {b : Bool} (x y : A) → b ≡ false → (if b then x else y) ≡ y
-if_false x y e = ap (λ b. if b then x else y) e
 
 payload_rel : (j : Renaming) (k : ℕ) (v w u : Value) → ValueRel j v w → payload k v ≡ Some u → SomeRel j u (payload k w)
 payload_rel j k (variant i v) (variant i' w) u h e = go (nat_eq i k) refl e
@@ -100,20 +86,12 @@ pub put_rel : (j : Renaming) (ps : List Proj) (v w : Value) → ValueRel j v w �
 put_rel j [] v w h v' w' h' = h
 put_rel j (p ∷ ps) v w h v' w' h' = change_inner_rel j p (put ps v) (put ps w) (put_rel j ps v w h) v' w' h'
 
-pub and_both : (a b : Bool) → (a && b) ≡ true → (a ≡ true) × (b ≡ true)
-and_both true b e = (refl, e)
-and_both false b e = absurd (grind arith)
-
-pub both_and : (a b : Bool) → a ≡ true → b ≡ true → (a && b) ≡ true
-both_and true b e f = f
-both_and false b e f = e
-
 pub whole_rel : (j : Renaming) (v w : Value) → ValueRel j v w → whole v ≡ true → whole w ≡ true
 whole_rel j (number n) (number m) h e = refl
 whole_rel j nil nil h e = refl
 whole_rel j (cons v vs) (cons w ws) h e =
-    let (a, b) = and_both (whole v) (whole vs) e in
-    both_and (whole w) (whole ws) (whole_rel j v w h.0 a) (whole_rel j vs ws h.1 b)
+    let (a, b) = and_parts (whole v) (whole vs) e in
+    and_from (whole w) (whole ws) (whole_rel j v w h.0 a) (whole_rel j vs ws h.1 b)
 whole_rel j (variant k v) (variant i w) h e = whole_rel j v w h.1 e
 whole_rel j (pointer a) (pointer b) h e = refl
 whole_rel j v w h e = absurd (grind arith)

@@ -5,7 +5,8 @@ use Rattle.mir_semantics.specs.Values.{Addr, Value, at_path, put}
 use Rattle.mir_semantics.specs.Memory.{Memory, local_at, value_at, write}
 use Rattle.mir_semantics.specs.Step.{Dest, only_if, allows, store}
 use Rattle.mir_renaming.specs.Renaming.{RootOf}
-use Rattle.mir_renaming.proofs.Memory.{bind_some, some_bind, root_or_not, write_same, write_other}
+use Rattle.mir_syntax.proofs.Binds.{bind_some, some_bind}
+use Rattle.mir_renaming.proofs.Memory.{root_or_not, write_same, write_other}
 use Rattle.mir_renaming.proofs.Statements.{only_true}
 
 pub pair_parts : (a b c d : ℕ) → ◌≡◌ {A = Option (ℕ × ℕ)} (Some (a, b)) (Some (c, d)) → (c ≡ a) × (d ≡ b)

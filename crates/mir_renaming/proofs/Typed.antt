@@ -17,7 +17,8 @@ use Rattle.mir_num.specs.Numbers.{wrap, flag}
 use Rattle.mir_semantics.specs.Values.{Addr, Value, number, nil, cons, variant, pointer, hole, is_hole, blank}
 use Rattle.mir_semantics.specs.Memory.{Memory, local_at, open_frame, close_frame, further}
 use Rattle.mir_semantics.specs.Step.{Code, Dest, Visit, Dropping, Control, Called, State, returned, aborted, no_answer, Next, on, stop, fail, Here, local_addr, resolve, type_of, store, read_at, read, read_all, read_number, operand_ty, to_block, next_stmt, blanks, new_slots, entered, enter, calling, answered, ask, call, return_to, field_visits, variant_visits, enum_visits, shape_visits, visits_of, work_on, visit, visit_unless, visit_if, work_off, begun, destroyed_at, destroyed, check, finish, perform, step}
-use Rattle.mir_renaming.proofs.Memory.{bind_some, some_bind, same_or_not}
+use Rattle.mir_syntax.proofs.Binds.{bind_some, some_bind}
+use Rattle.mir_renaming.proofs.Memory.{same_or_not}
 use Rattle.mir_renaming.proofs.Types.{TypeMap, further_ty, AddrTy, HasTy, MemTy, some_eq, write_ty, resolve_ty, read_ty, read_number_ty, read_at_ty, dest_ty, store_ty, StmtTy, exec_ty, addr_more, has_more, is_scalar}
 use Rattle.mir_renaming.proofs.Frames.{open_same, open_other, close_same, close_other}
 

@@ -18,7 +18,8 @@ use Rattle.mir_semantics.specs.Values.{Addr, Value, number, nil, cons, variant, 
 use Rattle.mir_semantics.specs.Memory.{Memory, local_at, value_at, write, further, there, referent, project, walk}
 use Rattle.mir_semantics.specs.Step.{Dest, Here, only_if, local_addr, resolve, type_of, dest_of, store, const_value, read_at, read, read_all, read_number, operand_ty, built_by, built, read_two, eval, set_blank, is_variant, write_unless, exec}
 use Rattle.mir_renaming.specs.Renaming.{Renaming, ValueRel, RootOf}
-use Rattle.mir_renaming.proofs.Memory.{bind_some, some_bind, root_or_not, write_same, write_other}
+use Rattle.mir_syntax.proofs.Binds.{bind_some, some_bind}
+use Rattle.mir_renaming.proofs.Memory.{root_or_not, write_same, write_other}
 
 -- the types of the locals of all frames, also of those that have ended
 abbrev pub TypeMap : Type 0

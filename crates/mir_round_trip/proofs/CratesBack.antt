@@ -1,6 +1,7 @@
 -- What the rule of a canonical text means: the crate itself, with no fault.
 use Rattle.std.proofs.Common.{◌≡◌, ℕ, Bool, true, false, List, [], ◌∷◌, ◌++◌, map, refl, sym, ap, ◌∙◌, append_assoc}
 use Rattle.std.proofs.lemmas.List.{append-nil}
+use Rattle.std.proofs.lemmas.Simd.{map-map}
 use Rattle.mir_syntax.specs.Crate.{TypedVariant, TypedDef, TypedOutside, TypedFunction, Crate}
 use Rattle.mir_syntax.specs.Shapes.{shapes_from}
 use Rattle.mir_text.specs.Grammar.{Items, AllOf}
@@ -19,7 +20,7 @@ use Rattle.mir_round_trip.specs.Readable.{IsDefinition, IsOutside, AreWritten}
 use Rattle.mir_round_trip.proofs.Spelling.{all-map, all-append}
 use Rattle.mir_round_trip.proofs.Paths.{path_names, Back, path_back}
 use Rattle.mir_round_trip.proofs.Meaning.{Kept}
-use Rattle.mir_round_trip.proofs.Lists.{concat-none, map-map, all-of-map}
+use Rattle.mir_round_trip.proofs.Lists.{concat-none, all-of-map}
 use Rattle.mir_round_trip.proofs.Rvalues.{two-same}
 use Rattle.mir_round_trip.proofs.Blocks.{all-left, line-none}
 use Rattle.mir_round_trip.proofs.Functions.{fn_rule, fn_names}

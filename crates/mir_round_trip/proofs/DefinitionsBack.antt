@@ -4,6 +4,7 @@ use Rattle.mir_syntax.specs.declared.types.Form.{Form}
 use Rattle.mir_syntax.specs.declared.types.Form.TheVariants as form
 use Rattle.mir_syntax.specs.Tree.{Tree, tuple_of}
 use Rattle.mir_syntax.specs.Crate.{TypedField, TypedVariant, TypedDef, TypedOutside, Crate}
+use Rattle.mir_rules.proofs.Lists.{append_empty}
 use Rattle.mir_text.specs.Symbols.{number_in}
 use Rattle.mir_text.specs.Grammar.{AllOf, items_of}
 use Rattle.mir_text.specs.GrammarTypes as t
@@ -19,7 +20,7 @@ use Rattle.mir_round_trip.specs.Readable.{IsPart, IsField, IsFields, IsOption, I
 use Rattle.mir_round_trip.proofs.Spelling.{all-map}
 use Rattle.mir_round_trip.proofs.Paths.{path_rule, path_names, Back, path_back}
 use Rattle.mir_round_trip.proofs.Types.{type_rule, types_rule, join_type, type_back, types_known, depths_kept}
-use Rattle.mir_round_trip.proofs.Meaning.{Kept, no-codes, met}
+use Rattle.mir_round_trip.proofs.Meaning.{Kept, met}
 use Rattle.mir_round_trip.proofs.PlacesBack.{type_faultless}
 use Rattle.mir_round_trip.proofs.Lists.{items_rule, items-map, items-all, each-item-none, names_onto}
 use Rattle.mir_round_trip.proofs.Rvalues.{two-same, ty_good}
@@ -190,7 +191,7 @@ fields-faultless c strings kept form.Unit fs h k = refl
 fields-faultless c strings kept form.Tuple fs h k =
     met _ 12 (types_known c strings kept.paths (tuple_of (map field_type_of fs)) (proper-parts c field_type_of fs (all-map (λ f is. is.type) fs h)))
 fields-faultless c strings kept form.Named fs h k =
-    no-codes _ _ (met _ 10 (ap (none_twice []) (names-read c strings fs k) ∙ h.1))
+    append_empty _ _ (met _ 10 (ap (none_twice []) (names-read c strings fs k) ∙ h.1))
     (each-item-none (λ f. type_codes (names_at c strings) f.1) (field_rule c strings) fs (field-types c strings kept fs h.0))
 
 pub variant-names : (c : Crate) (strings : Strings) (vs : List TypedVariant) → AllOf (Back strings) (names_onto variant_bytes vs []) → map (λ v. string_at strings (number_in strings v.name)) vs ≡ map (λ v. v.name) vs
@@ -208,7 +209,7 @@ variants-read-faultless c strings kept (v ∷ vs) h k =
 shape-faultless : (c : Crate) (strings : Strings) → Kept c strings → (path : List ℕ) (b : Bool) (vs : List TypedVariant) → IsShape c b vs → AllOf (Back strings) (shape_names b vs)
     → other_codes (names_at c strings) (shape_rule c strings path b vs) ≡ []
 shape-faultless c strings kept path true vs h k =
-    no-codes _ _ (met _ 10 (ap (none_twice []) (items-map (λ v. string_at strings v.0) (variant_rule c strings) vs ∙ variant-names c strings vs k) ∙ h.1))
+    append_empty _ _ (met _ 10 (ap (none_twice []) (items-map (λ v. string_at strings v.0) (variant_rule c strings) vs ∙ variant-names c strings vs k) ∙ h.1))
     (each-item-none (λ v. fields_codes (names_at c strings) v.1) (variant_rule c strings) vs (variants-read-faultless c strings kept vs h.0 k))
 shape-faultless c strings kept path false [] h k = absurd h
 shape-faultless c strings kept path false (v ∷ []) h k = fields-faultless c strings kept v.form v.fields h.1 k
@@ -224,7 +225,7 @@ args-known c strings kept ts h = types_known c strings kept.paths (tuple_of ts) 
 
 pub outside_faultless : (c : Crate) (strings : Strings) → Kept c strings → (o : TypedOutside) → IsOutside c o → other_codes (names_at c strings) (outside_item c strings o) ≡ []
 unfolding outside_item
-outside_faultless c strings kept o h = no-codes _ _ (met _ 12 (args-known c strings kept o.args h.args)) (type_faultless c strings kept o.result h.result.proper)
+outside_faultless c strings kept o h = append_empty _ _ (met _ 12 (args-known c strings kept o.args h.args)) (type_faultless c strings kept o.result h.result.proper)
 
 -- ---- good
 

@@ -3,6 +3,7 @@ use Rattle.mir_round_trip.specs.Names.{IsTy, crate_paths}
 use Rattle.mir_round_trip.specs.Bodies.{names_at}
 use Rattle.mir_round_trip.specs.Readable.{IsPart, IsField, IsFields, IsOption, IsDefinition, IsOutside}
 use Rattle.std.proofs.Common.{◌≡◌, ◌≤◌, ℕ, true, List, [], ◌∷◌, map, refl, sym, ap, ◌∙◌}
+use Rattle.std.proofs.lemmas.Simd.{map-map}
 use Rattle.mir_syntax.specs.Crate.{Crate}
 use Rattle.mir_text.specs.Grammar as G
 use Rattle.mir_text.specs.Grammar.{Items, items_of, AllItems, AllOf}
@@ -18,7 +19,6 @@ use Rattle.mir_text.specs.Nesting.{type_depth, types_depth, FieldGood, FieldsGoo
 use Rattle.mir_text.specs.TermText.{function_paths, outside_paths}
 use Rattle.mir_text.proofs.Codes.{unless_met}
 use Rattle.mir_rules.proofs.Lists.{append_empty-left, append_empty-right, and_true-left, and_true-right}
-use Rattle.mir_round_trip.proofs.Lists.{map-map}
 use Rattle.mir_round_trip.proofs.CratesBack.{map-same, as-names}
 use Rattle.mir_round_trip.proofs.Carried.{FieldNice, FieldsNice, VariantNice, ItemNice}
 use Rattle.mir_round_trip.proofs.TypesWritten.{PathsWritten, path_written, ty_written}

@@ -7,6 +7,7 @@ use Rattle.mir_syntax.specs.declared.body.Inline.{Inline}
 use Rattle.mir_syntax.specs.declared.body.Inline.TheVariants as inlining
 use Rattle.mir_syntax.specs.Tree.{Tree, scalar, empty, more, ref, ref_mut, named}
 use Rattle.mir_syntax.specs.Crate.{Crate, TypedBlock, TypedBody, TypedFunction}
+use Rattle.mir_rules.proofs.Lists.{append_empty}
 use Rattle.mir_text.specs.Grammar.{Put, Items, AllItems, AllOf, items_put, items_of}
 use Rattle.mir_text.specs.Grammar as g
 use Rattle.mir_text.specs.GrammarItems.{ArgRule, arg_put}
@@ -22,7 +23,7 @@ use Rattle.mir_round_trip.specs.Bodies.{names_at, IsFn}
 use Rattle.mir_round_trip.proofs.Spelling.{all-map, all-append}
 use Rattle.mir_round_trip.proofs.Paths.{path_names, Back, path_back}
 use Rattle.mir_round_trip.proofs.Types.{type_rule, type_back}
-use Rattle.mir_round_trip.proofs.Meaning.{Kept, no-codes, met}
+use Rattle.mir_round_trip.proofs.Meaning.{Kept, met}
 use Rattle.mir_round_trip.proofs.PlacesBack.{Declares, Setting, type_faultless}
 use Rattle.mir_round_trip.proofs.Lists.{join_item, items_rule, items-map, items-all}
 use Rattle.mir_round_trip.proofs.Rvalues.{two-same, ty_good}
@@ -241,9 +242,9 @@ function_faultless c strings kept f h lines =
     aligned-append c strings lined.args lined.lets (numbered 1 (args_of f.body)) ((0, t) ∷ numbered (suc f.body.args) (others_of f.body)) args
     (lets-aligned c strings ((0, t) ∷ numbered (suc f.body.args) (others_of f.body)) (after_result rule lines)) in
     let head : on_line lined.head (type_codes names rule.result ++ unless (none_missing (declared names rule)) 14 ++ unless (blocks_in_order (labels_of lined)) 15) ≡ [] =
-    line-none lined.head _ (no-codes _ _ (no-codes _ _ (type_faultless c strings kept t (first_type c f h).proper) (met _ 14 (ap none_missing (declared-is c strings kept f h) ∙ is.whole)))
+    line-none lined.head _ (append_empty _ _ (append_empty _ _ (type_faultless c strings kept t (first_type c f h).proper) (met _ 14 (ap none_missing (declared-is c strings kept f h) ∙ is.whole)))
     (met _ 15 (ap blocks_in_order labels ∙ blocks-in-order n h.some))) in
-    no-codes _ _ (no-codes _ _ (no-codes _ _ (no-codes _ _ (no-codes _ _ head
+    append_empty _ _ (append_empty _ _ (append_empty _ _ (append_empty _ _ (append_empty _ _ head
     (types-faultless c strings kept (lined.args ++ lined.lets) D (all-decls c f h) all))
     (places-right c strings 1 (args_of f.body) lined.args args))
     (once-each c strings [] (lined.args ++ lined.lets) D is.once all))

@@ -19,7 +19,7 @@ use Rattle.mir_text.specs.Nesting.{type_depth, ArgGood, decl_depth, decls_depth,
 use Rattle.mir_text.specs.ReadLines.{stmt_places, term_places, any_wrong, line_if, wrong_stmt, wrong_in_block}
 use Rattle.mir_text.proofs.Counting.{labels_few, locals_from-length, blocks_lined-length}
 use Rattle.mir_text.proofs.Codes.{unless_met, no_codes}
-use Rattle.mir_rules.specs.Parts as mir
+use Rattle.mir_syntax.specs.Parts as mir
 use Rattle.mir_rules.proofs.Lists.{append_empty-left, append_empty-right}
 use Rattle.mir_round_trip.proofs.Spelling.{all-append}
 use Rattle.mir_round_trip.proofs.Rvalues.{two-same}

@@ -116,10 +116,6 @@ concat-none f (x ∷ xs) h = ap (λ l. l ++ concat (map f xs)) h.0 ∙ concat-no
 pub each-item-none : {A R B : Type 0} (f : R → List B) (rule : A → R) (xs : List A) → AllOf (λ x. f (rule x) ≡ []) xs → each_item f (items_rule rule xs) ≡ []
 each-item-none f rule xs h = ap concat (items-map f rule xs) ∙ concat-none (λ x. f (rule x)) xs h
 
-pub map-map : {A B C : Type 0} (f : B → C) (g : A → B) (xs : List A) → map f (map g xs) ≡ map (λ x. f (g x)) xs
-map-map f g [] = refl
-map-map f g (x ∷ xs) = ap (λ l. f (g x) ∷ l) (map-map f g xs)
-
 pub all-of-map : {A R : Type 0} (P : R → Type 0) (rule : A → R) (xs : List A) → AllOf (λ x. P (rule x)) xs → AllOf P (map rule xs)
 all-of-map P rule [] h = tt
 all-of-map P rule (x ∷ xs) h = (h.0, all-of-map P rule xs h.1)

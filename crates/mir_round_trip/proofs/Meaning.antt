@@ -25,9 +25,6 @@ pub record Kept (c : Crate) (strings : Strings) : Type 0 where
 
 -- ---- no fault
 
-pub no-codes : {A : Type 0} (a b : List A) → a ≡ [] → b ≡ [] → a ++ b ≡ []
-no-codes a b h k = rw (h, k) refl
-
 pub met : (b : Bool) (code : ℕ) → b ≡ true → unless b code ≡ []
 met b code h = rw h refl
 

@@ -26,7 +26,8 @@ use Rattle.mir_text.specs.TypeText.{no_def, def_at}
 use Rattle.mir_text.specs.PlaceText.{no_variant, variant_at}
 use Rattle.mir_text.proofs.Fitting.{greatest_below, least_below, bits_below}
 use Rattle.mir_text.proofs.Codes.{unless_met, first_good}
-use Rattle.mir_rules.proofs.Lists.{append_empty-left, append_empty-right, and_true-right, bind_some}
+use Rattle.mir_syntax.proofs.Binds.{bind_some}
+use Rattle.mir_rules.proofs.Lists.{append_empty-left, append_empty-right, and_true-right}
 use Rattle.mir_round_trip.proofs.Rvalues.{two-same}
 use Rattle.mir_round_trip.proofs.Blocks.{all-left, all-right}
 use Rattle.mir_round_trip.proofs.TypesWritten.{def_there, path-of, ty_written}

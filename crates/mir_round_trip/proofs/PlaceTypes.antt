@@ -6,7 +6,7 @@ use Rattle.mir_syntax.specs.declared.body.Proj.TheVariants.{Field, Downcast, Der
 use Rattle.mir_syntax.specs.Tree.{Tree, empty}
 use Rattle.mir_syntax.specs.Crate.{Crate}
 use Rattle.mir_syntax.specs.Shapes.{Shape, ◌>>=◌, pointee, proj_ty, path_ty, place_ty, shapes_of}
-use Rattle.mir_syntax.proofs.Binds.{bind_bind, bind_back}
+use Rattle.mir_syntax.proofs.Binds.{bind_bind, bind_back, bind_some}
 use Rattle.mir_text.specs.GrammarPlaces as p
 use Rattle.mir_text.specs.GrammarPlaces.{PlaceRule}
 use Rattle.mir_text.specs.Names.{Strings, string_at}
@@ -14,7 +14,7 @@ use Rattle.mir_text.specs.NamedBodies.{Declared, declared_ty, variant_of_ty, pla
 use Rattle.mir_text.specs.NameFaults.{unless, type_codes, place_codes}
 use Rattle.mir_text.specs.PlaceText.{local_ty}
 use Rattle.mir_text.proofs.Codes.{unless_met}
-use Rattle.mir_rules.proofs.Lists.{append_empty-left, append_empty-right, bind_some}
+use Rattle.mir_rules.proofs.Lists.{append_empty-left, append_empty-right}
 use Rattle.mir_round_trip.proofs.Meaning.{proj-same}
 use Rattle.mir_round_trip.proofs.PlacesWritten.{at-place}
 

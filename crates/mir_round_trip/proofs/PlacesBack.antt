@@ -7,6 +7,7 @@ use Rattle.mir_syntax.specs.declared.body.Place.{Place}
 use Rattle.mir_syntax.specs.Tree.{Tree}
 use Rattle.mir_syntax.specs.Crate.{Crate}
 use Rattle.mir_syntax.specs.Shapes.{◌>>=◌, pointee, proj_ty}
+use Rattle.mir_rules.proofs.Lists.{append_empty}
 use Rattle.mir_text.specs.Symbols.{number_in}
 use Rattle.mir_text.specs.GrammarPlaces as p
 use Rattle.mir_text.specs.GrammarPlaces.{PlaceRule}
@@ -18,7 +19,7 @@ use Rattle.mir_text.specs.PlaceText.{local_ty, type_after, variant_name, variant
 use Rattle.mir_round_trip.specs.Names.{Proper}
 use Rattle.mir_round_trip.specs.Bodies.{plain_shapes, names_at, field_type, IsVariant, Path, path_depth, depth_at, IsPlace}
 use Rattle.mir_round_trip.proofs.Types.{type_rule, type_known, depth_kept}
-use Rattle.mir_round_trip.proofs.Meaning.{Kept, no-codes, met}
+use Rattle.mir_round_trip.proofs.Meaning.{Kept, met}
 use Rattle.mir_round_trip.proofs.Places.{walk, place_rule, variant-text}
 
 -- what a rule of a place means
@@ -48,7 +49,7 @@ at-field : (c : Crate) (strings : Strings) → Kept c strings → (L : Declared)
 unfolding ◌>>=◌
 at-field c strings kept L q t u n x ps small h proper a = record {
   ty = ap (λ o. o >>= λ v. proj_ty (plain_shapes c) v (Field n)) a.ty ∙ h;
-  codes = no-codes _ _ a.codes (type_faultless c strings kept u proper);
+  codes = append_empty _ _ a.codes (type_faultless c strings kept u proper);
   small = (small, a.small);
   local = a.local;
   projs = ap (λ l. l ++ Field n ∷ []) a.projs;
@@ -75,7 +76,7 @@ at-variant c strings kept L q t u w k n x ps small is down up proper a =
     record {
       ty = ap (λ o. o >>= λ s. downcast_ty (names_at c strings) s n (variant_of_ty (names_at c strings) (string_at strings v) s)) a.ty
           ∙ ap (downcast_ty (names_at c strings) t n) found ∙ ap (λ o. o >>= λ s. proj_ty (plain_shapes c) s (Field n)) down ∙ up;
-      codes = no-codes _ _ (no-codes _ _ a.codes (met _ 13 (ap is_some place))) (type_faultless c strings kept u proper);
+      codes = append_empty _ _ (append_empty _ _ a.codes (met _ 13 (ap is_some place))) (type_faultless c strings kept u proper);
       small = (small, a.small);
       local = a.local;
       projs = ap (λ o. projs_named (names_at c strings) L q ++ Downcast (or_zero o) ∷ Field n ∷ []) place ∙ ap (λ l. l ++ Downcast k ∷ Field n ∷ []) a.projs;

@@ -19,7 +19,7 @@ use Rattle.mir_text.specs.NamedBodies.{Declared, declared_ty, place_named, opera
 use Rattle.mir_text.specs.NameFaults.{each, each_item, place_codes, operand_codes, parts_codes, build_codes, rvalue_codes, stmt_codes, call_codes, target_codes, arm_codes, term_codes}
 use Rattle.mir_text.specs.PlaceText.{local_ty}
 use Rattle.mir_text.specs.ReadLines.{operand_places, parts_places, rvalue_places, stmt_places, term_places, is_wrong, any_wrong}
-use Rattle.mir_rules.specs.Parts as mir
+use Rattle.mir_syntax.specs.Parts as mir
 use Rattle.mir_rules.proofs.Lists.{append_empty-left, append_empty-right, or_false-left, or_false-right, is_there}
 use Rattle.mir_round_trip.proofs.Spelling.{all-append}
 use Rattle.mir_round_trip.proofs.Rvalues.{two-same}

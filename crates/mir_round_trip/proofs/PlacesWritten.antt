@@ -20,7 +20,8 @@ use Rattle.mir_text.specs.TypeText.{no_def, def_at}
 use Rattle.mir_text.specs.PlaceText.{or_unit, local_ty, type_after, no_variant, variant_at}
 use Rattle.mir_text.proofs.Numbered.{place_from-there}
 use Rattle.mir_text.proofs.Codes.{unless_met}
-use Rattle.mir_rules.proofs.Lists.{append_empty-left, append_empty-right, or_false-left, or_false-right, bind_some}
+use Rattle.mir_syntax.proofs.Binds.{bind_some}
+use Rattle.mir_rules.proofs.Lists.{append_empty-left, append_empty-right, or_false-left, or_false-right}
 use Rattle.mir_round_trip.proofs.Numbering.{stands-at}
 use Rattle.mir_round_trip.proofs.Meaning.{proj-same}
 use Rattle.mir_round_trip.proofs.Rvalues.{two-same}

@@ -4,6 +4,7 @@ use Rattle.mir_round_trip.specs.Bodies.{names_at, IsFn}
 use Rattle.mir_round_trip.specs.Readable.{unlined, option_paths, def_defined, outside_defined, fn_defined, crate_defined, AreApart, Readable, IsDefinition, IsOutside, AreWritten}
 use Rattle.std.proofs.Common.{◌≡◌, ℕ, Bool, true, false, not, ◌||◌, List, [], ◌∷◌, ◌++◌, map, codes, refl, sym, ap, subst, ◌∙◌}
 use Rattle.mir_syntax.specs.Crate.{TypedVariant, TypedDef, TypedOutside, TypedFunction, Crate}
+use Rattle.mir_rules.proofs.Lists.{append_empty}
 use Rattle.mir_text.specs.Symbols.{number_in, strings_of}
 use Rattle.mir_text.specs.Grammar.{AllOf}
 use Rattle.mir_text.specs.GrammarItems.{ItemRule, item_put, FileRule}
@@ -13,7 +14,7 @@ use Rattle.mir_text.specs.NameFaults.{Defined, defined_by, clashes, any_clashes,
 use Rattle.mir_text.specs.Reads.{Derivation, Reads, items_in}
 use Rattle.mir_text.specs.Text.{text}
 use Rattle.mir_round_trip.proofs.Paths.{path_rule, path_names, Back, path_back}
-use Rattle.mir_round_trip.proofs.Meaning.{Kept, no-codes, met}
+use Rattle.mir_round_trip.proofs.Meaning.{Kept, met}
 use Rattle.mir_round_trip.proofs.Lists.{items-map, names_onto}
 use Rattle.mir_round_trip.proofs.Rvalues.{two-same}
 use Rattle.mir_round_trip.proofs.Blocks.{all-left, all-right, line-none}
@@ -114,7 +115,7 @@ file-defines c strings h parts =
 faultless : (c : Crate) (strings : Strings) → Readable c → Kept c strings → Parts c strings → (lines : LinesFrom) → name_faults (names_at c strings) (file_lined (file_rule c strings) lines) ≡ []
 faultless c strings h kept parts lines =
     let defined = all-defined (names_at c strings) (file_rule c strings) (crate_defined c) (file-defines c strings h.written parts) lines in
-    no-codes _ _ (paths-apart [] _ (subst (AreApart []) (sym defined) h.apart)) (items-faultless (names_at c strings) (file_rule c strings) (file-faultless c strings h.written kept parts) lines)
+    append_empty _ _ (paths-apart [] _ (subst (AreApart []) (sym defined) h.apart)) (items-faultless (names_at c strings) (file_rule c strings) (file-faultless c strings h.written kept parts) lines)
 
 pub read_back : (c : Crate) → Readable c → Reads (text c) c
 read_back c h =

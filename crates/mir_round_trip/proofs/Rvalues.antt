@@ -13,6 +13,7 @@ use Rattle.mir_syntax.specs.declared.body.Operand.TheVariants as operand
 use Rattle.mir_syntax.specs.Tree.{Tree}
 use Rattle.mir_syntax.specs.Crate as C
 use Rattle.mir_syntax.specs.Crate.{Crate, TypedRvalue}
+use Rattle.mir_rules.proofs.Lists.{append_empty}
 use Rattle.mir_text.specs.declared.symbol.Symbol.{Symbol}
 use Rattle.mir_text.specs.declared.symbol.Symbol.TheVariants as s
 use Rattle.mir_text.specs.Words.{word_place}
@@ -32,7 +33,6 @@ use Rattle.mir_round_trip.proofs.Spelling.{Spelt, after, and_then, alone, bare, 
 use Rattle.mir_round_trip.proofs.Atoms.{word_spelt}
 use Rattle.mir_round_trip.proofs.Literals.{open_sign, close_sign, comma_space, comma_close, as_word, cast_end, ampersand_sign, ampersand_mut, discriminant_open}
 use Rattle.mir_round_trip.proofs.Types.{type_rule, type_spelt, type_back, depth_kept}
-use Rattle.mir_round_trip.proofs.Meaning.{no-codes}
 use Rattle.mir_round_trip.proofs.Places.{place_rule, place_spelt}
 use Rattle.mir_round_trip.proofs.PlacesBack.{Setting, type_faultless, place_back, place_faultless, place_good}
 use Rattle.mir_round_trip.proofs.Operands.{operand_rule, operand_spelt, operand_back, operand_faultless, operand_good}
@@ -164,23 +164,23 @@ tuple-faultless : (c : Crate) (strings : Strings) (L : Declared) (locals : List 
     → rvalue_codes (names_at c strings) L (tuple_rule c strings locals xs) ≡ []
 tuple-faultless c strings L locals set [] h = refl
 tuple-faultless c strings L locals set (x ∷ xs) h =
-    no-codes _ _ (operand_faultless c strings L locals set x h.0)
+    append_empty _ _ (operand_faultless c strings L locals set x h.0)
     (each-item-none (operand_codes (names_at c strings) L) (operand_rule c strings locals) xs (operands-faultless c strings L locals set xs h.1))
 
 pub rvalue_faultless : (c : Crate) (strings : Strings) (L : Declared) (locals : List Tree) → Setting c strings L locals → (x : TypedRvalue) → IsRvalue c locals x
     → rvalue_codes (names_at c strings) L (rvalue_rule c strings locals x) ≡ []
 unfolding rvalue_rule IsRvalue
 rvalue_faultless c strings L locals set (C.«use» x) h = operand_faultless c strings L locals set x h
-rvalue_faultless c strings L locals set (C.binary op x y) h = no-codes _ _ (operand_faultless c strings L locals set x h.0) (operand_faultless c strings L locals set y h.1)
-rvalue_faultless c strings L locals set (C.overflow op x y) h = no-codes _ _ (operand_faultless c strings L locals set x h.0) (operand_faultless c strings L locals set y h.1)
+rvalue_faultless c strings L locals set (C.binary op x y) h = append_empty _ _ (operand_faultless c strings L locals set x h.0) (operand_faultless c strings L locals set y h.1)
+rvalue_faultless c strings L locals set (C.overflow op x y) h = append_empty _ _ (operand_faultless c strings L locals set x h.0) (operand_faultless c strings L locals set y h.1)
 rvalue_faultless c strings L locals set (C.unary op x) h = operand_faultless c strings L locals set x h
-rvalue_faultless c strings L locals set (C.cast x t) h = no-codes _ _ (operand_faultless c strings L locals set x h.0) (type_faultless c strings set.kept t h.1.proper)
+rvalue_faultless c strings L locals set (C.cast x t) h = append_empty _ _ (operand_faultless c strings L locals set x h.0) (type_faultless c strings set.kept t h.1.proper)
 rvalue_faultless c strings L locals set (C.ref q) h = place_faultless c strings L locals set q h
 rvalue_faultless c strings L locals set (C.ref_mut q) h = place_faultless c strings L locals set q h
 rvalue_faultless c strings L locals set (C.discriminant q) h = place_faultless c strings L locals set q h
 rvalue_faultless c strings L locals set (C.tuple xs) h = tuple-faultless c strings L locals set xs h
 rvalue_faultless c strings L locals set (C.build d k xs) h =
-    no-codes _ _ (build-faultless c strings set.kept locals d k xs h) (parts-faultless c strings L locals set (variant_at c d k).form (variant_at c d k).fields xs h.operands)
+    append_empty _ _ (build-faultless c strings set.kept locals d k xs h) (parts-faultless c strings L locals set (variant_at c d k).form (variant_at c d k).fields xs h.operands)
 
 -- ---- good
 

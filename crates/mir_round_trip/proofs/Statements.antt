@@ -4,6 +4,7 @@ use Rattle.std.proofs.Common.{◌≡◌, ◌≤◌, ℕ, List, [], ◌∷◌, �
 use Rattle.mir_syntax.specs.Tree.{Tree}
 use Rattle.mir_syntax.specs.Crate as C
 use Rattle.mir_syntax.specs.Crate.{Crate, TypedStmt}
+use Rattle.mir_rules.proofs.Lists.{append_empty}
 use Rattle.mir_text.specs.declared.symbol.Symbol.TheVariants as s
 use Rattle.mir_text.specs.Grammar.{AllOf, each_put}
 use Rattle.mir_text.specs.GrammarStatements as r
@@ -18,7 +19,7 @@ use Rattle.mir_text.specs.StatementText.{stmt_text, stmt_line, stmts_text}
 use Rattle.mir_round_trip.proofs.Spelling.{Spelt, after, and_then, alone, none}
 use Rattle.mir_round_trip.proofs.Atoms.{number_spelt, local_spelt}
 use Rattle.mir_round_trip.proofs.Literals.{close_sign, discriminant_open, equals_sign, live_open, dead_open, close_equals, eight_spaces, end_of_line}
-use Rattle.mir_round_trip.proofs.Meaning.{no-codes, met}
+use Rattle.mir_round_trip.proofs.Meaning.{met}
 use Rattle.mir_round_trip.proofs.Places.{place_rule, place_spelt}
 use Rattle.mir_round_trip.proofs.PlacesBack.{Setting, place_back, place_faultless, place_good}
 use Rattle.mir_round_trip.proofs.Lists.{Front}
@@ -82,7 +83,7 @@ local-faultless c strings L locals set x h = met _ 14 (ap is_some (set.declares 
 pub stmt_faultless : (c : Crate) (strings : Strings) (L : Declared) (locals : List Tree) → Setting c strings L locals → (x : TypedStmt) → IsStmt c locals x
     → stmt_codes (names_at c strings) L (stmt_rule c strings locals x) ≡ []
 unfolding stmt_rule IsStmt
-stmt_faultless c strings L locals set (C.assign q x) h = no-codes _ _ (place_faultless c strings L locals set q h.0) (rvalue_faultless c strings L locals set x h.1)
+stmt_faultless c strings L locals set (C.assign q x) h = append_empty _ _ (place_faultless c strings L locals set q h.0) (rvalue_faultless c strings L locals set x h.1)
 stmt_faultless c strings L locals set (C.storage_live x) h = local-faultless c strings L locals set x h
 stmt_faultless c strings L locals set (C.storage_dead x) h = local-faultless c strings L locals set x h
 stmt_faultless c strings L locals set (C.set_discriminant q k) h = place_faultless c strings L locals set q h.0

@@ -1,5 +1,6 @@
 -- What the rule of a terminator means: the terminator itself, with no fault.
 use Rattle.std.proofs.Common.{◌≡◌, ◌<◌, ℕ, zero, suc, true, List, [], ◌∷◌, map, length, get_or, refl, ap, ◌∙◌, arith, Some, is_some}
+use Rattle.std.proofs.lemmas.Simd.{map-map}
 use Rattle.mir_syntax.specs.declared.body.Operand.{Operand}
 use Rattle.mir_syntax.specs.declared.body.Callee.{Callee}
 use Rattle.mir_syntax.specs.declared.body.Callee.TheVariants as callee
@@ -8,6 +9,7 @@ use Rattle.mir_syntax.specs.declared.body.Term.{Term}
 use Rattle.mir_syntax.specs.declared.body.Term.TheVariants as term
 use Rattle.mir_syntax.specs.Tree.{Tree}
 use Rattle.mir_syntax.specs.Crate.{Crate}
+use Rattle.mir_rules.proofs.Lists.{append_empty}
 use Rattle.mir_text.specs.Words.{place_in}
 use Rattle.mir_text.specs.Grammar.{AllOf}
 use Rattle.mir_text.specs.Names.{Strings}
@@ -18,10 +20,10 @@ use Rattle.mir_text.specs.TermText.{function_paths, outside_paths, callee_path}
 use Rattle.mir_round_trip.specs.Bodies.{names_at, IsOperand, IsTarget, IsArm, IsFunction, IsCallee, IsTerm}
 use Rattle.mir_round_trip.proofs.Spelling.{all-map}
 use Rattle.mir_round_trip.proofs.Paths.{path_rule, path_names, Back, path_back}
-use Rattle.mir_round_trip.proofs.Meaning.{Kept, no-codes, met}
+use Rattle.mir_round_trip.proofs.Meaning.{Kept, met}
 use Rattle.mir_round_trip.proofs.PlacesBack.{Setting, place_back, place_faultless, place_good}
 use Rattle.mir_round_trip.proofs.Operands.{operand_rule, operand_back, operand_faultless, operand_good}
-use Rattle.mir_round_trip.proofs.Lists.{items-all, each-item-none, concat-none, map-map, all-back, all-of-map}
+use Rattle.mir_round_trip.proofs.Lists.{items-all, each-item-none, concat-none, all-back, all-of-map}
 use Rattle.mir_round_trip.proofs.BuildsBack.{operands-back, operands-faultless, operands-good}
 use Rattle.mir_round_trip.proofs.Rvalues.{two-same}
 use Rattle.mir_round_trip.proofs.Terms.{arm_rule, term_rule, term_names}
@@ -93,18 +95,18 @@ pub term_faultless : (c : Crate) (strings : Strings) (L : Declared) (locals : Li
 unfolding term_rule IsTerm
 term_faultless c strings L locals set labels n has (term.Goto b) h = target-faultless labels n b has h
 term_faultless c strings L locals set labels n has (term.Switch x arms b) h =
-    no-codes _ _ (no-codes _ _ (operand_faultless c strings L locals set x h.0)
+    append_empty _ _ (append_empty _ _ (operand_faultless c strings L locals set x h.0)
     (ap concat (map-map (arm_codes labels) arm_rule arms) ∙ concat-none (λ a. arm_codes labels (arm_rule a)) arms (arms-faultless labels n arms has h.1)))
     (target-faultless labels n b has h.2)
 term_faultless c strings L locals set labels n has term.Return h = refl
 term_faultless c strings L locals set labels n has term.Unreachable h = refl
-term_faultless c strings L locals set labels n has (term.Drop q b) h = no-codes _ _ (place_faultless c strings L locals set q h.0) (target-faultless labels n b has h.1)
+term_faultless c strings L locals set labels n has (term.Drop q b) h = append_empty _ _ (place_faultless c strings L locals set q h.0) (target-faultless labels n b has h.1)
 term_faultless c strings L locals set labels n has (term.Call q f xs b) h =
-    no-codes _ _ (no-codes _ _ (no-codes _ _ (place_faultless c strings L locals set q h.0) (met _ 11 (ap is_some (called c strings set.kept f h.1))))
+    append_empty _ _ (append_empty _ _ (append_empty _ _ (place_faultless c strings L locals set q h.0) (met _ 11 (ap is_some (called c strings set.kept f h.1))))
     (each-item-none (operand_codes (names_at c strings) L) (operand_rule c strings locals) xs (operands-faultless c strings L locals set xs h.2)))
     (target-faultless labels n b has h.3)
 term_faultless c strings L locals set labels n has (term.Assert x expected message xs b) h =
-    no-codes _ _ (no-codes _ _ (operand_faultless c strings L locals set x h.0)
+    append_empty _ _ (append_empty _ _ (operand_faultless c strings L locals set x h.0)
     (ap concat (map-map (operand_codes (names_at c strings) L) (operand_rule c strings locals) xs)
     ∙ concat-none (λ y. operand_codes (names_at c strings) L (operand_rule c strings locals y)) xs (operands-faultless c strings L locals set xs h.2)))
     (target-faultless labels n b has h.3)

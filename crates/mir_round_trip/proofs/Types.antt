@@ -1,6 +1,7 @@
 -- Types: the rule that writes one, its text, and back.
 use Rattle.mir_round_trip.specs.Names.{crate_paths, IsDef, Proper, AreProper, tree_depth, parts_depth, Clear}
 use Rattle.std.proofs.Common.{◌≡◌, ◌<◌, ℕ, suc, max, Bool, true, false, ◌&&◌, List, [], ◌∷◌, ◌++◌, length, codes, refl, sym, ap, ◌∙◌, arith, Some, is_some}
+use Rattle.std.proofs.lemmas.Bool.{and_from}
 use Rattle.mir_syntax.specs.declared.types.IntTy.{IntTy}
 use Rattle.mir_syntax.specs.declared.types.IntTy.TheVariants as i
 use Rattle.mir_syntax.specs.declared.types.ScalarTy.{ScalarTy}
@@ -163,13 +164,10 @@ mutual
 
 -- ---- each path in it is known
 
-both-true : (a b : Bool) → a ≡ true → b ≡ true → (a && b) ≡ true
-both-true a b h k = rw (h, k) refl
-
 join-known : (strings : Strings) (paths : List (List ℕ)) (u : TypeRule) (us : TypesRule) → is_known strings paths u ≡ true → are_known strings paths us ≡ true → are_known strings paths (join_type u us) ≡ true
 join-known strings paths u t.end h k = h
-join-known strings paths u (t.last v) h k = both-true _ _ h k
-join-known strings paths u (t.more v us) h k = both-true _ _ h k
+join-known strings paths u (t.last v) h k = and_from _ _ h k
+join-known strings paths u (t.more v us) h k = and_from _ _ h k
 
 mutual
   unfolding type_rule Proper types_rule AreProper
@@ -178,7 +176,7 @@ mutual
   type_known c strings back (scalar scalar_ty.Bool) h = refl
   type_known c strings back (scalar (scalar_ty.Int n)) h = refl
   type_known c strings back empty h = refl
-  type_known c strings back (more u us) h = both-true _ _ (type_known c strings back u h.0) (types_known c strings back us h.1)
+  type_known c strings back (more u us) h = and_from _ _ (type_known c strings back u h.0) (types_known c strings back us h.1)
   type_known c strings back (ref u) h = type_known c strings back u h
   type_known c strings back (ref_mut u) h = type_known c strings back u h
   type_known c strings back (named d) h = ap is_some (def-place c strings d back h)

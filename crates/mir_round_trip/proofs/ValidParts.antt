@@ -8,7 +8,7 @@ use Rattle.mir_syntax.specs.Crate as C
 use Rattle.mir_syntax.specs.Crate.{TypedStmt, TypedBlock, TypedBody, TypedFunction, Crate}
 use Rattle.mir_syntax.specs.Shapes.{shapes_of, place_ty}
 use Rattle.mir_text.specs.Grammar.{AllOf}
-use Rattle.mir_rules.specs.Parts.{rvalue_places, term_places}
+use Rattle.mir_syntax.specs.Parts.{rvalue_places, term_places}
 use Rattle.mir_rules.specs.BodyRules.{breaks_v05, breaks_v06}
 use Rattle.mir_rules.specs.Broken.{if_broken, statement_broken, terminator_broken}
 use Rattle.mir_rules.specs.Valid.{Valid}

@@ -10,7 +10,7 @@ use Rattle.mir_syntax.specs.Tree.{Tree, empty, ref_mut, named, tuple_of}
 use Rattle.mir_syntax.specs.Crate.{TypedStmt, TypedBlock, TypedBody, TypedDef, TypedFunction, Crate}
 use Rattle.mir_syntax.specs.Shapes.{◌>>=◌, Shape, drops_locals, is_destructor_of, destructor_from, shape_of, shapes_from, shapes_of}
 use Rattle.mir_rules.specs.Typing.{args_of, result_of, callee_args_ty, callee_result_ty}
-use Rattle.mir_rules.specs.Parts.{term_operands, term_places, targets}
+use Rattle.mir_syntax.specs.Parts.{term_operands, term_places, targets}
 use Rattle.mir_rules.specs.Formed.{place_formed, operand_formed, callee_formed, call_formed, block_there, stmt_formed, term_formed, block_formed, has_start, type_formed, body_formed, function_formed, def_formed, outside_formed, is_formed}
 use Rattle.mir_rules.specs.Broken.{terminator_broken}
 use Rattle.mir_rules.specs.Valid.{Valid}

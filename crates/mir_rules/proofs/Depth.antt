@@ -5,25 +5,14 @@ use Rattle.std.proofs.Common.{eqb-true, eq-eqb}
 use Rattle.std.specs.List.{AllByRecursion, IsDistinct, list_any}
 use Rattle.std.proofs.lemmas.Map.Steps.{length-le_from_distinct_below}
 use Rattle.std.proofs.lemmas.Option.{slice_get_within}
+use Rattle.std.proofs.lemmas.Bool.{or_cases, or_right, or_left}
 use Rattle.mir_syntax.specs.Tree.{Tree, more, named}
 use Rattle.mir_syntax.specs.Shapes.{Shape, needs_by, any_needs}
 use Rattle.mir_rules.specs.DefinitionRules.{holds_one, holds}
 
-pub or_cases : (a b : Bool) → (a || b) ≡ true → (a ≡ true) ⊎ (b ≡ true)
-or_cases true b e = inl refl
-or_cases false b e = inr e
-
-pub or_second : (a b : Bool) → b ≡ true → (a || b) ≡ true
-or_second true b e = refl
-or_second false b e = e
-
-pub or_first : (a b : Bool) → a ≡ true → (a || b) ≡ true
-or_first true b e = refl
-or_first false b e = absurd (grind arith)
-
 or_map : (a b c d : Bool) → (a ≡ true → c ≡ true) → (b ≡ true → d ≡ true) → (a || b) ≡ true → (c || d) ≡ true
-or_map true b c d f g e = or_first c d (f refl)
-or_map false b c d f g e = or_second c d (g e)
+or_map true b c d f g e = or_left c d (f refl)
+or_map false b c d f g e = or_right c d (g e)
 
 -- ---- what a definition names by value
 
@@ -47,8 +36,8 @@ module _ (p : ℕ → Bool) where
   by_one (more t ts) h = go (or_cases (needs_by p t) (needs_by p ts) h) (λ e. by_one t e) (λ e. by_one ts e)
     where
       go : (needs_by p t ≡ true) ⊎ (needs_by p ts ≡ true) → (needs_by p t ≡ true → (k : ℕ) × (p k ≡ true) × (needs_by (λ j. j == k) t ≡ true)) → (needs_by p ts ≡ true → (k : ℕ) × (p k ≡ true) × (needs_by (λ j. j == k) ts ≡ true)) → (k : ℕ) × (p k ≡ true) × ((needs_by (λ j. j == k) t || needs_by (λ j. j == k) ts) ≡ true)
-      go (inl e) f g = let (k, pk, n) = f e in (k, pk, or_first (needs_by (λ j. j == k) t) (needs_by (λ j. j == k) ts) n)
-      go (inr e) f g = let (k, pk, n) = g e in (k, pk, or_second (needs_by (λ j. j == k) t) (needs_by (λ j. j == k) ts) n)
+      go (inl e) f g = let (k, pk, n) = f e in (k, pk, or_left (needs_by (λ j. j == k) t) (needs_by (λ j. j == k) ts) n)
+      go (inr e) f g = let (k, pk, n) = g e in (k, pk, or_right (needs_by (λ j. j == k) t) (needs_by (λ j. j == k) ts) n)
   by_one (named d) h = (d, h, eq-eqb d d refl)
   by_one t h = absurd (grind arith)
 
@@ -57,8 +46,8 @@ module _ (p : ℕ → Bool) where
   any_one (t ∷ ts) h = go (or_cases (needs_by p t) (any_needs p ts) h) (λ e. any_one ts e)
     where
       go : (needs_by p t ≡ true) ⊎ (any_needs p ts ≡ true) → (any_needs p ts ≡ true → (k : ℕ) × (p k ≡ true) × (any_needs (λ j. j == k) ts ≡ true)) → (k : ℕ) × (p k ≡ true) × ((needs_by (λ j. j == k) t || any_needs (λ j. j == k) ts) ≡ true)
-      go (inl e) g = let (k, pk, n) = by_one t e in (k, pk, or_first (needs_by (λ j. j == k) t) (any_needs (λ j. j == k) ts) n)
-      go (inr e) g = let (k, pk, n) = g e in (k, pk, or_second (needs_by (λ j. j == k) t) (any_needs (λ j. j == k) ts) n)
+      go (inl e) g = let (k, pk, n) = by_one t e in (k, pk, or_left (needs_by (λ j. j == k) t) (any_needs (λ j. j == k) ts) n)
+      go (inr e) g = let (k, pk, n) = g e in (k, pk, or_right (needs_by (λ j. j == k) t) (any_needs (λ j. j == k) ts) n)
 
   one_one : (o : Option Shape) → holds_one p o ≡ true → (k : ℕ) × (p k ≡ true) × (holds_one (λ j. j == k) o ≡ true)
   one_one None h = absurd (grind arith)
@@ -76,7 +65,7 @@ module _ (D : List Shape) where
   -- ---- reached in so many steps
 
   names_reach : (n d e : ℕ) → Names d e → holds D (suc n) e d ≡ true
-  names_reach n d e h = one_mono (λ j. j == e) (λ j. j == e || holds D n e j) (λ k x. or_first (k == e) (holds D n e k) x) (slice_get D d) h
+  names_reach n d e h = one_mono (λ j. j == e) (λ j. j == e || holds D n e j) (λ k x. or_left (k == e) (holds D n e k) x) (slice_get D d) h
 
   reach_more : (n d e : ℕ) → holds D n e d ≡ true → holds D (suc n) e d ≡ true
   reach_more zero d e h = absurd (grind arith)
@@ -93,7 +82,7 @@ module _ (D : List Shape) where
   reach_after zero d e f h k = absurd (grind arith)
   reach_after (suc n) d e f h k =
       one_mono (λ j. j == e || holds D n e j) (λ j. j == f || holds D (suc n) f j)
-      (λ j x. or_second (j == f) (holds D (suc n) f j) (next j (or_cases (j == e) (holds D n e j) x) (λ y. reach_after n j e f y k)))
+      (λ j x. or_right (j == f) (holds D (suc n) f j) (next j (or_cases (j == e) (holds D n e j) x) (λ y. reach_after n j e f y k)))
       (slice_get D d) h
     where
       next : (j : ℕ) → ((j == e) ≡ true) ⊎ (holds D n e j ≡ true) → (holds D n e j ≡ true → holds D (suc n) f j ≡ true) → holds D (suc n) f j ≡ true

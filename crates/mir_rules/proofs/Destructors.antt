@@ -3,14 +3,13 @@ use Rattle.std.proofs.Common.{◌≡◌, refl, sym, ap, subst, ℕ, zero, suc, �
 use Rattle.std.proofs.Common.{eqb-true}
 use Rattle.std.proofs.lemmas.Bool.{not-false}
 use Rattle.std.specs.List.{list_all}
-use Rattle.mir_syntax.specs.declared.body.Proj.{Proj}
 use Rattle.mir_syntax.specs.Tree.{Tree, empty, ref_mut, named}
 use Rattle.mir_syntax.specs.Crate.{TypedDef, TypedOutside, TypedFunction, Crate}
 use Rattle.mir_syntax.specs.Shapes.{Shape, drops_locals, is_destructor_of, destructor_from, shape_of, shapes_from, shapes_of, destructor_of}
-use Rattle.mir_rules.specs.BodyRules.{path_through}
 use Rattle.mir_rules.specs.DefinitionRules.{is_scalar, is_scalar_or_unit}
 use Rattle.mir_rules.specs.Valid.{Valid}
-use Rattle.mir_rules.proofs.Lists.{and_true-left, and_true-right, bind_some}
+use Rattle.mir_syntax.proofs.Binds.{bind_some}
+use Rattle.mir_rules.proofs.Lists.{and_true-left, and_true-right}
 use Rattle.mir_rules.proofs.ValidCrates.{keeps}
 
 -- ---- shapes
@@ -79,8 +78,3 @@ pub outside_scalar : (C : Crate) → Valid C → (o : ℕ) (out : TypedOutside) 
 outside_scalar C valid o out e =
     let both = not-false (list_all is_scalar out.args && is_scalar_or_unit out.result) ((keeps C valid).outsides o out e) in
     (and_true-left (list_all is_scalar out.args) (is_scalar_or_unit out.result) both, and_true-right (list_all is_scalar out.args) (is_scalar_or_unit out.result) both)
-
--- where a path has no type it goes through no destructor
-pub through_none : (D : List Shape) (ps : List Proj) → path_through D None ps ≡ false
-through_none D [] = refl
-through_none D (p ∷ ps) = refl

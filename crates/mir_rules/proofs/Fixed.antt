@@ -1,13 +1,14 @@
 -- What is defined of definitions to a depth of their number satisfies its own equation, in a crate in which none holds itself by value.
 use Rattle.std.proofs.Common.{◌≡◌, refl, sym, ap, ap₂, ◌∙◌, subst, ℕ, zero, suc, Bool, true, false, ◌||◌, ◌==◌, List, [], ◌∷◌, length, Option, Some, None, is_some, slice_get, arith}
 use Rattle.std.proofs.Common.{eqb-true, eq-eqb}
+use Rattle.std.proofs.lemmas.Bool.{or_right, or_left}
 use Rattle.mir_syntax.specs.Tree.{Tree, more, named}
 use Rattle.mir_syntax.specs.Crate.{TypedDef, Crate}
 use Rattle.mir_syntax.specs.Shapes.{Shape, shapes_from, shapes_of, needs_by, any_needs, needs_of, needs_def, needs_drop}
 use Rattle.mir_syntax.proofs.Places.{shapes_from-past}
 use Rattle.mir_rules.specs.DefinitionRules.{holds}
 use Rattle.mir_rules.specs.Valid.{Valid}
-use Rattle.mir_rules.proofs.Depth.{any_mono, or_first, or_second, is_deep, not_deep}
+use Rattle.mir_rules.proofs.Depth.{any_mono, is_deep, not_deep}
 use Rattle.mir_rules.proofs.ValidCrates.{keeps}
 
 -- a shape names a definition by value
@@ -61,16 +62,16 @@ apart_in C valid d = go (slice_get C.defs d) refl
 module _ (g h : ℕ → Bool) where
   needs_by_named : (t : Tree) → ((k : ℕ) → needs_by (λ j. j == k) t ≡ true → g k ≡ h k) → needs_by g t ≡ needs_by h t
   needs_by_named (more t ts) same =
-      ap₂ (λ a b. a || b) (needs_by_named t (λ k e. same k (or_first (needs_by (λ j. j == k) t) (needs_by (λ j. j == k) ts) e)))
-      (needs_by_named ts (λ k e. same k (or_second (needs_by (λ j. j == k) t) (needs_by (λ j. j == k) ts) e)))
+      ap₂ (λ a b. a || b) (needs_by_named t (λ k e. same k (or_left (needs_by (λ j. j == k) t) (needs_by (λ j. j == k) ts) e)))
+      (needs_by_named ts (λ k e. same k (or_right (needs_by (λ j. j == k) t) (needs_by (λ j. j == k) ts) e)))
   needs_by_named (named d) same = same d (eq-eqb d d refl)
   needs_by_named t same = refl
 
   any_needs_named : (ts : List Tree) → ((k : ℕ) → any_needs (λ j. j == k) ts ≡ true → g k ≡ h k) → any_needs g ts ≡ any_needs h ts
   any_needs_named [] same = refl
   any_needs_named (t ∷ ts) same =
-      ap₂ (λ a b. a || b) (needs_by_named t (λ k e. same k (or_first (needs_by (λ j. j == k) t) (any_needs (λ j. j == k) ts) e)))
-      (any_needs_named ts (λ k e. same k (or_second (needs_by (λ j. j == k) t) (any_needs (λ j. j == k) ts) e)))
+      ap₂ (λ a b. a || b) (needs_by_named t (λ k e. same k (or_left (needs_by (λ j. j == k) t) (any_needs (λ j. j == k) ts) e)))
+      (any_needs_named ts (λ k e. same k (or_right (needs_by (λ j. j == k) t) (any_needs (λ j. j == k) ts) e)))
 
 -- a definition needs drop where it has a destructor or a variant of it holds what needs drop
 pub needs_drop_named : (D : List Shape) → ((d : ℕ) → holds D (length D) d d ≡ false) → (d : ℕ) → needs_drop D (named d) ≡ needs_of (λ k. needs_drop D (named k)) (slice_get D d)

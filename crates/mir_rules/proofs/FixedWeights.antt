@@ -2,12 +2,12 @@
 use Rattle.std.proofs.Common.{◌≡◌, refl, ap, ap₂, ◌∙◌, ℕ, suc, ◌+◌, Bool, true, false, ◌==◌, List, [], ◌∷◌, ◌++◌, map, length, is_some, slice_get, arith}
 use Rattle.std.proofs.Common.{eq-eqb}
 use Rattle.std.specs.Prelude.{fold}
+use Rattle.std.proofs.lemmas.Bool.{or_right, or_left}
 use Rattle.mir_syntax.specs.declared.body.Proj.{Proj}
 use Rattle.mir_syntax.specs.Tree.{Tree, empty, more, named}
 use Rattle.mir_syntax.specs.Shapes.{Shape, first_variant, needs_by, any_needs, needs_drop}
 use Rattle.mir_rules.specs.DefinitionRules.{holds}
 use Rattle.mir_rules.specs.Weights.{nodes_by, nodes_of_variants, nodes_of, nodes_def, nodes, under, units_from, units_of_parts, units_of_shape, units_of, units_def, units, counted, inside_by, variant_weight, inside_variants, inside_of, inside_def}
-use Rattle.mir_rules.proofs.Depth.{or_first, or_second}
 use Rattle.mir_rules.proofs.Fixed.{fixed}
 
 -- a type names a definition by value
@@ -18,10 +18,10 @@ abbrev pub NamedAmong : List Tree → ℕ → Type 0
 NamedAmong ts k = any_needs (λ j. j == k) ts ≡ true
 
 in_first : (t : Tree) (ts : List Tree) (k : ℕ) → NamedIn t k → NamedAmong (t ∷ ts) k
-in_first t ts k e = or_first (needs_by (λ j. j == k) t) (any_needs (λ j. j == k) ts) e
+in_first t ts k e = or_left (needs_by (λ j. j == k) t) (any_needs (λ j. j == k) ts) e
 
 in_others : (t : Tree) (ts : List Tree) (k : ℕ) → NamedAmong ts k → NamedAmong (t ∷ ts) k
-in_others t ts k e = or_second (needs_by (λ j. j == k) t) (any_needs (λ j. j == k) ts) e
+in_others t ts k e = or_right (needs_by (λ j. j == k) t) (any_needs (λ j. j == k) ts) e
 
 -- of the first variant and of the sum over all
 module _ {X : Type 0} (g h : ℕ → X) where
@@ -40,8 +40,8 @@ module _ {X : Type 0} (g h : ℕ → X) where
 module _ (g h : ℕ → ℕ) where
   nodes_same : (t : Tree) → ((k : ℕ) → NamedIn t k → g k ≡ h k) → nodes_by g t ≡ nodes_by h t
   nodes_same (more t ts) same =
-      ap₂ (λ a b. a + b) (nodes_same t (λ k e. same k (or_first (needs_by (λ j. j == k) t) (needs_by (λ j. j == k) ts) e)))
-      (nodes_same ts (λ k e. same k (or_second (needs_by (λ j. j == k) t) (needs_by (λ j. j == k) ts) e)))
+      ap₂ (λ a b. a + b) (nodes_same t (λ k e. same k (or_left (needs_by (λ j. j == k) t) (needs_by (λ j. j == k) ts) e)))
+      (nodes_same ts (λ k e. same k (or_right (needs_by (λ j. j == k) t) (needs_by (λ j. j == k) ts) e)))
   nodes_same (named d) same = same d (eq-eqb d d refl)
   nodes_same t same = refl
 
@@ -54,8 +54,8 @@ nodes_variants_same g h false ts same = first_same g h (λ f t. nodes_by f t) (n
 module _ (D : List Shape) (g h : ℕ → ℕ) where
   inside_same : (t : Tree) → ((k : ℕ) → NamedIn t k → g k ≡ h k) → inside_by D g t ≡ inside_by D h t
   inside_same (more t ts) same =
-      ap₂ (λ a b. counted (needs_drop D t) a + b) (inside_same t (λ k e. same k (or_first (needs_by (λ j. j == k) t) (needs_by (λ j. j == k) ts) e)))
-      (inside_same ts (λ k e. same k (or_second (needs_by (λ j. j == k) t) (needs_by (λ j. j == k) ts) e)))
+      ap₂ (λ a b. counted (needs_drop D t) a + b) (inside_same t (λ k e. same k (or_left (needs_by (λ j. j == k) t) (needs_by (λ j. j == k) ts) e)))
+      (inside_same ts (λ k e. same k (or_right (needs_by (λ j. j == k) t) (needs_by (λ j. j == k) ts) e)))
   inside_same (named d) same = same d (eq-eqb d d refl)
   inside_same t same = refl
 
@@ -68,8 +68,8 @@ module _ (D : List Shape) (g h : ℕ → ℕ) where
 module _ (g h : ℕ → List (List Proj)) where
   units_same : (i : ℕ) (t : Tree) → ((k : ℕ) → NamedIn t k → g k ≡ h k) → units_from g i t ≡ units_from h i t
   units_same i (more t ts) same =
-      ap₂ (λ a b. map (under i) a ++ b) (units_same 0 t (λ k e. same k (or_first (needs_by (λ j. j == k) t) (needs_by (λ j. j == k) ts) e)))
-      (units_same (suc i) ts (λ k e. same k (or_second (needs_by (λ j. j == k) t) (needs_by (λ j. j == k) ts) e)))
+      ap₂ (λ a b. map (under i) a ++ b) (units_same 0 t (λ k e. same k (or_left (needs_by (λ j. j == k) t) (needs_by (λ j. j == k) ts) e)))
+      (units_same (suc i) ts (λ k e. same k (or_right (needs_by (λ j. j == k) t) (needs_by (λ j. j == k) ts) e)))
   units_same i (named d) same = same d (eq-eqb d d refl)
   units_same i t same = refl
 

@@ -1,5 +1,6 @@
 pub mod Lists
 pub mod Whole
+pub mod WholeParts
 pub mod Same
 pub mod Keeps
 pub mod Typed

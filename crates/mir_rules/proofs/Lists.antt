@@ -1,7 +1,8 @@
 -- When lists that are put together are empty, and what tests of a whole list say of its items.
-use Rattle.std.proofs.Common.{◌≡◌, refl, sym, subst, ℕ, zero, suc, ◌+◌, Bool, true, false, ◌&&◌, ◌||◌, List, [], ◌∷◌, ◌++◌, map, Option, Some, None, is_none, slice_get, arith}
+use Rattle.std.proofs.Common.{◌≡◌, refl, sym, ◌∙◌, subst, ℕ, zero, suc, ◌+◌, Bool, true, false, ◌&&◌, ◌||◌, List, [], ◌∷◌, ◌++◌, map, Option, Some, None, is_none, slice_get, arith}
 use Rattle.std.specs.List.{list_any, list_all}
 use Rattle.std.specs.Bool.{then_some}
+use Rattle.std.proofs.lemmas.List.Folds.{list_all-append}
 use Rattle.mir_syntax.specs.Shapes.{◌>>=◌}
 use Rattle.mir_rules.specs.Broken.{gather, if_broken}
 
@@ -99,16 +100,13 @@ pub list_all_true : {A : Type 0} (p : A → Bool) (xs : List A) → ((i : ℕ) (
 list_all_true p [] h = refl
 list_all_true p (x ∷ xs) h = rw (h 0 x refl) (list_all_true p xs (λ i y e. h (suc i) y e))
 
+pub list_all_true-left : {A : Type 0} (p : A → Bool) (xs ys : List A) → list_all p (xs ++ ys) ≡ true → list_all p xs ≡ true
+list_all_true-left p xs ys h = and_true-left (list_all p xs) (list_all p ys) (sym (list_all-append p xs ys) ∙ h)
+
+pub list_all_true-right : {A : Type 0} (p : A → Bool) (xs ys : List A) → list_all p (xs ++ ys) ≡ true → list_all p ys ≡ true
+list_all_true-right p xs ys h = and_true-right (list_all p xs) (list_all p ys) (sym (list_all-append p xs ys) ∙ h)
+
 -- ---- chains of options
-
-pub bind_some : {A B : Type 0} {o : Option A} {f : A → Option B} {y : B} → (o >>= f) ≡ Some y → (x : A) × (o ≡ Some x) × (f x ≡ Some y)
-unfolding ◌>>=◌
-bind_some {o = None} e = absurd (grind arith)
-bind_some {o = Some x} e = (x, refl, e)
-
-pub some_bind : {A B : Type 0} (f : A → Option B) {o : Option A} {x : A} {y : Option B} → o ≡ Some x → f x ≡ y → (o >>= f) ≡ y
-unfolding ◌>>=◌
-some_bind f {y = y} e h = subst (λ o. (o >>= f) ≡ y) (sym e) h
 
 -- what a test does not find missing is there
 pub is_there : {A : Type 0} (o : Option A) → is_none o ≡ false → (x : A) × (o ≡ Some x)

@@ -14,7 +14,7 @@ use Rattle.mir_rules.specs.Formed.{body_formed, is_formed}
 use Rattle.mir_rules.specs.Broken.{statement_broken, terminator_broken}
 use Rattle.mir_rules.specs.DefinitionRules.{breaks_v03, breaks_v04}
 use Rattle.mir_rules.specs.Valid.{Valid}
-use Rattle.mir_rules.proofs.Lists.{some_bind}
+use Rattle.mir_syntax.proofs.Binds.{some_bind}
 use Rattle.mir_rules.proofs.Keeps.{BodyKeeps, broken_none}
 use Rattle.mir_rules.proofs.Statements.{MovesKept, typed_stmt}
 use Rattle.mir_rules.proofs.Terminators.{typed_term}

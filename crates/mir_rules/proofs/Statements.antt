@@ -7,11 +7,12 @@ use Rattle.mir_syntax.specs.Tree.{Tree}
 use Rattle.mir_syntax.specs.Crate.{TypedRvalue, TypedStmt, assign, storage_live, storage_dead, set_discriminant}
 use Rattle.mir_syntax.specs.Shapes.{◌>>=◌, Shape, place_ty, needs_drop}
 use Rattle.mir_rules.specs.Same.{same_tree}
-use Rattle.mir_rules.specs.Parts.{rvalue_operands, rvalue_places}
+use Rattle.mir_syntax.specs.Parts.{rvalue_operands, rvalue_places}
 use Rattle.mir_rules.specs.Typing.{rvalue_ty, enum_of}
 use Rattle.mir_rules.specs.BodyRules.{differ, settable, breaks_v06, breaks_v08, breaks_v14, breaks_v21, breaks_v22, breaks_v24, breaks_v25}
 use Rattle.mir_rules.specs.Broken.{if_broken, operands_broken, rvalue_broken, statement_broken}
-use Rattle.mir_rules.proofs.Lists.{append_empty, append_empty-left, append_empty-right, or_false-right, bind_some, some_bind, then_some_is, if_broken_empty, if_broken_none}
+use Rattle.mir_syntax.proofs.Binds.{bind_some, some_bind}
+use Rattle.mir_rules.proofs.Lists.{append_empty, append_empty-left, append_empty-right, or_false-right, then_some_is, if_broken_empty, if_broken_none}
 use Rattle.mir_rules.proofs.Same.{same_tree_is, same_tree_refl}
 use Rattle.mir_rules.proofs.Typed.{unfit_made, made_unfit, place_typed, typed_place, rvalue_typed, typed_rvalue, typed_rvalue_keeps}
 

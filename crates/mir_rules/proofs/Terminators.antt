@@ -13,13 +13,14 @@ use Rattle.mir_syntax.specs.declared.body.Term.{Term}
 use Rattle.mir_syntax.specs.declared.body.Term.TheVariants as term
 use Rattle.mir_syntax.specs.Tree.{Tree, scalar, tuple_of}
 use Rattle.mir_syntax.specs.Crate.{Crate}
-use Rattle.mir_syntax.specs.Shapes.{◌>>=◌, Shape, place_ty}
-use Rattle.mir_rules.specs.Parts.{is_direct, operand_places, term_operands, term_places, targets}
+use Rattle.mir_syntax.specs.Shapes.{◌>>=◌, Shape, place_ty, goes_through_destructor}
+use Rattle.mir_syntax.specs.Parts.{is_direct, operand_places, term_operands, term_places, targets}
 use Rattle.mir_rules.specs.Typing.{bool_ty, scalar_of, operand_ty, operands_ty, args_of, result_of, callee_args_ty, callee_result_ty}
 use Rattle.mir_rules.specs.Formed.{callee_formed, call_formed}
-use Rattle.mir_rules.specs.BodyRules.{unfit, goes_through_destructor, arm_value, has_twice, has_too_wide, breaks_v05, breaks_v06, breaks_v15, breaks_v16, breaks_v17, breaks_v18, breaks_v19, breaks_v20, breaks_v23}
+use Rattle.mir_rules.specs.BodyRules.{unfit, arm_value, has_twice, has_too_wide, breaks_v05, breaks_v06, breaks_v15, breaks_v16, breaks_v17, breaks_v18, breaks_v19, breaks_v20, breaks_v23}
 use Rattle.mir_rules.specs.Broken.{if_broken, operands_broken, own_broken, terminator_broken}
-use Rattle.mir_rules.proofs.Lists.{append_empty, append_empty-left, append_empty-right, or_false-left, or_false-right, list_any_false-left, list_any_false-right, list_any_false, list_any_false-at, some_bind, if_broken_empty, if_broken_none}
+use Rattle.mir_syntax.proofs.Binds.{some_bind}
+use Rattle.mir_rules.proofs.Lists.{append_empty, append_empty-left, append_empty-right, or_false-left, or_false-right, list_any_false-left, list_any_false-right, list_any_false, list_any_false-at, if_broken_empty, if_broken_none}
 use Rattle.mir_rules.proofs.Typed.{missing, list_any_none_append, unfit_made, made_unfit, place_typed, typed_place, operand_typed, typed_operand, operands_typed, typed_operands}
 use Rattle.mir_rules.proofs.Statements.{MovesKept, moves_kept, moves_keep, differ_not, not_differ}
 

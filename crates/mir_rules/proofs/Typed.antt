@@ -8,11 +8,12 @@ use Rattle.mir_syntax.specs.Tree.{Tree, empty, more}
 use Rattle.mir_syntax.specs.Tree as tree
 use Rattle.mir_syntax.specs.Crate.{TypedRvalue, «use», binary, overflow, unary, cast, ref, ref_mut, discriminant, tuple, build}
 use Rattle.mir_syntax.specs.Shapes.{Shape, place_ty}
-use Rattle.mir_rules.specs.Parts.{operand_places, rvalue_places}
+use Rattle.mir_syntax.specs.Parts.{operand_places, rvalue_places}
 use Rattle.mir_rules.specs.Typing.{const_ty, operand_ty, operands_ty, binary_ty, overflow_ty, unary_ty, cast_ty, discriminant_ty, build_ty, rvalue_ty}
 use Rattle.mir_rules.specs.BodyRules.{unfit, unfit_pair, breaks_v06, breaks_v09, breaks_v10, breaks_v11, breaks_v12, breaks_v13}
 use Rattle.mir_rules.specs.Broken.{rvalue_broken}
-use Rattle.mir_rules.proofs.Lists.{or_false-left, or_false-right, list_any_false-left, list_any_false-right, bind_some, some_bind, is_there, if_broken_empty, if_broken_none}
+use Rattle.mir_syntax.proofs.Binds.{bind_some, some_bind}
+use Rattle.mir_rules.proofs.Lists.{or_false-left, or_false-right, list_any_false-left, list_any_false-right, is_there, if_broken_empty, if_broken_none}
 
 -- ---- what is made of what is there
 

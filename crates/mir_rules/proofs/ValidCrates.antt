@@ -7,7 +7,7 @@ use Rattle.mir_syntax.specs.Tree.{Tree}
 use Rattle.mir_syntax.specs.Crate.{TypedStmt, TypedBlock, TypedBody, TypedFunction, Crate}
 use Rattle.mir_syntax.specs.Shapes.{shapes_of}
 use Rattle.mir_syntax.proofs.Lists.{set_there}
-use Rattle.mir_rules.specs.Parts.{term_operands, term_places, targets}
+use Rattle.mir_syntax.specs.Parts.{term_operands, term_places, targets}
 use Rattle.mir_rules.specs.Formed.{type_formed, place_formed, operand_formed, call_formed, block_there, stmt_formed, term_formed, block_formed, has_start, body_formed, function_formed, def_formed, outside_formed, is_formed}
 use Rattle.mir_rules.specs.Limits.{most_in_body}
 use Rattle.mir_rules.specs.Valid.{Valid, with_body, at_function, ValidAt}

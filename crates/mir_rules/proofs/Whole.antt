@@ -5,7 +5,7 @@ use Rattle.mir_syntax.specs.declared.body.Proj.TheVariants as proj
 use Rattle.mir_syntax.specs.declared.body.Place.{Place}
 use Rattle.mir_syntax.specs.Tree.{Tree}
 use Rattle.mir_syntax.specs.Shapes.{Shape, place_ty, path_ty, whole_path_ty, whole_place_ty, ends_in_downcast, ◌>>=◌}
-use Rattle.mir_rules.specs.Formed.{path_formed, begins_with_field}
+use Rattle.mir_syntax.specs.Parts.{path_formed, begins_with_field}
 use Rattle.mir_rules.proofs.Lists.{and_true-right}
 
 no_end : (ps : List Proj) → path_formed ps ≡ true → ends_in_downcast ps ≡ false

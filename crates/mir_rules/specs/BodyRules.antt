@@ -5,7 +5,6 @@ use Rattle.std.specs.Bool.{then_some}
 use Rattle.std.specs.List.{list_any}
 use Rattle.mir_num.specs.Widths.{width_of}
 use Rattle.mir_syntax.specs.declared.types.ScalarTy.{ScalarTy}
-use Rattle.mir_syntax.specs.declared.body.Proj.{Proj}
 use Rattle.mir_syntax.specs.declared.body.Place.{Place}
 use Rattle.mir_syntax.specs.declared.body.Operand.{Operand}
 use Rattle.mir_syntax.specs.declared.body.Operand.TheVariants as operand
@@ -15,9 +14,9 @@ use Rattle.mir_syntax.specs.declared.body.Arm.{Arm}
 use Rattle.mir_syntax.specs.declared.body.Term.{Term}
 use Rattle.mir_syntax.specs.Tree.{Tree}
 use Rattle.mir_syntax.specs.Crate.{TypedRvalue, Crate}
-use Rattle.mir_syntax.specs.Shapes.{◌>>=◌, Shape, place_ty, proj_ty, destructor_of, needs_drop}
+use Rattle.mir_syntax.specs.Shapes.{◌>>=◌, Shape, place_ty, goes_through_destructor, needs_drop}
 use Rattle.mir_rules.specs.Same.{same_tree}
-use Rattle.mir_rules.specs.Parts.{is_direct, targets}
+use Rattle.mir_syntax.specs.Parts.{is_direct, targets}
 use Rattle.mir_rules.specs.Typing.{bool_ty, scalar_of, operand_ty, operands_ty, unary_ty, cast_ty, discriminant_ty, enum_of, build_ty, rvalue_ty, callee_args_ty, callee_result_ty}
 
 -- ---- what is said of types that may be missing
@@ -126,15 +125,6 @@ abbrev pub breaks_v20 : List Shape → List Tree → List Operand → Bool
 breaks_v20 D locals args = list_any (λ a. unfit (operand_ty D locals a) scalar_of) args
 
 -- ---- moves and drops
-
--- on the way along the path stands a type with a destructor, of which a part is taken
-abbrev pub path_through : List Shape → Option Tree → List Proj → Bool
-path_through D o [] = false
-path_through D None (p ∷ ps) = false
-path_through D (Some t) (p ∷ ps) = is_some (destructor_of D t) || path_through D (proj_ty D t p) ps
-
-abbrev pub goes_through_destructor : List Shape → List Tree → Place → Bool
-goes_through_destructor D locals p = path_through D (slice_get locals p.local) p.proj
 
 abbrev pub moves_through_destructor : List Shape → List Tree → Operand → Bool
 moves_through_destructor D locals (operand.Move p) = goes_through_destructor D locals p

@@ -6,7 +6,7 @@ use Rattle.mir_syntax.specs.declared.body.Term.TheVariants as term
 use Rattle.mir_syntax.specs.Tree.{Tree}
 use Rattle.mir_syntax.specs.Crate.{TypedRvalue, binary, overflow, unary, cast, discriminant, build, TypedStmt, assign, storage_live, storage_dead, set_discriminant, TypedBlock, TypedBody, TypedDef, TypedOutside, TypedFunction, Crate}
 use Rattle.mir_syntax.specs.Shapes.{Shape, shapes_of}
-use Rattle.mir_rules.specs.Parts.{rvalue_operands, rvalue_places, term_operands, term_places}
+use Rattle.mir_syntax.specs.Parts.{rvalue_operands, rvalue_places, term_operands, term_places}
 use Rattle.mir_rules.specs.Typing.{binary_ty, overflow_ty}
 use Rattle.mir_rules.specs.DefinitionRules.{breaks_v01, breaks_v02, breaks_v03, breaks_v04}
 use Rattle.mir_rules.specs.BodyRules.{breaks_v05, breaks_v06, breaks_v08, breaks_v09, breaks_v10, breaks_v11, breaks_v12, breaks_v13, breaks_v14, breaks_v15, breaks_v16, breaks_v17, breaks_v18, breaks_v19, breaks_v20, breaks_v21, breaks_v22, breaks_v23, breaks_v24, breaks_v25}

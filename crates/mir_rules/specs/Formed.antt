@@ -18,7 +18,7 @@ use Rattle.mir_syntax.specs.Tree.{Tree, scalar, empty, more, named}
 use Rattle.mir_syntax.specs.Tree as tree
 use Rattle.mir_syntax.specs.Crate.{TypedRvalue, cast, tuple, build, TypedStmt, assign, storage_live, storage_dead, set_discriminant, TypedBlock, TypedBody, TypedField, TypedVariant, TypedDef, TypedOutside, TypedFunction, Crate}
 use Rattle.mir_syntax.specs.Shapes.{◌>>=◌}
-use Rattle.mir_rules.specs.Parts.{rvalue_operands, rvalue_places, term_operands, term_places, targets}
+use Rattle.mir_syntax.specs.Parts.{path_formed, rvalue_operands, rvalue_places, term_operands, term_places, targets}
 
 -- the definitions that a type names are there, behind references too
 abbrev pub type_formed : Crate → Tree → Bool
@@ -45,16 +45,6 @@ abbrev pub outside_formed : Crate → TypedOutside → Bool
 outside_formed C o = list_all (type_formed C) o.args && type_formed C o.result
 
 -- ---- statements and terminators
-
-abbrev pub begins_with_field : List Proj → Bool
-begins_with_field (Field i ∷ ps) = true
-begins_with_field _ = false
-
--- each downcast is followed by a field
-abbrev pub path_formed : List Proj → Bool
-path_formed [] = true
-path_formed (Downcast k ∷ ps) = begins_with_field ps && path_formed ps
-path_formed (_ ∷ ps) = path_formed ps
 
 abbrev pub place_formed : TypedBody → Place → Bool
 place_formed b p = nat_lt p.local (length b.locals) && path_formed p.proj

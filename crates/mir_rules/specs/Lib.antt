@@ -1,5 +1,4 @@
 pub mod Same
-pub mod Parts
 pub mod Typing
 pub mod Formed
 pub mod DefinitionRules

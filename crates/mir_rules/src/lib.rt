@@ -19,7 +19,7 @@ ghost use Rattle.mir_syntax.specs.Tree.{Tree};
 ghost use Rattle.mir_syntax.specs.Crate.{TypedRvalue, assign, TypedBlock, TypedFunction, Crate};
 ghost use Rattle.mir_syntax.specs.Shapes.{Shape, place_ty};
 ghost use Rattle.mir_rules.specs.Same.{same_tree};
-ghost use Rattle.mir_rules.specs.Parts.{targets};
+ghost use Rattle.mir_syntax.specs.Parts.{targets};
 ghost use Rattle.mir_rules.specs.Typing.{rvalue_ty};
 ghost use Rattle.mir_rules.specs.Broken.{statement_broken};
 ghost use Rattle.mir_rules.specs.Valid.{Valid};

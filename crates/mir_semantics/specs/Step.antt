@@ -19,6 +19,7 @@ use Rattle.mir_syntax.specs.Tree.{Tree, scalar, empty, more, named}
 use Rattle.mir_syntax.specs.Crate.{TypedRvalue, «use», binary, overflow, unary, cast, discriminant, tuple, build, TypedStmt, assign, storage_live, storage_dead, set_discriminant, TypedBlock, TypedBody, TypedFunction, TypedOutside, Crate}
 use Rattle.mir_syntax.specs.Crate as rvalue
 use Rattle.mir_syntax.specs.Shapes.{Shape, shapes_of, ◌>>=◌, place_ty, variant_ty, struct_fields, destructor_of, needs_drop}
+use Rattle.mir_syntax.specs.Parts.{has_deref}
 use Rattle.mir_num.specs.Numbers as num
 use Rattle.mir_semantics.specs.Values.{Addr, Value, number, nil, cons, variant, pointer, hole, listed, is_hole, whole, blank, full}
 use Rattle.mir_semantics.specs.Memory.{Memory, value_at, write, open_frame, close_frame, further, walk}
@@ -110,12 +111,6 @@ resolve h m p = walk m (local_addr h.frame p.local) p.proj
 
 unfoldable pub type_of : Here → Place → Option Tree
 type_of h p = place_ty h.shapes h.locals p
-
-abbrev pub has_deref : List Proj → Bool
-has_deref [] = false
-has_deref (Deref ∷ ps) = true
-has_deref (Field i ∷ ps) = has_deref ps
-has_deref (Downcast k ∷ ps) = has_deref ps
 
 -- a place behind a reference, of a type that needs drop, may be written only where nothing was moved out of it
 unfoldable pub guard_of : List Shape → List Proj → Tree → Option Tree

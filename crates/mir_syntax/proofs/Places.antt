@@ -16,7 +16,7 @@ use Rattle.mir_syntax.specs.declared.body.Place.{Place}
 use Rattle.mir_syntax.specs.declared.program.Program.{Program}
 use Rattle.mir_syntax.specs.Tree.{Tree, scalar, empty, more, ref, ref_mut, named, tuple_of, at_id, at_ids, node, trees_of}
 use Rattle.mir_syntax.specs.Crate.{TypedDef, TypedFunction, field_of, variant_of, def_of, crate_of}
-use Rattle.mir_syntax.specs.Shapes.{Shape, shapes_of, shapes_from, shape_of, fields_tuple, fields_tree, field_id, field_ty_of, fields_of, first_variant, field_ty, variant_ty, pointee, proj_ty, ends_in_downcast, whole_path_ty, whole_place_ty, ◌>>=◌}
+use Rattle.mir_syntax.specs.Shapes.{Shape, shapes_of, shapes_from, shape_of, fields_tuple, fields_tree, field_id, field_ty_of, fields_of, first_variant, field_ty, variant_ty, pointee, proj_ty, ends_in_downcast, whole_path_ty, whole_place_ty, path_through, ◌>>=◌}
 use Rattle.mir_syntax.proofs.Trees.{length-trees_of, at_id-node}
 use Rattle.mir_syntax.proofs.Lists.{slice_get-none}
 
@@ -117,11 +117,11 @@ first-some : (trees : List Tree) (variants : List Variant) (v : Variant) → sli
 first-some trees [] v h = absurd cc
 first-some trees (w ∷ vs) v h = let same : w ≡ v = cc in ap (λ u. fields_tree trees u.fields) same
 
-variants-at : (trees : List Tree) (variants : List Variant) (k : ℕ)
+pub variants_at : (trees : List Tree) (variants : List Variant) (k : ℕ)
     → slice_get (map fields_tuple (map (variant_of trees) variants)) k ≡ option_map (λ v. fields_tree trees v.fields) (slice_get variants k)
-variants-at trees [] k = refl
-variants-at trees (v ∷ vs) zero = refl
-variants-at trees (v ∷ vs) (suc k) = variants-at trees vs k
+variants_at trees [] k = refl
+variants_at trees (v ∷ vs) zero = refl
+variants_at trees (v ∷ vs) (suc k) = variants_at trees vs k
 
 -- ---- structs and variants
 
@@ -156,7 +156,7 @@ variant-struct p d k def h e = rw (shape-at p d def h, e) refl
 pub variant-fields : (p : Program) (d k : ℕ) (def : Def) → slice_get p.defs d ≡ Some def → def.is_enum ≡ true
     → variant_ty (shapes_of (crate_of p)) (named d) k ≡ option_map (λ v. fields_tree (trees_of p.types) v.fields) (slice_get def.variants k)
 unfolding ◌>>=◌
-variant-fields p d k def h e = rw (shape-at p d def h, e) (variants-at (trees_of p.types) def.variants k)
+variant-fields p d k def h e = rw (shape-at p d def h, e) (variants_at (trees_of p.types) def.variants k)
 
 go-variant : (p : Program) (d k : ℕ) (def : Def) (o : Option Variant) → slice_get p.defs d ≡ Some def → def.is_enum ≡ true → slice_get def.variants k ≡ o
     → (variant_ty (shapes_of (crate_of p)) (named d) k ≡ None) ⊎ ((ts : List Tree) × (variant_ty (shapes_of (crate_of p)) (named d) k ≡ Some (tuple_of ts)))
@@ -294,3 +294,10 @@ pub place-some : (D : List Shape) (trees : List Tree) (locals : List TyId) (p : 
     → whole_place_ty D (map (at_id trees) locals) p ≡ whole_path_ty D (at_id trees id) p.proj
 unfolding ◌>>=◌
 place-some D trees locals p id h = rw (slice_get-map (at_id trees) locals p.local, h) refl
+
+-- ---- destructors on the way
+
+-- where a path has no type it goes through no destructor
+pub through_none : (D : List Shape) (ps : List Proj) → path_through D None ps ≡ false
+through_none D [] = refl
+through_none D (p ∷ ps) = refl

@@ -6,3 +6,4 @@ pub mod Crate
 pub mod Ids
 pub mod Shapes
 pub mod Drops
+pub mod Parts

@@ -134,6 +134,15 @@ abbrev pub destructor_of : List Shape → Tree → Option ℕ
 destructor_of D (named d) = slice_get D d >>= λ s. s.destructor
 destructor_of D _ = None
 
+-- on the way along the path stands a type with a destructor, of which a part is taken
+abbrev pub path_through : List Shape → Option Tree → List Proj → Bool
+path_through D o [] = false
+path_through D None (p ∷ ps) = false
+path_through D (Some t) (p ∷ ps) = is_some (destructor_of D t) || path_through D (proj_ty D t p) ps
+
+abbrev pub goes_through_destructor : List Shape → List Tree → Place → Bool
+goes_through_destructor D locals p = path_through D (slice_get locals p.local) p.proj
+
 abbrev pub needs_by : (ℕ → Bool) → Tree → Bool
 needs_by of_def (more t ts) = needs_by of_def t || needs_by of_def ts
 needs_by of_def (named d) = of_def d

@@ -16,19 +16,9 @@ use Rattle.mir_syntax.specs.Shapes.{Shape, field_ty_of, fields_tuple, ◌>>=◌}
 use Rattle.mir_syntax.proofs.Places.{shape-at, shape-past}
 use Rattle.mir_rules.specs.Same.{same_tree}
 use Rattle.mir_rules.specs.Typing.{operand_ty, operands_ty, isize_ty, enum_of, discriminant_ty, build_ty}
-use Rattle.mir_rules.proofs.Lists.{some_bind}
+use Rattle.mir_syntax.proofs.Binds.{some_bind, bind_gone, bind_dead}
 use Rattle.mir_validate.specs.Inside.{shapes}
 use Rattle.mir_validate.specs.Codes.{has_type, have_types, field_tree, variant_count}
-
-pub none_bind : {A B : Type 0} (o : Option A) (f : A → Option B) → o ≡ None → (o >>= f) ≡ None
-unfolding ◌>>=◌
-none_bind None f h = refl
-none_bind (Some a) f h = absurd cc
-
-pub to_none : {A B : Type 0} (o : Option A) (f : A → Option B) → ((a : A) → f a ≡ None) → (o >>= f) ≡ None
-unfolding ◌>>=◌
-to_none None f h = refl
-to_none (Some a) f h = h a
 
 -- ---- operands, one after another
 
@@ -66,7 +56,7 @@ not_enum D trees (RefMut a) h = refl
 not_enum D trees (Named d) h = absurd (h d refl)
 
 pub enum_past : (p : Program) (d : ℕ) → slice_get p.defs d ≡ None → enum_of (shapes p) (named d) ≡ None
-enum_past p d h = none_bind (slice_get (shapes p) d) _ (shape-past p d h)
+enum_past p d h = bind_gone (slice_get (shapes p) d) _ (shape-past p d h)
 
 there : (b : Bool) (s : Shape) → is_some (then_some b s) ≡ b
 there true s = refl
@@ -91,7 +81,7 @@ fields_are trees [] = refl
 fields_are trees (f ∷ fields) = ap (λ ts. at_id trees f.ty ∷ ts) (fields_are trees fields)
 
 pub build_past : (p : Program) (o : Option Tree) (d v : ℕ) → slice_get p.defs d ≡ None → (o >>= build_ty (shapes p) d v) ≡ None
-build_past p o d v h = to_none o _ (λ t. none_bind (slice_get (shapes p) d) _ (shape-past p d h))
+build_past p o d v h = bind_dead o _ (λ t. bind_gone (slice_get (shapes p) d) _ (shape-past p d h))
 
 variant_at : (trees : List Tree) (variants : List Variant) (k : ℕ) → slice_get (map fields_tuple (map (variant_of trees) variants)) k ≡ option_map (λ (v : Variant). tuple_of (map (field_tree trees) v.fields)) (slice_get variants k)
 variant_at trees [] k = refl
@@ -100,7 +90,7 @@ variant_at trees (v ∷ variants) (suc k) = variant_at trees variants k
 
 pub build_absent : (p : Program) (o : Option Tree) (d v : ℕ) (def : Def) → slice_get p.defs d ≡ Some def → slice_get def.variants v ≡ None → (o >>= build_ty (shapes p) d v) ≡ None
 build_absent p o d v def h e =
-    to_none o _ (λ t. some_bind _ (shape-at p d def h) (none_bind _ _ (variant_at (trees_of p.types) def.variants v ∙ ap (option_map (λ (w : Variant). tuple_of (map (field_tree (trees_of p.types)) w.fields))) e)))
+    bind_dead o _ (λ t. some_bind _ (shape-at p d def h) (bind_gone _ _ (variant_at (trees_of p.types) def.variants v ∙ ap (option_map (λ (w : Variant). tuple_of (map (field_tree (trees_of p.types)) w.fields))) e)))
 
 pub build_at : (p : Program) (o : Option Tree) (d v : ℕ) (def : Def) (variant : Variant) (b : Bool) → slice_get p.defs d ≡ Some def → slice_get def.variants v ≡ Some variant
     → has_type o (tuple_of (map (field_tree (trees_of p.types)) variant.fields)) ≡ b → (o >>= build_ty (shapes p) d v) ≡ then_some b (named d)

@@ -12,12 +12,10 @@ use Rattle.mir_syntax.specs.declared.body.Proj.{Proj}
 use Rattle.mir_syntax.specs.declared.body.Proj.TheVariants as proj
 use Rattle.mir_syntax.specs.declared.program.Program.{Program}
 use Rattle.mir_syntax.specs.Tree.{Tree, scalar, empty, more, ref, ref_mut, named, at_id, node, trees_of, tuple_of}
-use Rattle.mir_syntax.specs.Shapes.{Shape, field_ty, variant_ty, fields_tree, field_id, field_ty_of, ◌>>=◌}
+use Rattle.mir_syntax.specs.Shapes.{Shape, field_ty, variant_ty, fields_tree, field_id, field_ty_of, ◌>>=◌, path_through}
 use Rattle.mir_syntax.specs.Crate.{field_of}
-use Rattle.mir_syntax.proofs.Places.{variant-none, variant-struct, variant-fields, field_ty-fields}
-use Rattle.mir_rules.specs.Formed.{path_formed}
-use Rattle.mir_rules.specs.BodyRules.{path_through}
-use Rattle.mir_rules.proofs.Destructors.{through_none}
+use Rattle.mir_syntax.proofs.Places.{variant-none, variant-struct, variant-fields, field_ty-fields, through_none}
+use Rattle.mir_syntax.specs.Parts.{path_formed}
 use Rattle.mir_validate.specs.Inside.{shapes}
 use Rattle.mir_validate.specs.Codes.{variant_field}
 

@@ -28,7 +28,7 @@ use Rattle.mir_syntax.specs.Ids.{IdsInTable, function_below, outside_below}
 use Rattle.mir_syntax.proofs.InTable.{all-at}
 use Rattle.mir_rules.proofs.Lists.{and_true-left, and_true-right}
 use Rattle.mir_rules.specs.Same.{same_tree}
-use Rattle.mir_rules.specs.Parts.{arm_block, term_operands, term_places}
+use Rattle.mir_syntax.specs.Parts.{arm_block, term_operands, term_places}
 use Rattle.mir_rules.specs.Formed.{callee_formed}
 use Rattle.mir_rules.specs.Typing.{bool_ty, scalar_of, operand_ty, operands_ty, callee_args_ty, callee_result_ty}
 use Rattle.mir_rules.specs.BodyRules.{differ, arm_value, has_twice, breaks_v05, breaks_v06, breaks_v20, breaks_v21, breaks_v22}
@@ -36,7 +36,8 @@ use Rattle.mir_rules.specs.Broken.{if_broken, own_broken, operands_broken, termi
 use Rattle.mir_validate.specs.Codes.{place_untyped, operand_untyped, has_type, have_types, moves_code, first_code}
 use Rattle.mir_validate.specs.Terms.{arm_goes_back, goes_back, term_untyped, term_any, scalar_operand, is_bool_scalar, agree, callee_takes, switch_broken, call_broken, assert_broken, ascends_from, ascends}
 use Rattle.mir_validate.proofs.Seeing.{not_true}
-use Rattle.mir_validate.proofs.PartTypes.{none_bind, have_types_is}
+use Rattle.mir_syntax.proofs.Binds.{bind_gone}
+use Rattle.mir_validate.proofs.PartTypes.{have_types_is}
 use Rattle.mir_validate.proofs.Values.{or_none, any_append, untyped_operands, one_untyped, typed_parts, bind_there, below_there, unfit_none, unfit_some, first_append, first_front, moves_first}
 
 map_any : {A B : Type 0} (q : B → Bool) (f : A → B) (xs : List A) → list_any q (map f xs) ≡ list_any (λ x. q (f x)) xs
@@ -154,10 +155,10 @@ module _ (p : Program) where
   outside_at f o h = slice_get-map (outside_of trees) p.outsides f ∙ ap (option_map (outside_of trees)) (sym h)
 
   pub no_function : (f : ℕ) → None ≡ slice_get p.functions f → (callee_args_ty (crate_of p) (callee.Local (record { 0 = f })) ≡ None) × (callee_result_ty (crate_of p) (callee.Local (record { 0 = f })) ≡ None)
-  no_function f h = (none_bind _ _ (function_at f None h), none_bind _ _ (function_at f None h))
+  no_function f h = (bind_gone _ _ (function_at f None h), bind_gone _ _ (function_at f None h))
 
   pub no_outside : (f : ℕ) → None ≡ slice_get p.outsides f → (callee_args_ty (crate_of p) (callee.Outside (record { 0 = f })) ≡ None) × (callee_result_ty (crate_of p) (callee.Outside (record { 0 = f })) ≡ None)
-  no_outside f h = (none_bind _ _ (outside_at f None h), none_bind _ _ (outside_at f None h))
+  no_outside f h = (bind_gone _ _ (outside_at f None h), bind_gone _ _ (outside_at f None h))
 
   pub function_args : (f : ℕ) (g : Function) → Some g ≡ slice_get p.functions f → callee_args_ty (crate_of p) (callee.Local (record { 0 = f })) ≡ Some (tuple_of (map (at_id trees) (take g.body.args (drop 1 g.body.locals))))
   unfolding ◌>>=◌

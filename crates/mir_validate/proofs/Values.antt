@@ -15,7 +15,7 @@ use Rattle.mir_syntax.specs.Tree.{Tree, more, node}
 use Rattle.mir_syntax.specs.Crate.{TypedRvalue, rvalue_of, assign, set_discriminant}
 use Rattle.mir_syntax.specs.Shapes.{Shape, place_ty, needs_drop, ◌>>=◌}
 use Rattle.mir_rules.specs.Same.{same_tree}
-use Rattle.mir_rules.specs.Parts.{operand_places, rvalue_operands, rvalue_places}
+use Rattle.mir_syntax.specs.Parts.{operand_places, rvalue_operands, rvalue_places}
 use Rattle.mir_rules.specs.BodyRules.{unfit, unfit_pair, differ, breaks_v06, breaks_v21, breaks_v22}
 use Rattle.mir_rules.specs.Broken.{if_broken, rvalue_broken, operands_broken, statement_broken}
 use Rattle.mir_rules.specs.Typing.{operand_ty, operands_ty, rvalue_ty, enum_of}

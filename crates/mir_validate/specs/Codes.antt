@@ -14,40 +14,11 @@ use Rattle.mir_syntax.specs.declared.types.Field.{Field}
 use Rattle.mir_syntax.specs.Tree.{Tree, ref, ref_mut, at_id}
 use Rattle.mir_syntax.specs.Crate.{TypedRvalue, tuple}
 use Rattle.mir_syntax.specs.Shapes.{Shape, place_ty, variant_ty, field_ty, ◌>>=◌}
-use Rattle.mir_rules.specs.Parts.{rvalue_places}
-use Rattle.mir_rules.specs.Formed.{path_formed}
+use Rattle.mir_syntax.specs.Parts.{rvalue_places, path_formed}
 use Rattle.mir_rules.specs.Same.{same_tree}
 use Rattle.mir_rules.specs.BodyRules.{differ}
 use Rattle.mir_rules.specs.Broken.{if_broken, rvalue_broken}
 use Rattle.mir_rules.specs.Typing.{operand_ty, operands_ty, rvalue_ty, binary_ty, overflow_ty, unary_ty, cast_ty, discriminant_ty, build_ty}
-
--- ---- downcasts are followed by fields
-
-abbrev pub place_whole : Place → Bool
-place_whole p = path_formed p.proj
-
-abbrev pub operand_whole : Operand → Bool
-operand_whole (operand.Copy p) = path_formed p.proj
-operand_whole (operand.Move p) = path_formed p.proj
-operand_whole (operand.Const c) = true
-
-abbrev pub rvalue_whole : Rvalue → Bool
-rvalue_whole (rvalue.Use a) = operand_whole a
-rvalue_whole (rvalue.Binary op a b) = operand_whole a && operand_whole b
-rvalue_whole (rvalue.Overflow op a b) = operand_whole a && operand_whole b
-rvalue_whole (rvalue.Unary op a) = operand_whole a
-rvalue_whole (rvalue.Cast a ty) = operand_whole a
-rvalue_whole (rvalue.Ref p) = path_formed p.proj
-rvalue_whole (rvalue.RefMut p) = path_formed p.proj
-rvalue_whole (rvalue.Discriminant p) = path_formed p.proj
-rvalue_whole (rvalue.Tuple parts) = list_all operand_whole parts
-rvalue_whole (rvalue.Build d v parts) = list_all operand_whole parts
-
-abbrev pub stmt_whole : Stmt → Bool
-stmt_whole (stmt.Assign p r) = path_formed p.proj && rvalue_whole r
-stmt_whole (stmt.StorageLive x) = true
-stmt_whole (stmt.StorageDead x) = true
-stmt_whole (stmt.SetDiscriminant p k) = path_formed p.proj
 
 -- ---- places without a type
 

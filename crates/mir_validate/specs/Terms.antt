@@ -14,11 +14,12 @@ use Rattle.mir_syntax.specs.Tree.{Tree}
 use Rattle.mir_syntax.specs.Crate.{Crate}
 use Rattle.mir_syntax.specs.Shapes.{Shape, ◌>>=◌}
 use Rattle.mir_rules.specs.Same.{same_tree}
-use Rattle.mir_rules.specs.Formed.{path_formed, call_formed}
+use Rattle.mir_syntax.specs.Parts.{stmt_whole, term_whole}
+use Rattle.mir_rules.specs.Formed.{call_formed}
 use Rattle.mir_rules.specs.Typing.{scalar_of, operand_ty, operands_ty, callee_args_ty, callee_result_ty}
 use Rattle.mir_rules.specs.BodyRules.{unfit, breaks_v15, breaks_v16, breaks_v17, breaks_v18, breaks_v19, breaks_v20}
 use Rattle.mir_rules.specs.Broken.{if_broken}
-use Rattle.mir_validate.specs.Codes.{operand_whole, stmt_whole, place_untyped, operand_untyped}
+use Rattle.mir_validate.specs.Codes.{place_untyped, operand_untyped}
 
 abbrev pub arm_goes_back : Arm → Bool
 arm_goes_back a = a.block == 0
@@ -33,18 +34,9 @@ goes_back (term.Drop p next) = next == 0
 goes_back (term.Call p callee args next) = next == 0
 goes_back (term.Assert a expected text args next) = next == 0
 
--- downcasts are followed by fields
-abbrev pub term_whole : Term → Bool
-term_whole (term.Switch a arms other) = operand_whole a
-term_whole (term.Drop p next) = path_formed p.proj
-term_whole (term.Call p callee args next) = path_formed p.proj && list_all operand_whole args
-term_whole (term.Assert a expected text args next) = operand_whole a && list_all operand_whole args
-term_whole (term.Goto next) = true
-term_whole term.Return = true
-term_whole term.Unreachable = true
-
-abbrev pub block_whole : Crate → Block → Bool
-block_whole C b = list_all stmt_whole b.stmts && (term_whole b.term && call_formed C b.term)
+-- a block is whole, and what it calls is there
+abbrev pub block_ready : Crate → Block → Bool
+block_ready C b = list_all stmt_whole b.stmts && (term_whole b.term && call_formed C b.term)
 
 abbrev pub term_untyped : List Shape → List Tree → Term → Bool
 term_untyped D locals (term.Switch a arms other) = operand_untyped D locals a

@@ -7,7 +7,7 @@ ghost use Rattle.mir_syntax.specs.Ids.{IdsInTable, BodyInTable};
 ghost use Rattle.mir_syntax.specs.Shapes.{shapes_of, place_ty};
 ghost use Rattle.mir_syntax.specs.Drops.{KnowsDrops};
 ghost use Rattle.mir_rules.specs.Same.{same_scalar, same_tree, place_of_int};
-ghost use Rattle.mir_rules.specs.Formed.{path_formed};
+ghost use Rattle.mir_syntax.specs.Parts.{path_formed};
 ghost use Rattle.mir_rules.specs.Typing.{scalar_of};
 ghost use Rattle.mir_validate.specs.Inside.{shapes, local_types, flagged, seen_tree, seen_below};
 

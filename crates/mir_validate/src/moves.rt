@@ -1,11 +1,10 @@
 ghost use Rattle.std.specs.Prelude.{◌≡◌, ◌&&◌, ◌||◌, not, false, IsTrue};
 ghost use Rattle.std.specs.List.{list_all};
 ghost use Rattle.mir_syntax.specs.Shapes.{place_ty};
-ghost use Rattle.mir_rules.specs.Formed.{path_formed};
-ghost use Rattle.mir_rules.specs.Parts.{is_direct};
+ghost use Rattle.mir_syntax.specs.Parts.{is_direct, path_formed, operand_whole, rvalue_whole};
 ghost use Rattle.mir_rules.specs.BodyRules.{some_needs_drop, moves_through_destructor, moves_needing_indirectly, breaks_v21, breaks_v22};
 ghost use Rattle.mir_validate.specs.Inside.{shapes, local_types};
-ghost use Rattle.mir_validate.specs.Codes.{operand_whole, rvalue_whole, rvalue_any, moves_code};
+ghost use Rattle.mir_validate.specs.Codes.{rvalue_any, moves_code};
 
 use crate::inside::Inside;
 use crate::path::is_direct;

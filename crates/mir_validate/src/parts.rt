@@ -3,10 +3,10 @@ ghost use Rattle.std.specs.List.{list_all, list_any};
 ghost use Rattle.mir_syntax.specs.Tree.{at_id, trees_of};
 ghost use Rattle.mir_syntax.specs.Table.{all_below};
 ghost use Rattle.mir_syntax.specs.Ids.{field_below};
-ghost use Rattle.mir_rules.specs.Formed.{path_formed};
+ghost use Rattle.mir_syntax.specs.Parts.{path_formed, operand_whole};
 ghost use Rattle.mir_rules.specs.Typing.{operand_ty};
 ghost use Rattle.mir_validate.specs.Inside.{shapes, local_types};
-ghost use Rattle.mir_validate.specs.Codes.{operand_whole, place_untyped, operand_untyped, has_type, have_types, field_tree};
+ghost use Rattle.mir_validate.specs.Codes.{place_untyped, operand_untyped, has_type, have_types, field_tree};
 
 use crate::inside::Inside;
 use mir_syntax::{Field, Operand, Place, TyId};

@@ -2,11 +2,9 @@ ghost use Rattle.std.specs.Prelude.{◌≡◌, ℕ, List, ◌<◌, ◌∷◌, Is
 ghost use Rattle.std.specs.List.{list_all};
 ghost use Rattle.mir_syntax.specs.Tree.{named, at_id, trees_of};
 ghost use Rattle.mir_syntax.specs.Ids.{field_below};
-ghost use Rattle.mir_syntax.specs.Shapes.{fields_of, variant_ty, proj_ty, destructor_of, fields_tree, field_id};
+ghost use Rattle.mir_syntax.specs.Shapes.{fields_of, variant_ty, proj_ty, destructor_of, fields_tree, field_id, path_through, goes_through_destructor};
 ghost use Rattle.mir_syntax.specs.declared.body.Proj.{Proj as ProjData};
-ghost use Rattle.mir_rules.specs.Formed.{path_formed};
-ghost use Rattle.mir_rules.specs.BodyRules.{path_through, goes_through_destructor};
-ghost use Rattle.mir_rules.specs.Parts.{is_direct};
+ghost use Rattle.mir_syntax.specs.Parts.{is_direct, path_formed};
 ghost use Rattle.mir_validate.specs.Inside.{shapes, local_types};
 ghost use Rattle.mir_validate.specs.Codes.{variant_field};
 

@@ -3,10 +3,10 @@ ghost use Rattle.std.specs.List.{list_all};
 ghost use Rattle.mir_syntax.specs.Tree.{at_id, trees_of};
 ghost use Rattle.mir_syntax.specs.Ids.{rvalue_below};
 ghost use Rattle.mir_syntax.specs.Crate.{rvalue_of};
-ghost use Rattle.mir_rules.specs.Formed.{path_formed};
+ghost use Rattle.mir_syntax.specs.Parts.{path_formed, operand_whole, rvalue_whole};
 ghost use Rattle.mir_rules.specs.Typing.{enum_of};
 ghost use Rattle.mir_validate.specs.Inside.{shapes, local_types, seen_tree, seen_below};
-ghost use Rattle.mir_validate.specs.Codes.{operand_whole, rvalue_whole, parts_untyped, binary_made, overflow_made, unary_made, cast_made, discriminant_made, ref_made, ref_mut_made, build_made, untupled_ty};
+ghost use Rattle.mir_validate.specs.Codes.{parts_untyped, binary_made, overflow_made, unary_made, cast_made, discriminant_made, ref_made, ref_mut_made, build_made, untupled_ty};
 
 use crate::inside::Inside;
 use crate::seen::Seen;

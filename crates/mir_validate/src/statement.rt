@@ -3,11 +3,11 @@ ghost use Rattle.std.specs.List.{list_all};
 ghost use Rattle.mir_syntax.specs.Tree.{at_id, trees_of};
 ghost use Rattle.mir_syntax.specs.Ids.{rvalue_below, stmt_below};
 ghost use Rattle.mir_syntax.specs.Crate.{rvalue_of, stmt_of, assign, set_discriminant};
-ghost use Rattle.mir_rules.specs.Formed.{path_formed};
+ghost use Rattle.mir_syntax.specs.Parts.{path_formed, operand_whole, rvalue_whole, stmt_whole};
 ghost use Rattle.mir_rules.specs.Typing.{operands_ty, enum_of};
 ghost use Rattle.mir_rules.specs.Broken.{statement_broken};
 ghost use Rattle.mir_validate.specs.Inside.{shapes, local_types};
-ghost use Rattle.mir_validate.specs.Codes.{operand_whole, rvalue_whole, stmt_whole, parts_untyped, has_type, own_rule, value_broken, variant_count, first_code};
+ghost use Rattle.mir_validate.specs.Codes.{parts_untyped, has_type, own_rule, value_broken, variant_count, first_code};
 
 use crate::inside::Inside;
 use mir_syntax::{Operand, Place, Rvalue, Stmt, Ty, TyId};

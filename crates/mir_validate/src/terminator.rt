@@ -4,13 +4,14 @@ ghost use Rattle.mir_syntax.specs.Tree.{at_id, trees_of};
 ghost use Rattle.mir_syntax.specs.Crate.{crate_of};
 ghost use Rattle.mir_syntax.specs.Shapes.{place_ty};
 ghost use Rattle.mir_num.specs.Widths.{width_of};
-ghost use Rattle.mir_rules.specs.Formed.{path_formed, callee_formed, call_formed};
+ghost use Rattle.mir_syntax.specs.Parts.{path_formed, operand_whole, term_whole};
+ghost use Rattle.mir_rules.specs.Formed.{callee_formed, call_formed};
 ghost use Rattle.mir_rules.specs.Typing.{callee_result_ty};
 ghost use Rattle.mir_rules.specs.BodyRules.{arm_value, has_twice, breaks_v20, breaks_v23, moves_through_destructor, moves_needing_indirectly};
 ghost use Rattle.mir_rules.specs.Broken.{if_broken, own_broken, terminator_broken};
 ghost use Rattle.mir_validate.specs.Inside.{shapes, local_types};
-ghost use Rattle.mir_validate.specs.Codes.{operand_whole, place_untyped, operand_untyped, first_code};
-ghost use Rattle.mir_validate.specs.Terms.{goes_back, arm_goes_back, ascends_from, ascends, term_whole, term_untyped, term_any, scalar_operand, is_bool_scalar, unscalar, agree, callee_takes, callee_returns, switch_broken, call_broken, assert_broken};
+ghost use Rattle.mir_validate.specs.Codes.{place_untyped, operand_untyped, first_code};
+ghost use Rattle.mir_validate.specs.Terms.{goes_back, arm_goes_back, ascends_from, ascends, term_untyped, term_any, scalar_operand, is_bool_scalar, unscalar, agree, callee_takes, callee_returns, switch_broken, call_broken, assert_broken};
 
 use crate::inside::Inside;
 use crate::moves::Moves;

@@ -3,10 +3,9 @@ ghost use Rattle.std.specs.List.{list_all};
 ghost use Rattle.mir_syntax.specs.Tree.{Tree, at_id, at_ids, trees_of};
 ghost use Rattle.mir_syntax.specs.Tree as tree;
 ghost use Rattle.mir_syntax.specs.Shapes.{place_ty};
-ghost use Rattle.mir_rules.specs.Formed.{path_formed};
+ghost use Rattle.mir_syntax.specs.Parts.{path_formed, operand_whole};
 ghost use Rattle.mir_rules.specs.Typing.{kind_of, takes, made_by, is_int, const_ty, operand_ty, binary_ty, overflow_ty, unary_ty, cast_ty, discriminant_ty};
 ghost use Rattle.mir_validate.specs.Inside.{shapes, local_types, seen_tree, seen_below};
-ghost use Rattle.mir_validate.specs.Codes.{operand_whole};
 
 use crate::inside::{Inside, same_scalar};
 use crate::seen::Seen;

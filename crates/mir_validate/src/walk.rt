@@ -9,8 +9,8 @@ ghost use Rattle.mir_syntax.specs.declared.lines.Lines.{Lines as LinesData};
 ghost use Rattle.mir_rules.specs.Broken.{body_found};
 ghost use Rattle.mir_rules.specs.Faults.{same_lengths, block_fits, by_line};
 ghost use Rattle.mir_validate.specs.Inside.{shapes, typed, local_types};
-ghost use Rattle.mir_validate.specs.Codes.{stmt_whole};
-ghost use Rattle.mir_validate.specs.Terms.{block_whole};
+ghost use Rattle.mir_syntax.specs.Parts.{stmt_whole};
+ghost use Rattle.mir_validate.specs.Terms.{block_ready};
 ghost use Rattle.mir_validate.specs.Walk.{place_of, statements_broken, block_broken, blocks_broken};
 
 use crate::fault::{Broken, on_line, sooner};
@@ -48,7 +48,7 @@ impl Inside<'_> {
     }
 
     fn block_fault(&self, block: &Block, lines: &BlockLines) -> Option<Broken>
-        requires formed { IsTrue (block_whole (crate_of self.now.program.now) block.now) }
+        requires formed { IsTrue (block_ready (crate_of self.now.program.now) block.now) }
         requires below { IsTrue (block_below (length self.now.program.now.types) block.now) }
         ensures { option_map place_of result ≡ first_fault (block_broken (crate_of self.now.program.now) (shapes self.now.program.now) self.now.body.now.args (local_types self.now.program.now self.now.body.now) (trees_of self.now.program.now.types) lines.now block.now) }
     {
@@ -61,7 +61,7 @@ impl Inside<'_> {
 
     /// What is answered of all that blocks break.
     pub fn blocks_fault(&self, blocks: &[Block], lines: &[BlockLines]) -> Option<Broken>
-        requires formed { IsTrue (list_all (block_whole (crate_of self.now.program.now)) blocks.now) }
+        requires formed { IsTrue (list_all (block_ready (crate_of self.now.program.now)) blocks.now) }
         requires below { IsTrue (list_all (block_below (length self.now.program.now.types)) blocks.now) }
         ensures { option_map place_of result ≡ first_fault (blocks_broken (crate_of self.now.program.now) (shapes self.now.program.now) self.now.body.now.args (local_types self.now.program.now self.now.body.now) (trees_of self.now.program.now.types) lines.now blocks.now) }
     {

@@ -18,8 +18,9 @@ use Rattle.mir_syntax.specs.Tree.{Tree, at_id}
 use Rattle.mir_syntax.specs.Crate.{TypedBody, TypedFunction, Crate, rvalue_of, stmt_of, block_of, body_of}
 use Rattle.mir_syntax.specs.Ids.{BodyInTable}
 use Rattle.mir_syntax.proofs.Lists.{map_there}
-use Rattle.mir_rules.specs.Parts as parts
-use Rattle.mir_rules.specs.Formed.{path_formed, place_formed, rvalue_formed, stmt_formed, body_formed}
+use Rattle.mir_syntax.specs.Parts as parts
+use Rattle.mir_syntax.specs.Parts.{path_formed}
+use Rattle.mir_rules.specs.Formed.{place_formed, rvalue_formed, stmt_formed, body_formed}
 use Rattle.mir_rules.specs.Valid.{with_body, at_function}
 use Rattle.mir_rules.proofs.Lists.{and_true-left}
 use Rattle.mir_rules.proofs.Keeps.{BodyKeeps}

@@ -6,7 +6,8 @@ use Rattle.mir_syntax.specs.declared.body.Operand.{Operand}
 use Rattle.mir_syntax.specs.declared.body.Operand.TheVariants as operand
 use Rattle.mir_syntax.specs.Crate.{TypedRvalue, «use», binary, overflow, unary, cast, discriminant, tuple, build, TypedStmt, TypedBlock}
 use Rattle.mir_syntax.specs.Crate as rvalue
-use Rattle.mir_semantics.specs.Step.{has_deref, step}
+use Rattle.mir_syntax.specs.Parts.{has_deref}
+use Rattle.mir_semantics.specs.Step.{step}
 use Rattle.mir_syntax.specs.declared.body.Term.{Term}
 use Rattle.mir_syntax.specs.declared.body.Term.TheVariants.{Drop}
 use Rattle.mir_renaming.proofs.Among.{Among, OkOperand, OkOperands, OkRvalue}

@@ -9,7 +9,8 @@ use Rattle.mir_semantics.specs.Values.{Addr, Value, at_path}
 use Rattle.mir_semantics.specs.Memory.{Memory, local_at, value_at, write, open_frame}
 use Rattle.mir_semantics.specs.Step.{Dest, Dropping, Control, State, Next, new_slots, destroyed, go_on, store, return_to}
 use Rattle.mir_renaming.specs.Renaming.{Renaming, ValueRel, SomeRel}
-use Rattle.mir_renaming.proofs.Memory.{bind_some, some_bind, same_or_not}
+use Rattle.mir_syntax.proofs.Binds.{bind_some, some_bind}
+use Rattle.mir_renaming.proofs.Memory.{same_or_not}
 use Rattle.mir_renaming.proofs.Frames.{open_same, new_control}
 use Rattle.mir_renaming.proofs.Ghosts.{value_mono}
 use Rattle.mir_renaming.proofs.Statements.{Linked, ValuesRel}

@@ -13,9 +13,11 @@ use Rattle.mir_syntax.specs.Crate.{TypedRvalue, «use», binary, overflow, unary
 use Rattle.mir_syntax.specs.Crate as rvalue
 use Rattle.mir_semantics.specs.Values.{Addr, Value, variant, blank}
 use Rattle.mir_semantics.specs.Memory.{Memory, local_at, value_at, write}
-use Rattle.mir_semantics.specs.Step.{Here, Dest, Control, State, Next, on, local_addr, has_deref, type_of, resolve, dest_of, store, read_at, is_variant, write_unless, set_blank, to_block, next_stmt, take_arm, exec, perform, step}
+use Rattle.mir_semantics.specs.Step.{Here, Dest, Control, State, Next, on, local_addr, type_of, resolve, dest_of, store, read_at, is_variant, write_unless, set_blank, to_block, next_stmt, take_arm, exec, perform, step}
+use Rattle.mir_syntax.specs.Parts.{has_deref}
 use Rattle.mir_renaming.specs.Renaming.{Renaming, Sub}
-use Rattle.mir_renaming.proofs.Memory.{bind_some, some_bind, same_or_not, value_at_rel}
+use Rattle.mir_syntax.proofs.Binds.{bind_some, some_bind}
+use Rattle.mir_renaming.proofs.Memory.{same_or_not, value_at_rel}
 use Rattle.mir_renaming.proofs.Statements as text
 use Rattle.mir_renaming.proofs.Statements.{DestRel, blank_rel}
 use Rattle.mir_renaming.proofs.Types.{TypeMap, AddrTy, HasTy, resolve_ty, value_at_ty, blank_fits, dest_ty, StmtTy}

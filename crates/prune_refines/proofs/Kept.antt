@@ -3,7 +3,7 @@ use Rattle.std.proofs.Common.{◌≡◌, refl, sym, ap, ◌∙◌, ℕ, zero, su
 use Rattle.std.specs.List.{list_all}
 use Rattle.mir_syntax.specs.declared.body.Term.{Term}
 use Rattle.mir_syntax.specs.Crate.{TypedStmt, assign, storage_live, storage_dead, set_discriminant, TypedBlock, TypedBody, Crate}
-use Rattle.mir_rules.specs.Parts.{term_operands, term_places, targets}
+use Rattle.mir_syntax.specs.Parts.{term_operands, term_places, targets}
 use Rattle.mir_rules.specs.Formed.{type_formed, place_formed, operand_formed, call_formed, stmt_formed, term_formed, block_formed, has_start, body_formed}
 use Rattle.mir_rules.proofs.Lists.{and_true-left, and_true-right, list_all_true}
 use Rattle.mir_rules.proofs.Keeps.{BodyKeeps}

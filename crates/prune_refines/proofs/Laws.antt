@@ -1,6 +1,5 @@
 -- What pruning asks of the liveness, of what is lent and of the rules, in a valid crate.
-use Rattle.std.proofs.Common.{◌≡◌, ◌⊎◌, inl, inr, refl, sym, ap, ap₂, ◌∙◌, subst, ℕ, zero, suc, Bool, true, false, not, ◌&&◌, ◌||◌, if◌then◌else◌, List, [], ◌∷◌, ◌++◌, map, set, Some, slice_get, arith}
-use Rattle.std.proofs.Common.{eq-eqb}
+use Rattle.std.proofs.Common.{◌≡◌, ◌⊎◌, inl, inr, refl, sym, ap, ap₂, ◌∙◌, subst, ℕ, zero, suc, Bool, true, false, not, ◌&&◌, ◌||◌, if◌then◌else◌, List, [], ◌∷◌, ◌++◌, map, set, Some, slice_get, arith, eq-eqb}
 use Rattle.std.specs.List.{list_any, flat_map}
 use Rattle.mir_syntax.proofs.Lists.{set_there}
 use Rattle.mir_syntax.specs.declared.body.Proj.{Proj}
@@ -14,7 +13,7 @@ use Rattle.mir_syntax.specs.Tree.{Tree}
 use Rattle.mir_syntax.specs.Crate.{TypedRvalue, «use», binary, overflow, unary, cast, discriminant, tuple, build, TypedStmt, assign, storage_live, storage_dead, set_discriminant, TypedBlock, TypedBody, TypedFunction, Crate}
 use Rattle.mir_syntax.specs.Crate as rvalue
 use Rattle.mir_syntax.specs.Shapes.{Shape, shapes_of, place_ty, needs_drop}
-use Rattle.mir_rules.specs.Parts.{is_direct, rvalue_operands}
+use Rattle.mir_syntax.specs.Parts.{is_direct, rvalue_operands, has_deref}
 use Rattle.mir_rules.specs.BodyRules.{some_needs_drop, moves_needing_indirectly}
 use Rattle.mir_rules.specs.Valid.{Valid, with_body}
 use Rattle.mir_rules.proofs.Lists.{or_false-left, or_false-right}
@@ -23,7 +22,7 @@ use Rattle.mir_rules.proofs.Terminators.{OwnTyped}
 use Rattle.mir_rules.proofs.ValidCrates.{stmt_at, term_at}
 use Rattle.mir_semantics.specs.Step as semantics
 use Rattle.mir_semantics.specs.Step.{body_in, code_of}
-use Rattle.escape_info.specs.Borrowed.{has_deref, lent, lent_in, dropped, is, borrowed}
+use Rattle.escape_info.specs.Borrowed.{lent, lent_in, dropped, is, borrowed}
 use Rattle.liveness.specs.Live.{Live}
 use Rattle.liveness.proofs.Paths as paths
 use Rattle.prune_control.specs.Reads.{pruned_by}

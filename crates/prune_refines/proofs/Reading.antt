@@ -1,6 +1,5 @@
 -- What is read, filled and led to by the lists of the liveness, and by the cases of the relation of live values.
-use Rattle.std.proofs.Common.{◌≡◌, ◌⊎◌, inl, inr, refl, sym, ap, ◌∙◌, subst, ℕ, Bool, true, false, not, ◌&&◌, ◌||◌, nat_eq, if◌then◌else◌, List, [], ◌∷◌, ◌++◌, map, Some, is_some, slice_get, arith}
-use Rattle.std.proofs.Common.{eq-eqb}
+use Rattle.std.proofs.Common.{◌≡◌, ◌⊎◌, inl, inr, refl, sym, ap, ◌∙◌, subst, ℕ, Bool, true, false, not, ◌&&◌, ◌||◌, nat_eq, if◌then◌else◌, List, [], ◌∷◌, ◌++◌, map, Some, is_some, slice_get, arith, eq-eqb}
 use Rattle.std.specs.List.{Contains, flat_map}
 use Rattle.std.proofs.lemmas.List.Elements.{Contains-append_left, Contains-append_right, Contains-push_cases}
 use Rattle.mir_syntax.specs.declared.body.Proj.{Proj}
@@ -15,13 +14,11 @@ use Rattle.mir_syntax.specs.Tree.{Tree}
 use Rattle.mir_syntax.specs.Crate.{TypedRvalue, «use», binary, overflow, unary, cast, discriminant, tuple, build, TypedStmt, assign, storage_live, storage_dead, set_discriminant}
 use Rattle.mir_syntax.specs.Crate as rvalue
 use Rattle.mir_syntax.specs.Shapes.{Shape, destructor_of, proj_ty, path_ty, place_ty}
-use Rattle.mir_rules.specs.Parts.{is_direct, operand_places, rvalue_places, arm_block, targets}
+use Rattle.mir_syntax.specs.Parts.{is_direct, operand_places, rvalue_places, arm_block, targets}
 use Rattle.mir_rules.specs.BodyRules.{path_through, goes_through_destructor}
-use Rattle.mir_renaming.proofs.Memory.{bind_some}
-use Rattle.mir_renaming.specs.Places.{solid}
-use Rattle.mir_renaming.specs.Places.{is_nil}
-use Rattle.prune_control.specs.Paths.{fills}
-use Rattle.prune_control.specs.Paths.{ArmLeads, Leads, fills_term}
+use Rattle.mir_syntax.proofs.Binds.{bind_some}
+use Rattle.mir_renaming.specs.Places.{solid, is_nil}
+use Rattle.prune_control.specs.Paths.{fills, ArmLeads, Leads, fills_term}
 use Rattle.prune_control.specs.Reads.{through, ReadsOperand, ReadsAny, ReadsRvalue, ReadsStmt, ReadsTerm}
 use Rattle.liveness.specs.Live.{place_local, operand_locals, written_reads, stmt_reads, result_reads, term_reads, whole, stmt_fills, term_fills}
 

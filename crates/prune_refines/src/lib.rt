@@ -2,7 +2,7 @@
 //!
 //! `IsPruned` is `dead_store`'s (`specs/Pruned.antt`): three rounds, each of which takes away the assignments and the settings of
 //! discriminants that nobody reads. `Refines` is `mir_semantics`' (`specs/Refines.antt`), and `Valid`, `ValidAt` and `at_function` are
-//! `mir_rules`' (`specs/Valid.antt`). The body that is pruned holds no `drop` (`NoDrops` of `specs/Drops.antt`); other bodies may. The functions
+//! `mir_rules`' (`specs/Valid.antt`). The body that is pruned holds no `drop` (`NoDrops`, of `mir_rules` too); other bodies may. The functions
 //! here run nothing; their contracts are the laws: `pruned_refines`, and `pruned_stays_valid` for what comes after the pass.
 #![tactic(auto)]
 

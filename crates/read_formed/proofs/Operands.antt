@@ -12,7 +12,7 @@ use Rattle.mir_text.specs.Names.{Names}
 use Rattle.mir_text.specs.NamedBodies.{Declared, operand_named, parts_named}
 use Rattle.mir_text.specs.NameFaults.{each_item, operand_codes, named_operand_codes, parts_codes}
 use Rattle.mir_text.specs.Nesting.{OperandGood, NamedGood, PartsGood}
-use Rattle.mir_rules.specs.Parts.{operand_places}
+use Rattle.mir_syntax.specs.Parts.{operand_places}
 use Rattle.mir_rules.specs.Formed.{place_formed, operand_formed}
 use Rattle.read_formed.proofs.Tests.{all_append, all_flat, all_items, all_good_items}
 use Rattle.read_formed.proofs.Places.{Holds, operand_places_formed, operand_named_formed}

@@ -12,8 +12,8 @@ use Rattle.mir_text.specs.NamedBodies.{Declared, declared_ty, variant_at_place, 
 use Rattle.mir_text.specs.NameFaults.{unless, is_among, type_codes, place_codes, operand_codes}
 use Rattle.mir_text.specs.Nesting.{OperandGood}
 use Rattle.mir_text.proofs.Codes.{unless_met}
-use Rattle.mir_rules.specs.Parts.{operand_places}
-use Rattle.mir_rules.specs.Formed.{begins_with_field, path_formed, place_formed, operand_formed}
+use Rattle.mir_syntax.specs.Parts.{operand_places, begins_with_field, path_formed}
+use Rattle.mir_rules.specs.Formed.{place_formed, operand_formed}
 use Rattle.mir_rules.proofs.Lists.{append_empty-left}
 use Rattle.read_formed.proofs.Values.{value_formed}
 
@@ -62,7 +62,7 @@ module _ (N : Names) (L : Declared) (labels : List ℕ) (b : TypedBody) (holds :
 
   -- ---- operands
 
-  one-place : (q : PlaceRule) → place_codes N L q ≡ [] → list_all (place_formed b) (place_named N L q ∷ []) ≡ true
+  pub one-place : (q : PlaceRule) → place_codes N L q ≡ [] → list_all (place_formed b) (place_named N L q ∷ []) ≡ true
   one-place q h = and_from (place_formed b (place_named N L q)) true (place_named_formed q h) refl
 
   pub operand_places_formed : (x : OperandRule) → operand_codes N L x ≡ [] → list_all (place_formed b) (operand_places (operand_named N L x)) ≡ true

@@ -13,7 +13,7 @@ use Rattle.mir_text.specs.Names.{Names}
 use Rattle.mir_text.specs.NamedBodies.{Declared, declared_ty, place_named, operand_named, built_by, or_first, rvalue_named, stmt_named, stmts_named}
 use Rattle.mir_text.specs.NameFaults.{local_codes, place_codes, operand_codes, parts_codes, variant_fits, variant_number, def_number, built_variant, build_codes, rvalue_codes, stmt_codes}
 use Rattle.mir_text.specs.Nesting.{RvalueGood, StmtGood}
-use Rattle.mir_rules.specs.Parts.{rvalue_operands, rvalue_places}
+use Rattle.mir_syntax.specs.Parts.{rvalue_operands, rvalue_places}
 use Rattle.mir_rules.specs.Formed.{place_formed, operand_formed, has_variant, shape_formed, rvalue_formed, local_formed, stmt_formed}
 use Rattle.mir_rules.proofs.Lists.{append_empty-left, append_empty-right}
 use Rattle.mir_text.proofs.Numbered.{def_numbered, variant_numbered}

@@ -18,13 +18,13 @@ use Rattle.mir_text.specs.PartLines.{LinesFrom, past, each_lined, block_lined, b
 use Rattle.mir_text.specs.NameFaults.{on_line, each, each_item, is_among, place_codes, operand_codes, stmt_codes, target_codes, call_codes, arm_codes, term_codes, stmt_faults, block_faults}
 use Rattle.mir_text.specs.Nesting.{OperandGood, TermGood, BlockGood}
 use Rattle.mir_text.proofs.Codes.{unless_met, no_codes}
-use Rattle.mir_rules.specs.Parts.{operand_places, term_operands, term_places, arm_block, targets}
+use Rattle.mir_syntax.specs.Parts.{operand_places, term_operands, term_places, arm_block, targets}
 use Rattle.mir_rules.specs.Formed.{place_formed, operand_formed, callee_formed, call_formed, block_there, stmt_formed, term_formed, block_formed}
 use Rattle.mir_rules.proofs.Lists.{append_empty-left, append_empty-right}
 use Rattle.read_formed.proofs.Tests.{all_append, all_each, all_good}
 use Rattle.read_formed.proofs.Types.{place_there}
 use Rattle.read_formed.proofs.Knows.{Knows}
-use Rattle.read_formed.proofs.Places.{Holds, place_named_formed, operand_named_formed}
+use Rattle.read_formed.proofs.Places.{Holds, place_named_formed, one-place, operand_named_formed}
 use Rattle.read_formed.proofs.Operands.{Placed, passes, placed, operand_passes, one_placed, more_placed, items_placed, Fitting, one_fitting, more_fitting, items_fitting}
 use Rattle.read_formed.proofs.Rvalues.{stmts_formed}
 
@@ -64,9 +64,6 @@ module _ (C : Crate) (N : Names) (knows : Knows C N) (L : Declared) (labels : Li
       (and_from (list_all operand_formed (term_operands t)) _ fitting
       (and_from (list_all (place_formed b) (term_places t)) (list_all (block_there b) (targets t)) placed there))
 
-  one-place : (q : PlaceRule) → place_codes N L q ≡ [] → list_all (place_formed b) (place_named N L q ∷ []) ≡ true
-  one-place q h = and_from (place_formed b (place_named N L q)) true (place_named_formed N L labels b holds q h) refl
-
   args-placed : (xs : List OperandRule) → each (operand_codes N L) xs ≡ [] → Placed b (map (operand_named N L) xs)
   args-placed xs h = placed b (map (operand_named N L) xs) (all_each (passes b) (operand_codes N L) (operand_named N L) (operand_passes N L labels b holds) xs h)
 
@@ -92,7 +89,7 @@ module _ (C : Crate) (N : Names) (knows : Knows C N) (L : Declared) (labels : Li
       (and_from (place_formed b (place_named N L q)) (list_all (place_formed b) (flat_map operand_places (items_of (operand_named N L) xs))) place args)
       (one-target n (append_empty-right (place_codes N L q ++ call_codes N path ++ each_item (operand_codes N L) xs) (target_codes labels n) h))
   term-formed (g.drop q n u) h good =
-      formed-by (term_named N L (g.drop q n u)) refl refl (one-place q (append_empty-left (place_codes N L q) (target_codes labels n) h)) (one-target n (append_empty-right (place_codes N L q) (target_codes labels n) h))
+      formed-by (term_named N L (g.drop q n u)) refl refl (one-place N L labels b holds q (append_empty-left (place_codes N L q) (target_codes labels n) h)) (one-target n (append_empty-right (place_codes N L q) (target_codes labels n) h))
   term-formed (g.assert expected x message xs n u) h good =
       let front = append_empty-left (operand_codes N L x ++ each (operand_codes N L) xs) (target_codes labels n) h in
       formed-by (term_named N L (g.assert expected x message xs n u)) refl (more_fitting N L x (map (operand_named N L) xs) good.0 (args-fitting xs good.1))

@@ -7,7 +7,7 @@ use Rattle.mir_syntax.specs.declared.body.Operand.TheVariants as operand
 use Rattle.mir_syntax.specs.declared.body.Term.{Term}
 use Rattle.mir_syntax.specs.declared.body.Term.TheVariants as term
 use Rattle.mir_syntax.specs.Crate.{TypedRvalue, «use», binary, overflow, unary, cast, ref, ref_mut, discriminant, tuple, build, TypedStmt, assign, storage_live, storage_dead, set_discriminant, TypedBlock, TypedBody}
-use Rattle.mir_rules.specs.Parts.{rvalue_places, term_places}
+use Rattle.mir_syntax.specs.Parts.{rvalue_places, term_places}
 use Rattle.bit_rows.specs.Rows.{stands}
 use Rattle.liveness.specs.Live.{place_local}
 

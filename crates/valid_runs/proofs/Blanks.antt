@@ -8,7 +8,7 @@ use Rattle.mir_rules.proofs.Lists.{or_false-left, or_false-right}
 use Rattle.mir_rules.proofs.Depth.{is_deep, not_deep}
 use Rattle.mir_rules.proofs.Destructors.{shape_is}
 use Rattle.mir_semantics.specs.Values.{Value, number, nil, cons, variant, pointer, hole, is_unit, blank_by, blank_of, blank_def, blank}
-use Rattle.mir_renaming.proofs.Memory.{some_bind}
+use Rattle.mir_syntax.proofs.Binds.{some_bind}
 use Rattle.mir_renaming.proofs.Types.{TypeMap, HasTy, holds_by}
 
 -- a tuple

@@ -24,7 +24,8 @@ use Rattle.mir_rules.specs.Same.{same_tree}
 use Rattle.mir_rules.specs.DefinitionRules as def_rules
 use Rattle.mir_rules.specs.Formed.{is_formed, def_formed, outside_formed, function_formed, variant_formed}
 use Rattle.mir_rules.specs.Valid.{Valid}
-use Rattle.mir_rules.proofs.Lists.{bind_some, some_bind, then_some_is, and_true-left, list_all_true-at}
+use Rattle.mir_syntax.proofs.Binds.{bind_some, some_bind}
+use Rattle.mir_rules.proofs.Lists.{then_some_is, and_true-left, list_all_true-at}
 use Rattle.mir_rules.proofs.Same.{same_tree_is}
 use Rattle.mir_rules.proofs.Statements.{StmtTyped}
 use Rattle.mir_rules.proofs.Terminators.{OwnTyped}

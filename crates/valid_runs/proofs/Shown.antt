@@ -1,6 +1,6 @@
 -- What a run from an entry returns holds no reference: its first frame's function stays, and the result of that has a type without any.
 use Rattle.std.proofs.Common.{◌≡◌, refl, sym, ap, ap₂, ◌∙◌, subst, ℕ, zero, suc, Bool, true, false, ◌||◌, ◌==◌, nat_eq, if◌then◌else◌, List, [], ◌∷◌, ◌++◌, length, take, Option, Some, None, slice_get, arith, eq-eqb}
-use Rattle.std.proofs.lemmas.Bool.{not-true}
+use Rattle.std.proofs.lemmas.Bool.{not-true, or_right, or_left}
 use Rattle.mir_syntax.specs.declared.body.Operand.{Operand}
 use Rattle.mir_syntax.specs.declared.body.Callee.{Callee}
 use Rattle.mir_syntax.specs.declared.body.Callee.TheVariants as callee
@@ -11,7 +11,6 @@ use Rattle.mir_syntax.specs.Crate.{TypedBody, TypedBlock, TypedStmt}
 use Rattle.mir_syntax.specs.Shapes.{Shape, struct_fields, first_variant, fields_of, variant_ty, destructor_of, needs_by, any_needs, needs_drop}
 use Rattle.mir_rules.specs.DefinitionRules.{holds}
 use Rattle.mir_rules.proofs.Lists.{or_false-left, or_false-right, and_true-left, and_true-right}
-use Rattle.mir_rules.proofs.Depth.{or_first, or_second}
 use Rattle.mir_rules.proofs.Fixed.{fixed}
 use Rattle.mir_num.specs.Numbers.{wrap, flag}
 use Rattle.mir_semantics.specs.Values.{Value, number, nil, cons, variant, pointer, hole, is_hole, whole}
@@ -19,7 +18,7 @@ use Rattle.mir_semantics.specs.Memory.{Memory, close_frame}
 use Rattle.mir_semantics.specs.Step.{Code, Dest, Visit, Dropping, Control, State, returned, aborted, no_answer, Next, on, stop, fail, Here, only_if, local_addr, store, read_at, go_on, to_block, next_stmt, take_arm, entered, enter, calling, answered, ask, call, work_on, visits_of, visit, visit_unless, visit_if, work_off, destroyed_at, destroyed, return_to, check, finish, perform, step}
 use Rattle.mir_semantics.specs.Run.{Entry, start}
 use Rattle.mir_semantics.specs.Entry.{IsEntry, refers_by, any_refers, refers_of, refers_def, holds_reference, result_and_args}
-use Rattle.mir_renaming.proofs.Memory.{bind_some}
+use Rattle.mir_syntax.proofs.Binds.{bind_some}
 use Rattle.mir_renaming.proofs.Ghosts.{is_plain, Flat}
 use Rattle.mir_renaming.proofs.Types.{TypeMap, HasTy, value_at_ty}
 use Rattle.mir_renaming.proofs.Typed.{ResultTy, ValidCode, Typed, step_typed}
@@ -29,16 +28,16 @@ use Rattle.mir_renaming.proofs.Typed.{ResultTy, ValidCode, Typed, step_typed}
 module _ (g h : ℕ → Bool) where
   refers_by_named : (t : Tree) → ((k : ℕ) → needs_by (λ j. j == k) t ≡ true → g k ≡ h k) → refers_by g t ≡ refers_by h t
   refers_by_named (more t ts) same =
-      ap₂ (λ a b. a || b) (refers_by_named t (λ k e. same k (or_first (needs_by (λ j. j == k) t) (needs_by (λ j. j == k) ts) e)))
-      (refers_by_named ts (λ k e. same k (or_second (needs_by (λ j. j == k) t) (needs_by (λ j. j == k) ts) e)))
+      ap₂ (λ a b. a || b) (refers_by_named t (λ k e. same k (or_left (needs_by (λ j. j == k) t) (needs_by (λ j. j == k) ts) e)))
+      (refers_by_named ts (λ k e. same k (or_right (needs_by (λ j. j == k) t) (needs_by (λ j. j == k) ts) e)))
   refers_by_named (named d) same = same d (eq-eqb d d refl)
   refers_by_named t same = refl
 
   any_refers_named : (ts : List Tree) → ((k : ℕ) → any_needs (λ j. j == k) ts ≡ true → g k ≡ h k) → any_refers g ts ≡ any_refers h ts
   any_refers_named [] same = refl
   any_refers_named (t ∷ ts) same =
-      ap₂ (λ a b. a || b) (refers_by_named t (λ k e. same k (or_first (needs_by (λ j. j == k) t) (any_needs (λ j. j == k) ts) e)))
-      (any_refers_named ts (λ k e. same k (or_second (needs_by (λ j. j == k) t) (any_needs (λ j. j == k) ts) e)))
+      ap₂ (λ a b. a || b) (refers_by_named t (λ k e. same k (or_left (needs_by (λ j. j == k) t) (any_needs (λ j. j == k) ts) e)))
+      (any_refers_named ts (λ k e. same k (or_right (needs_by (λ j. j == k) t) (any_needs (λ j. j == k) ts) e)))
 
 module _ (D : List Shape) (apart : (d : ℕ) → holds D (length D) d d ≡ false) where
   abbrev below : ℕ → Bool

@@ -10,9 +10,10 @@ use Rattle.mir_syntax.specs.Crate.{TypedRvalue, «use», binary, overflow, unary
 use Rattle.mir_syntax.specs.Crate as rvalue
 use Rattle.mir_semantics.specs.Values.{Value, blank}
 use Rattle.mir_semantics.specs.Memory.{Memory, local_at, open_frame, write}
-use Rattle.mir_semantics.specs.Step.{dest_of, Here, Dest, Dropping, Control, State, Next, on, local_addr, read_at, new_slots, has_deref, go_on, to_block, next_stmt, take_arm, destroyed, return_to, begun, finish, perform, step}
+use Rattle.mir_semantics.specs.Step.{dest_of, Here, Dest, Dropping, Control, State, Next, on, local_addr, read_at, new_slots, go_on, to_block, next_stmt, take_arm, destroyed, return_to, begun, finish, perform, step}
+use Rattle.mir_syntax.specs.Parts.{has_deref}
 use Rattle.mir_renaming.specs.Renaming.{Renaming, Sub, SomeRel}
-use Rattle.mir_renaming.proofs.Memory.{bind_some, some_bind}
+use Rattle.mir_syntax.proofs.Binds.{bind_some, some_bind}
 use Rattle.mir_renaming.proofs.Statements as text
 use Rattle.mir_renaming.proofs.Statements.{Linked, DestRel, ValuesRel}
 use Rattle.mir_renaming.proofs.Types.{TypeMap, AddrTy, HasTy, resolve_ty, value_at_ty, blank_fits, dest_ty, StmtTy}
@@ -38,7 +39,7 @@ use Rattle.mir_relate.proofs.Others.{read_at_whole}
 use Rattle.mir_relate.proofs.BodyLaw.{goes_answer}
 use Rattle.mir_relate.specs.Simulation.{keep_on}
 use Rattle.mir_relate.proofs.Own as own
-use Rattle.cfg_simplify.proofs.refines.Jumps.{SameTerm, To, Meets, BodyJumps}
+use Rattle.cfg_simplify.proofs.refines.Jumps.{SameTerm, Meets, BodyJumps}
 use Rattle.mir_relate.proofs.Itself as itself
 use Rattle.mir_renaming.proofs.Among.{all_operand, all_operands, all_rvalue}
 use Rattle.mir_renaming.proofs.Slots.{slots_rel, value_in}

@@ -11,7 +11,7 @@ use Rattle.mir_syntax.specs.declared.body.Term.TheVariants.{Unreachable}
 use Rattle.mir_syntax.specs.Crate.{TypedStmt, TypedBlock, TypedBody, Crate}
 use Rattle.mir_syntax.specs.Shapes.{shapes_of}
 use Rattle.mir_syntax.proofs.Lists.{map_there, map_back}
-use Rattle.mir_rules.specs.Parts as parts
+use Rattle.mir_syntax.specs.Parts as parts
 use Rattle.mir_rules.specs.Formed.{call_formed, term_formed, body_formed}
 use Rattle.mir_rules.specs.Valid.{at_function, ValidAt}
 use Rattle.mir_rules.proofs.Lists.{and_true-left}

@@ -17,7 +17,7 @@ use Rattle.mir_syntax.specs.declared.body.Body.{Body}
 use Rattle.mir_syntax.specs.declared.types.TyId.{TyId}
 use Rattle.mir_syntax.specs.Tree.{Tree, at_id}
 use Rattle.mir_syntax.specs.Crate.{TypedStmt, assign, TypedBlock, TypedBody, rvalue_of, stmt_of, block_of, body_of}
-use Rattle.mir_rules.specs.Parts.{operand_places}
+use Rattle.mir_syntax.specs.Parts.{operand_places}
 use Rattle.liveness.specs.Live.{place_local, operand_locals}
 use Rattle.liveness.proofs.Carried.{operands_locals, reads_same}
 use Rattle.trim_locals.specs.Trimmed.{stmt_uses, term_uses, block_uses, used_locals, used_marks, self, new_number, new_numbers, number_in, renamed_rvalue, renamed_stmt, renamed_term, marked_items, stays, trimmed_block, trimmed}

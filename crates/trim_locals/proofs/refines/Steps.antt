@@ -11,9 +11,11 @@ use Rattle.mir_syntax.specs.Crate.{TypedRvalue, «use», binary, overflow, unary
 use Rattle.mir_syntax.specs.Crate as rvalue
 use Rattle.mir_semantics.specs.Values.{Addr, Value, blank}
 use Rattle.mir_semantics.specs.Memory.{Memory, local_at, open_frame, write}
-use Rattle.mir_semantics.specs.Step.{Here, Dest, Dropping, Control, State, Next, on, local_addr, read_at, set_blank, new_slots, has_deref, go_on, to_block, next_stmt, take_arm, destroyed, return_to, begun, finish, exec, perform, step}
+use Rattle.mir_semantics.specs.Step.{Here, Dest, Dropping, Control, State, Next, on, local_addr, read_at, set_blank, new_slots, go_on, to_block, next_stmt, take_arm, destroyed, return_to, begun, finish, exec, perform, step}
+use Rattle.mir_syntax.specs.Parts.{has_deref}
 use Rattle.mir_renaming.specs.Renaming.{Renaming, Sub}
-use Rattle.mir_renaming.proofs.Memory.{bind_some, some_bind, write_other, write_source, write_back}
+use Rattle.mir_syntax.proofs.Binds.{bind_some, some_bind}
+use Rattle.mir_renaming.proofs.Memory.{write_other, write_source, write_back}
 use Rattle.mir_renaming.proofs.Statements as text
 use Rattle.mir_renaming.proofs.Statements.{Linked, DestRel}
 use Rattle.mir_renaming.proofs.Types.{TypeMap, AddrTy, HasTy, resolve_ty, value_at_ty, blank_fits, dest_ty, StmtTy}

@@ -2,7 +2,7 @@ use Rattle.std.proofs.Common.{◌≡◌, ◌&&◌, sym, ap, ◌∙◌, List, nat
 use Rattle.std.specs.List.{list_all}
 use Rattle.mir_syntax.specs.declared.body.Arm.{Arm}
 use Rattle.mir_syntax.specs.declared.body.Term.{Term}
-use Rattle.mir_rules.specs.Parts.{targets}
+use Rattle.mir_syntax.specs.Parts.{targets}
 use Rattle.flow_rows.specs.Ready.{are_below, arm_fits}
 use Rattle.flow_rows.proofs.Fits.{arms_below}
 use Rattle.flow_rows.proofs.ready.edges_fit.Goals as goal

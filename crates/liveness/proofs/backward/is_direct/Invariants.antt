@@ -1,5 +1,5 @@
 use Rattle.std.proofs.Common.{◌≡◌, drop}
-use Rattle.mir_rules.specs.Parts.{is_direct}
+use Rattle.mir_syntax.specs.Parts.{is_direct}
 use Rattle.liveness.proofs.backward.is_direct.Given as goal
 
 abbrev pub invariant-loop-proj : goal.invariant-loop-proj

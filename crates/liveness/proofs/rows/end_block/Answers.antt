@@ -3,7 +3,7 @@ use Rattle.bit_rows.specs.Rows.{row_at, marked}
 use Rattle.mir_syntax.specs.Tree.{at_id, trees_of}
 use Rattle.mir_syntax.specs.Crate.{crate_of}
 use Rattle.mir_syntax.specs.Shapes.{shapes_of}
-use Rattle.mir_rules.specs.Parts.{targets}
+use Rattle.mir_syntax.specs.Parts.{targets}
 use Rattle.liveness.specs.Live.{term_reads, term_fills}
 use Rattle.liveness.specs.Rows.{cleared, or_rows}
 use Rattle.liveness.proofs.Carried.{row_then}

@@ -7,7 +7,7 @@ use Rattle.mir_syntax.specs.Crate.{TypedBlock, crate_of, body_of, block_of}
 use Rattle.mir_syntax.specs.Shapes.{shapes_of}
 use Rattle.mir_syntax.specs.declared.body.Block.{Block}
 use Rattle.mir_syntax.specs.declared.body.Term.TheVariants.{Unreachable}
-use Rattle.mir_rules.specs.Parts.{targets}
+use Rattle.mir_syntax.specs.Parts.{targets}
 use Rattle.mir_cfg.specs.Paths.{block_term}
 use Rattle.liveness.specs.Live.{term_reads, term_fills}
 use Rattle.liveness.specs.Rows.{blank, cleared, or_rows, end_row, block_at, no_block}

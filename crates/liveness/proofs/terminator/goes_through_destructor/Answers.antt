@@ -3,12 +3,11 @@ use Rattle.std.specs.Option.{option_map}
 use Rattle.std.proofs.lemmas.Option.{slice_get-map}
 use Rattle.mir_syntax.specs.Tree.{at_id, trees_of}
 use Rattle.mir_syntax.specs.Crate.{crate_of}
-use Rattle.mir_syntax.specs.Shapes.{shapes_of, destructor_of, proj_ty}
+use Rattle.mir_syntax.specs.Shapes.{shapes_of, destructor_of, proj_ty, path_through}
 use Rattle.mir_syntax.proofs.InTable.{local-in-table}
 use Rattle.mir_syntax.specs.declared.body.Proj.{Proj}
 use Rattle.mir_syntax.specs.declared.body.Proj.TheVariants as proj
-use Rattle.mir_rules.specs.BodyRules.{path_through}
-use Rattle.mir_rules.proofs.Destructors.{through_none}
+use Rattle.mir_syntax.proofs.Places.{through_none}
 use Rattle.liveness.proofs.Destructors.{is_some-map, through_here, through_nowhere}
 use Rattle.liveness.proofs.terminator.goes_through_destructor.Goals as goal
 

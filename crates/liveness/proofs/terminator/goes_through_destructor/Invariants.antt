@@ -1,9 +1,8 @@
 use Rattle.std.proofs.Common.{◌≡◌, ◌<◌, true, Some, drop, length}
 use Rattle.mir_syntax.specs.Tree.{at_id, trees_of}
 use Rattle.mir_syntax.specs.Crate.{crate_of, body_of}
-use Rattle.mir_syntax.specs.Shapes.{shapes_of}
-use Rattle.mir_rules.specs.Parts.{is_direct}
-use Rattle.mir_rules.specs.BodyRules.{path_through, goes_through_destructor}
+use Rattle.mir_syntax.specs.Shapes.{shapes_of, path_through, goes_through_destructor}
+use Rattle.mir_syntax.specs.Parts.{is_direct}
 use Rattle.liveness.proofs.terminator.goes_through_destructor.Given as goal
 
 abbrev pub invariant-loop-proj : goal.invariant-loop-proj

@@ -3,7 +3,7 @@ use Rattle.std.proofs.lemmas.List.{get_or-map}
 use Rattle.mir_syntax.specs.Tree.{Tree}
 use Rattle.mir_syntax.specs.Crate.{TypedBlock, block_of}
 use Rattle.mir_syntax.specs.declared.body.Block.{Block}
-use Rattle.mir_rules.specs.Parts.{targets}
+use Rattle.mir_syntax.specs.Parts.{targets}
 use Rattle.liveness.specs.Rows.{block_at, no_block, IsTurned}
 use Rattle.liveness.proofs.Filling.{turned_more}
 use Rattle.liveness.proofs.turned.turned_edges.Goals as goal

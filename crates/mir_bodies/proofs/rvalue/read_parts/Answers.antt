@@ -1,4 +1,5 @@
 use Rattle.std.proofs.Common.{List, map, ap, sym, ◌∙◌}
+use Rattle.std.proofs.lemmas.Simd.{map-map}
 use Rattle.mir_syntax.specs.declared.body.Operand.{Operand}
 use Rattle.mir_text.specs.GrammarPlaces.{OperandRule, PlaceRule}
 use Rattle.mir_text.specs.GrammarStatements.{NamedRule}
@@ -9,7 +10,7 @@ use Rattle.mir_tree.specs.Bodies.{operand_rule, named_rule}
 use Rattle.mir_resolve.proofs.Listed.{items_listed}
 use Rattle.mir_resolve.proofs.PartNotes.{nothing_went}
 use Rattle.mir_bodies.specs.Operands.{text_operand, text_codes, text_places, behind_name}
-use Rattle.mir_bodies.proofs.Reading.{went_as, each_listed, map-map}
+use Rattle.mir_bodies.proofs.Reading.{went_as, each_listed}
 use Rattle.mir_bodies.proofs.rvalue.read_parts.Goals as goal
 
 pub returns-in-Plain-clause-went : goal.returns-in-Plain-clause-went

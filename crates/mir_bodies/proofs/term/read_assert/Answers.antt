@@ -1,4 +1,5 @@
 use Rattle.std.proofs.Common.{map, ap, ap₂, sym, ◌∙◌}
+use Rattle.std.proofs.lemmas.Simd.{map-map}
 use Rattle.mir_syntax.specs.declared.body.Operand.{Operand}
 use Rattle.mir_syntax.specs.declared.body.Term.TheVariants as term
 use Rattle.mir_text.specs.GrammarPlaces.{OperandRule}
@@ -7,7 +8,7 @@ use Rattle.mir_text.specs.NamedBodies.{operand_named}
 use Rattle.mir_text.specs.NameFaults.{operand_codes, concat, each}
 use Rattle.mir_text.specs.ReadLines.{any_wrong, operand_places}
 use Rattle.mir_tree.specs.Bodies.{operand_rule}
-use Rattle.mir_bodies.proofs.Reading.{went_then, went_as, wrong_two, map-map}
+use Rattle.mir_bodies.proofs.Reading.{went_then, went_as, wrong_two}
 use Rattle.mir_bodies.proofs.term.read_assert.Goals as goal
 
 pub returns-clause-term : goal.returns-clause-term

@@ -1,9 +1,10 @@
 use Rattle.std.proofs.Common.{ap, ap₂, sym, ◌∙◌}
+use Rattle.std.proofs.lemmas.Simd.{map-map}
 use Rattle.mir_syntax.specs.declared.body.Term.TheVariants as term
 use Rattle.mir_text.specs.NamedBodies.{arm_named}
 use Rattle.mir_text.specs.NameFaults.{arm_codes, concat}
 use Rattle.mir_tree.specs.Bodies.{arm_rule}
-use Rattle.mir_bodies.proofs.Reading.{went_then, went_as, map-map}
+use Rattle.mir_bodies.proofs.Reading.{went_then, went_as}
 use Rattle.mir_bodies.proofs.term.read_switch.Goals as goal
 
 pub returns-clause-term : goal.returns-clause-term

@@ -3,7 +3,7 @@ use Rattle.std.specs.List.{filter, flat_map, range_with_len, All}
 use Rattle.std.proofs.lemmas.List.{length-replicate, get_or-replicate, length-map}
 use Rattle.std.proofs.lemmas.List.FromFn.{fill_by_all}
 use Rattle.mir_syntax.specs.declared.body.Block.{Block}
-use Rattle.mir_rules.specs.Parts.{targets}
+use Rattle.mir_syntax.specs.Parts.{targets}
 use Rattle.mir_cfg.specs.Paths.{block_term, terms_of, exits, edges_between, sources}
 use Rattle.mir_cfg.proofs.Sources.{sources_more, exits_at}
 use Rattle.mir_cfg.proofs.edges.preds.Goals as goal

@@ -3,7 +3,7 @@ use Rattle.std.specs.List.{All}
 use Rattle.std.proofs.lemmas.List.{length-map, nil_from_length}
 use Rattle.bit_rows.specs.Rows.{row_at, HasSize}
 use Rattle.mir_syntax.specs.declared.body.Block.{Block}
-use Rattle.mir_rules.specs.Parts.{targets}
+use Rattle.mir_syntax.specs.Parts.{targets}
 use Rattle.mir_cfg.specs.Paths.{block_term, exits, Closed}
 use Rattle.mir_cfg.specs.Search.{IsSearch, Finds}
 use Rattle.mir_cfg.proofs.Sources.{exits_at}

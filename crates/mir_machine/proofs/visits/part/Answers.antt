@@ -1,5 +1,5 @@
 use Rattle.std.proofs.Common.{subst, sym, IsTrue, rules}
-use Rattle.mir_rules.specs.Formed.{path_formed}
+use Rattle.mir_syntax.specs.Parts.{path_formed}
 use Rattle.mir_machine.proofs.Visiting.{formed_field}
 use Rattle.mir_machine.proofs.visits.part.Goals as goal
 

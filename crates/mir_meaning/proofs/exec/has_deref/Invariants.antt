@@ -1,5 +1,5 @@
 use Rattle.std.proofs.Common.{◌≡◌, length}
-use Rattle.mir_semantics.specs.Step.{has_deref}
+use Rattle.mir_syntax.specs.Parts.{has_deref}
 use Rattle.mir_meaning.proofs.exec.has_deref.Given as goal
 
 abbrev pub invariant-loop-first : goal.invariant-loop-first

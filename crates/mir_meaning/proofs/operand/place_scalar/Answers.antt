@@ -1,7 +1,7 @@
 use Rattle.std.proofs.Common.{◌∙◌, sym}
 use Rattle.mir_semantics.specs.Step.{scalar_ty_of, operand_ty, scalar_in}
 use Rattle.mir_meaning.specs.Programs.{type_in}
-use Rattle.mir_meaning.proofs.Binds.{bind_at, bind_gone}
+use Rattle.mir_syntax.proofs.Binds.{bind_at, bind_gone}
 use Rattle.mir_meaning.proofs.operand.place_scalar.Goals as goal
 
 pub returns-in_default-clause-copied : goal.returns-in_default-clause-copied

@@ -1,6 +1,6 @@
 use Rattle.std.proofs.Common.{◌≡◌, ◌∙◌, ◌+◌, ◌++◌, ◌∷◌, [], IsTrue, drop, refl, sym, ap, subst}
 use Rattle.std.proofs.lemmas.Option.{IfSome_then}
-use Rattle.mir_rules.specs.Formed.{path_formed}
+use Rattle.mir_syntax.specs.Parts.{path_formed}
 use Rattle.mir_semantics.specs.Memory.{walk as along}
 use Rattle.mir_meaning.specs.Views.{memory_of}
 use Rattle.mir_meaning.specs.Spots.{spot_of}

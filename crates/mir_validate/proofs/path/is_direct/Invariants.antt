@@ -1,5 +1,5 @@
 use Rattle.std.proofs.Common.{◌≡◌, length}
-use Rattle.mir_rules.specs.Parts.{is_direct}
+use Rattle.mir_syntax.specs.Parts.{is_direct}
 use Rattle.mir_validate.proofs.path.is_direct.Given as goal
 
 abbrev pub invariant-projs : goal.invariant-projs

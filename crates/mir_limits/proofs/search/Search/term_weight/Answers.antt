@@ -3,7 +3,8 @@ use Rattle.mir_syntax.specs.declared.body.Term.{Term}
 use Rattle.mir_syntax.specs.Tree.{Tree, at_id, trees_of}
 use Rattle.mir_syntax.specs.Crate.{crate_of, body_of}
 use Rattle.mir_syntax.specs.Shapes.{shapes_of, place_ty}
-use Rattle.mir_rules.specs.Formed.{path_formed, term_formed}
+use Rattle.mir_syntax.specs.Parts.{path_formed}
+use Rattle.mir_rules.specs.Formed.{term_formed}
 use Rattle.mir_rules.specs.Limits.{weight_of, term_weight}
 use Rattle.type_sizes.specs.UpTo.{Tells}
 use Rattle.mir_rules.proofs.Whole.{whole_place}

@@ -6,7 +6,7 @@ use Rattle.mir_syntax.specs.Tree.{trees_of}
 use Rattle.mir_syntax.specs.Crate.{crate_of}
 use Rattle.mir_rules.proofs.Lists.{and_true-right}
 use Rattle.mir_validate.specs.Inside.{shapes, local_types}
-use Rattle.mir_validate.specs.Terms.{block_whole}
+use Rattle.mir_validate.specs.Terms.{block_ready}
 use Rattle.mir_validate.specs.Walk.{place_of, block_broken, blocks_broken}
 use Rattle.mir_validate.proofs.Faulty.{one_more, no_blocks, ended}
 use Rattle.mir_validate.proofs.inside.Inside.blocks_fault.Goals as goal
@@ -28,7 +28,7 @@ walk-preserved c =
     let whole = rw c.in-Some.ensures at c.walk.invariant.1 in
     let below = rw c.in-Some.ensures at c.walk.invariant.2 in (
       rw c.sooner-found.ensures next,
-      and_true-right (block_whole C k) (list_all (block_whole C) others) whole,
+      and_true-right (block_ready C k) (list_all (block_ready C) others) whole,
       and_true-right (block_below (length p.types) k) (list_all (block_below (length p.types)) others) below,
     )
 

@@ -7,7 +7,8 @@ use Rattle.mir_syntax.specs.Crate.{crate_of}
 use Rattle.mir_text.specs.NameFaults.{first_fault}
 use Rattle.mir_rules.proofs.Lists.{and_true-right}
 use Rattle.mir_validate.specs.Inside.{shapes, typed}
-use Rattle.mir_validate.proofs.FormedParts.{whole_blocks, formed_blocks}
+use Rattle.mir_rules.proofs.WholeParts.{formed_blocks}
+use Rattle.mir_validate.proofs.FormedParts.{ready_blocks}
 use Rattle.mir_validate.proofs.Located.{body_located}
 use Rattle.mir_validate.proofs.inside.Inside.body_fault.Goals as goal
 
@@ -15,7 +16,7 @@ pub blocks_fault-requires-clause-formed : goal.blocks_fault-requires-clause-form
 blocks_fault-requires-clause-formed c =
     let p = c.args.self.now.program.now in
     let b = c.args.self.now.body.now in
-    rw c.as_slice.ensures (whole_blocks (crate_of p) (typed p b) (trees_of p.types) b.blocks (formed_blocks (crate_of p) (typed p b) c.requires.formed))
+    rw c.as_slice.ensures (ready_blocks (crate_of p) (typed p b) (trees_of p.types) b.blocks (formed_blocks (crate_of p) (typed p b) c.requires.formed))
 
 pub blocks_fault-requires-clause-below : goal.blocks_fault-requires-clause-below
 blocks_fault-requires-clause-below c =

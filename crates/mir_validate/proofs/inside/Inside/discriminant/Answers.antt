@@ -1,12 +1,12 @@
 use Rattle.std.proofs.Common.{sym, true, false, ◌∙◌}
 use Rattle.mir_syntax.specs.Tree.{trees_of, at_id}
-use Rattle.mir_rules.proofs.Lists.{some_bind}
+use Rattle.mir_syntax.proofs.Binds.{some_bind, bind_gone}
 use Rattle.mir_validate.specs.Inside.{shapes}
-use Rattle.mir_validate.proofs.PartTypes.{none_bind, discriminant_is}
+use Rattle.mir_validate.proofs.PartTypes.{discriminant_is}
 use Rattle.mir_validate.proofs.inside.Inside.discriminant.Goals as goal
 
 pub returns-in_err-id-clause-ty : goal.returns-in_err-id-clause-ty
-returns-in_err-id-clause-ty c = rw c.from_residual.ensures (sym (none_bind _ _ (sym c.in_err-id.ensures.ty)))
+returns-in_err-id-clause-ty c = rw c.from_residual.ensures (sym (bind_gone _ _ (sym c.in_err-id.ensures.ty)))
 
 pub returns-then-is_enum-clause-ty : goal.returns-then-is_enum-clause-ty
 returns-then-is_enum-clause-ty c =

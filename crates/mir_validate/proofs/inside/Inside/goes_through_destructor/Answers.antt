@@ -1,7 +1,7 @@
 use Rattle.std.proofs.Common.{Some, None, sym, ◌∙◌}
 use Rattle.mir_syntax.specs.Tree.{trees_of}
 use Rattle.mir_syntax.proofs.InTable.{local-in-table}
-use Rattle.mir_rules.proofs.Destructors.{through_none}
+use Rattle.mir_syntax.proofs.Places.{through_none}
 use Rattle.mir_validate.specs.Inside.{shapes}
 use Rattle.mir_validate.proofs.PathSteps.{through_local}
 use Rattle.mir_validate.proofs.inside.Inside.goes_through_destructor.Goals as goal

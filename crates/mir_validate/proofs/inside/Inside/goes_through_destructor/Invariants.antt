@@ -1,7 +1,7 @@
 use Rattle.std.proofs.Common.{◌≡◌, ◌<◌, IsTrue, Some, length}
 use Rattle.mir_syntax.specs.Tree.{at_id, trees_of}
-use Rattle.mir_rules.specs.Formed.{path_formed}
-use Rattle.mir_rules.specs.BodyRules.{path_through, goes_through_destructor}
+use Rattle.mir_syntax.specs.Parts.{path_formed}
+use Rattle.mir_syntax.specs.Shapes.{path_through, goes_through_destructor}
 use Rattle.mir_validate.specs.Inside.{shapes, local_types}
 use Rattle.mir_validate.proofs.inside.Inside.goes_through_destructor.Given as goal
 

@@ -3,7 +3,8 @@ use Rattle.std.specs.List.{list_all}
 use Rattle.mir_syntax.specs.Tree.{trees_of}
 use Rattle.mir_syntax.specs.Ids.{field_below}
 use Rattle.mir_validate.specs.Inside.{shapes, local_types}
-use Rattle.mir_validate.specs.Codes.{operand_whole, have_types, field_tree}
+use Rattle.mir_syntax.specs.Parts.{operand_whole}
+use Rattle.mir_validate.specs.Codes.{have_types, field_tree}
 use Rattle.mir_validate.proofs.inside.Inside.have_field_types.Given as goal
 
 abbrev pub invariant-operands : goal.invariant-operands

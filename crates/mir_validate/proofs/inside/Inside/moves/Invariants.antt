@@ -2,7 +2,7 @@ use Rattle.std.proofs.Common.{◌≡◌, ◌||◌, IsTrue, length}
 use Rattle.std.specs.List.{list_all}
 use Rattle.mir_rules.specs.BodyRules.{breaks_v21, breaks_v22}
 use Rattle.mir_validate.specs.Inside.{shapes, local_types}
-use Rattle.mir_validate.specs.Codes.{operand_whole}
+use Rattle.mir_syntax.specs.Parts.{operand_whole}
 use Rattle.mir_validate.proofs.inside.Inside.moves.Given as goal
 
 abbrev pub invariant-operands : goal.invariant-operands

@@ -1,7 +1,8 @@
 use Rattle.std.proofs.Common.{◌≡◌, IsTrue, length}
 use Rattle.std.specs.List.{list_all, list_any}
 use Rattle.mir_validate.specs.Inside.{shapes, local_types}
-use Rattle.mir_validate.specs.Codes.{operand_whole, operand_untyped}
+use Rattle.mir_syntax.specs.Parts.{operand_whole}
+use Rattle.mir_validate.specs.Codes.{operand_untyped}
 use Rattle.mir_validate.proofs.inside.Inside.operands_untyped.Given as goal
 
 abbrev pub invariant-operands : goal.invariant-operands

@@ -7,7 +7,7 @@ use Rattle.mir_syntax.specs.Crate.{stmt_of}
 use Rattle.mir_rules.specs.Broken.{statement_broken}
 use Rattle.mir_rules.proofs.Lists.{and_true-right}
 use Rattle.mir_validate.specs.Inside.{shapes, local_types}
-use Rattle.mir_validate.specs.Codes.{stmt_whole}
+use Rattle.mir_syntax.specs.Parts.{stmt_whole}
 use Rattle.mir_validate.specs.Walk.{place_of, at_line, on_line, statements_broken}
 use Rattle.mir_validate.proofs.Faulty.{statement_ascends, line_first, one_more, no_stmts, ended}
 use Rattle.mir_validate.proofs.inside.Inside.statements_fault.Goals as goal

@@ -4,7 +4,7 @@ use Rattle.std.specs.Option.{option_map}
 use Rattle.mir_syntax.specs.Tree.{trees_of}
 use Rattle.mir_text.specs.NameFaults.{first_fault}
 use Rattle.mir_syntax.specs.Ids.{stmt_below}
-use Rattle.mir_validate.specs.Codes.{stmt_whole}
+use Rattle.mir_syntax.specs.Parts.{stmt_whole}
 use Rattle.mir_validate.specs.Inside.{shapes, local_types}
 use Rattle.mir_validate.specs.Walk.{place_of, statements_broken}
 use Rattle.mir_limits.specs.Answer.{either}

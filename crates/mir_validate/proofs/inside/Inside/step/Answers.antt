@@ -1,6 +1,6 @@
 use Rattle.std.proofs.Common.{refl}
 use Rattle.mir_syntax.specs.Tree.{trees_of, at_id}
-use Rattle.mir_rules.proofs.Destructors.{through_none}
+use Rattle.mir_syntax.proofs.Places.{through_none}
 use Rattle.mir_validate.specs.Inside.{shapes}
 use Rattle.mir_validate.proofs.PathSteps.{through_variant}
 use Rattle.mir_validate.proofs.inside.Inside.step.Goals as goal

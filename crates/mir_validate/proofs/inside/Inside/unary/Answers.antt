@@ -1,10 +1,9 @@
 use Rattle.std.proofs.Common.{sym, refl, ◌∙◌}
-use Rattle.mir_rules.proofs.Lists.{some_bind}
-use Rattle.mir_validate.proofs.PartTypes.{none_bind}
+use Rattle.mir_syntax.proofs.Binds.{some_bind, bind_gone}
 use Rattle.mir_validate.proofs.inside.Inside.unary.Goals as goal
 
 pub returns-in_err-a-clause-ty : goal.returns-in_err-a-clause-ty
-returns-in_err-a-clause-ty c = rw c.from_residual.ensures (sym (none_bind _ _ (sym c.in_err-a.ensures.ty)))
+returns-in_err-a-clause-ty c = rw c.from_residual.ensures (sym (bind_gone _ _ (sym c.in_err-a.ensures.ty)))
 
 pub returns-clause-ty : goal.returns-clause-ty
 returns-clause-ty c = c.unary_ty.ensures.ty ∙ sym (some_bind _ (sym c.in_ok-a.ensures.ty) refl)
