@@ -8,7 +8,8 @@ use Rattle.mir_syntax.specs.declared.body.Body.{Body}
 use Rattle.mir_syntax.specs.Table.{all_below}
 use Rattle.mir_syntax.specs.Ids.{stmt_below, block_below, body_below}
 use Rattle.cfg_simplify.specs.Simple.{numbers, landing, joined, stays, line}
-use Rattle.cfg_simplify.specs.Code.{block_term, bare_goto, hollow, stmts_in, bare_hopped_block, bare_hopped, bare_whole, bare_regrouped}
+use Rattle.mir_cfg.specs.Paths.{block_term}
+use Rattle.cfg_simplify.specs.Code.{bare_goto, hollow, stmts_in, bare_hopped_block, bare_hopped, bare_whole, bare_regrouped}
 
 first : (a b : Bool) → (a && b) ≡ true → a ≡ true
 first true b e = refl

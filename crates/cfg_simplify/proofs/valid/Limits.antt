@@ -12,7 +12,8 @@ use Rattle.mir_syntax.specs.Crate.{TypedBlock, TypedBody, Crate}
 use Rattle.mir_rules.specs.Limits.{term_weight, block_weight, body_weight, is_call, ends_in_call, blocks_count, locals_count}
 use Rattle.mir_rules.specs.Valid.{at_function, ValidAt}
 use Rattle.mir_rules.proofs.ValidCrates.{body_formed_at, keeps, holds_body}
-use Rattle.cfg_simplify.specs.Edges.{retarget, Closed}
+use Rattle.mir_cfg.specs.Paths.{Closed}
+use Rattle.cfg_simplify.specs.Edges.{retarget}
 use Rattle.cfg_simplify.specs.Simple.{numbers, onward, walk, landing, empty_goto, hopped_block, hopped, joined, stays, line, term_of, whole_block, regrouped, simple}
 use Rattle.cfg_simplify.specs.Code.{at}
 use Rattle.cfg_simplify.proofs.equal.Lines.{last-on-line, apart}
