@@ -71,7 +71,7 @@ module _ (blocks left : List Block) (i : ℕ) (stay : stays (map block_term bloc
   pub last-stands : get_or left (walk (onward (joined (map block_term blocks))) (length blocks) i) hollow ≡ get_or blocks (walk (onward (joined (map block_term blocks))) (length blocks) i) hollow
   last-stands = on-line-stands (walk (onward (joined (map block_term blocks))) (length blocks) i) (last-on-line (joined (map block_term blocks)) (length blocks) i)
 
-filter-step : (keep : ℕ → Bool) (i : ℕ) → filter keep (numbers (i + 1)) ≡ filter keep (numbers i) ++ cond (keep i) (i ∷ []) []
+pub filter-step : (keep : ℕ → Bool) (i : ℕ) → filter keep (numbers (i + 1)) ≡ filter keep (numbers i) ++ cond (keep i) (i ∷ []) []
 filter-step keep i = ap (filter keep) (numbers_push i) ∙ filter-append keep (numbers i) (i ∷ [])
 
 pub kept-skip : (blocks : List Block) (keep : ℕ → Bool) (f : ℕ → Block) (i : ℕ) (kept : List Block) → keep i ≡ false → kept ≡ map f (filter keep (numbers i)) → kept ≡ map f (filter keep (numbers (i + 1)))
