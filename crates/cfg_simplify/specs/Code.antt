@@ -1,8 +1,7 @@
 -- What the parts of the code are said by: blocks as they stand in a body, with ids.
-use Rattle.std.specs.Prelude.{ℕ, ◌+◌, min, Bool, true, false, ◌==◌, ◌&&◌, not, cond, List, [], ◌∷◌, ◌++◌, map, length, get_or, set, Option, None, Some, ◌<◌, ◌≡◌}
+use Rattle.std.specs.Prelude.{ℕ, ◌+◌, min, Bool, false, ◌==◌, ◌&&◌, not, cond, List, [], ◌∷◌, map, length, get_or, set, Option, None, Some, ◌<◌, ◌≡◌}
 use Rattle.std.specs.List.{filter, flat_map, list_any}
 use Rattle.mir_syntax.specs.declared.body.Stmt.{Stmt}
-use Rattle.mir_syntax.specs.declared.body.Term.{Term}
 use Rattle.mir_syntax.specs.declared.body.Term.TheVariants.{Unreachable}
 use Rattle.mir_syntax.specs.declared.body.Block.{Block}
 use Rattle.mir_cfg.specs.Paths.{block_term}

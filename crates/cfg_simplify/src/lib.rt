@@ -26,10 +26,9 @@ mod laws;
 mod reach;
 mod regroup;
 
-pub use laws::{simple_refines, simple_stays_valid};
-
 use crate::reach::reached_blocks;
 use crate::regroup::regrouped;
+pub use laws::{simple_refines, simple_stays_valid};
 use mir_syntax::{Body, OutOfMemory, Program};
 use std::alloc::Global;
 

@@ -1,16 +1,14 @@
 -- The ids of a cleaned body lie in the table where the body's do.
-use Rattle.std.proofs.Common.{◌≡◌, refl, ap, ap₂, ◌∙◌, ℕ, zero, suc, Bool, true, false, ◌&&◌, List, [], ◌∷◌, ◌++◌, map, length, get_or, arith}
+use Rattle.std.proofs.Common.{◌≡◌, refl, ap, ap₂, ◌∙◌, ℕ, zero, suc, Bool, true, ◌&&◌, List, [], ◌∷◌, ◌++◌, map, length}
 use Rattle.std.specs.List.{filter, flat_map, list_all}
 use Rattle.mir_syntax.specs.declared.types.TyId.{TyId}
-use Rattle.mir_syntax.specs.declared.body.Stmt.{Stmt}
 use Rattle.mir_syntax.specs.declared.body.Block.{Block}
-use Rattle.mir_syntax.specs.declared.body.Body.{Body}
 use Rattle.mir_syntax.specs.Table.{all_below}
 use Rattle.mir_syntax.specs.Ids.{stmt_below, block_below, body_below}
 use Rattle.mir_rules.proofs.Lists.{and_true-left, and_true-right}
 use Rattle.cfg_simplify.specs.Simple.{numbers, landing, joined, stays, line}
 use Rattle.mir_cfg.specs.Paths.{block_term}
-use Rattle.cfg_simplify.specs.Code.{bare_goto, hollow, stmts_in, bare_hopped_block, bare_hopped, bare_whole, bare_regrouped}
+use Rattle.cfg_simplify.specs.Code.{bare_goto, stmts_in, bare_hopped_block, bare_hopped, bare_whole, bare_regrouped}
 
 all_append : {A : Type 0} (p : A → Bool) (xs ys : List A) → list_all p xs ≡ true → list_all p ys ≡ true → list_all p (xs ++ ys) ≡ true
 all_append p [] ys h k = k

@@ -1,5 +1,5 @@
 -- The landings that the code finds are the defined ones.
-use Rattle.std.proofs.Common.{◌≡◌, ℕ, ◌<◌, ◌≤◌, List, [], ◌∷◌, map, length, get_or, Option, is_some, inl, inr, sym, ap, ◌∙◌, arith}
+use Rattle.std.proofs.Common.{◌≡◌, ℕ, ◌<◌, List, [], ◌∷◌, map, length, get_or, Option, is_some, inl, inr, sym, ap, ◌∙◌, arith}
 use Rattle.std.specs.List.{All}
 use Rattle.std.proofs.lemmas.List.{length-map, same_lists, get_or-map, get_or_past}
 use Rattle.std.proofs.lemmas.Bool.{cond_both, cases_lt}

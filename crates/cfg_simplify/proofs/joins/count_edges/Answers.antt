@@ -1,4 +1,4 @@
-use Rattle.std.proofs.Common.{ap, ◌∙◌, length}
+use Rattle.std.proofs.Common.{ap, ◌∙◌}
 use Rattle.cfg_simplify.specs.Code.{counted}
 use Rattle.cfg_simplify.proofs.joins.count_edges.Goals as goal
 

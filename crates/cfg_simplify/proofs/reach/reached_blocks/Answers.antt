@@ -1,8 +1,7 @@
-use Rattle.std.proofs.Common.{◌≡◌, ◌<◌, map, length, ap, ◌∙◌, arith}
+use Rattle.std.proofs.Common.{◌≡◌, ◌<◌, length, ◌∙◌, arith}
 use Rattle.std.proofs.lemmas.List.{length-map}
 use Rattle.mir_cfg.specs.Paths.{terms_of, is_reached}
 use Rattle.mir_cfg.proofs.Reaching.{reached_flag}
-use Rattle.cfg_simplify.specs.Simple.{numbers}
 use Rattle.cfg_simplify.proofs.equal.Lists.{map_step}
 use Rattle.cfg_simplify.proofs.reach.reached_blocks.Goals as goal
 
