@@ -3,7 +3,6 @@ pub mod Frames
 pub mod Jumped
 pub mod Hops
 pub mod Hopped
-pub mod Reached
 pub mod Ends
 pub mod Numbers
 pub mod Lines

@@ -1,15 +1,12 @@
 -- What the parts of the code are said by: blocks as they stand in a body, with ids.
-use Rattle.std.specs.Prelude.{ℕ, ◌+◌, min, Bool, true, false, ◌==◌, ◌&&◌, not, cond, List, [], ◌∷◌, ◌++◌, map, length, get_or, set, Option, None, Some, ◌<◌, ◌≡◌}
+use Rattle.std.specs.Prelude.{ℕ, ◌+◌, min, Bool, false, ◌==◌, ◌&&◌, not, cond, List, [], ◌∷◌, map, length, get_or, set, Option, None, Some, ◌<◌, ◌≡◌}
 use Rattle.std.specs.List.{filter, flat_map, list_any}
 use Rattle.mir_syntax.specs.declared.body.Stmt.{Stmt}
-use Rattle.mir_syntax.specs.declared.body.Term.{Term}
 use Rattle.mir_syntax.specs.declared.body.Term.TheVariants.{Unreachable}
 use Rattle.mir_syntax.specs.declared.body.Block.{Block}
+use Rattle.mir_cfg.specs.Paths.{block_term}
 use Rattle.cfg_simplify.specs.Edges.{goto_block, retarget}
 use Rattle.cfg_simplify.specs.Simple.{numbers, onward, walk, is_nil, landing, joined, stays, line, new_number}
-
-abbrev pub block_term : Block → Term
-block_term b = b.term
 
 -- where a block leads that has no statements and ends in a goto
 abbrev pub bare_goto : Block → Option ℕ
@@ -36,20 +33,6 @@ bare_hopped_block f b = record { stmts = b.stmts; term = retarget f b.term }
 
 abbrev pub bare_hopped : List Block → List Block
 bare_hopped blocks = map (bare_hopped_block (landing (map bare_goto blocks))) blocks
-
--- ---- blocks that are found from bb0
-
-abbrev pub found_order : List Bool → List ℕ → ℕ → List ℕ
-found_order flags order b = cond (flag_at flags b) order (order ++ b ∷ [])
-
--- the marks after some blocks were found, and the blocks in the order of finding
-abbrev pub flags_after : List Bool → List ℕ → List Bool
-flags_after flags [] = flags
-flags_after flags (b ∷ bs) = flags_after (set flags b true) bs
-
-abbrev pub order_after : List Bool → List ℕ → List ℕ → List ℕ
-order_after flags order [] = order
-order_after flags order (b ∷ bs) = order_after (set flags b true) (found_order flags order b) bs
 
 -- ---- counts of edges: none, one, or 2 for more
 

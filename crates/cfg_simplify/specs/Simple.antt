@@ -1,12 +1,13 @@
 -- The cleaning of a body's control flow, in four steps: empty gotos are skipped, blocks that no path leads to go, a block is joined to the
 -- one block that goes to it, and the rest is renumbered.
-use Rattle.std.specs.Prelude.{ℕ, zero, suc, Bool, true, false, ◌==◌, ◌&&◌, ◌||◌, not, cond, List, [], ◌∷◌, ◌++◌, map, length, get_or, Option, Some, None, is_some}
+use Rattle.std.specs.Prelude.{ℕ, zero, suc, Bool, true, false, ◌==◌, ◌&&◌, not, cond, List, [], ◌∷◌, ◌++◌, map, length, get_or, Option, Some, None, is_some}
 use Rattle.std.specs.List.{filter, list_any, count_by, flat_map, range_with_len}
 use Rattle.std.specs.Option.{option_to_list, unwrap_or}
 use Rattle.mir_syntax.specs.declared.body.Term.{Term}
 use Rattle.mir_syntax.specs.declared.body.Term.TheVariants.{Unreachable}
 use Rattle.mir_syntax.specs.Crate.{TypedStmt, TypedBlock, TypedBody}
-use Rattle.cfg_simplify.specs.Edges.{retarget, goto_block, edges}
+use Rattle.mir_cfg.specs.Paths.{exits, is_reached}
+use Rattle.cfg_simplify.specs.Edges.{retarget, goto_block}
 
 -- the numbers below a bound, in order
 abbrev pub numbers : ℕ → List ℕ
@@ -52,22 +53,11 @@ hopped_block gotos b = record { stmts = b.stmts; term = retarget (landing gotos)
 abbrev pub hopped : List TypedBlock → List TypedBlock
 hopped blocks = map (hopped_block (map empty_goto blocks)) blocks
 
--- ---- blocks that are reached; from here on all is said of the terminators after the first step
-
--- whether a path of at most n edges leads from one block to another
-abbrev pub leads : List Term → ℕ → ℕ → ℕ → Bool
-leads terms zero a b = a == b
-leads terms (suc n) a b = (a == b) || list_any (λ c. leads terms n c b) (edges terms a)
-
--- whether a path leads from bb0 to a block; a path needs no more edges than there are blocks
-abbrev pub reached : List Term → ℕ → Bool
-reached terms b = leads terms (length terms) 0 b
-
--- ---- blocks that are joined
+-- ---- blocks that are joined; from here on all is said of the terminators after the first step, and a block counts where it is reached
 
 -- where the edges of the reached blocks lead, one for each edge
 abbrev pub ends : List Term → List ℕ
-ends terms = flat_map (edges terms) (filter (reached terms) (numbers (length terms)))
+ends terms = flat_map (exits terms) (filter (is_reached terms) (numbers (length terms)))
 
 -- how many edges lead to a block
 abbrev pub incoming : List Term → ℕ → ℕ
@@ -83,7 +73,7 @@ only_if test (Some b) = cond (test b) (Some b) None
 
 -- the block that is joined to a reached block: that one to which its goto is the only edge
 abbrev pub joined : List Term → ℕ → Option ℕ
-joined terms a = cond (reached terms a) (only_if (joins_to terms a) (goto_block (get_or terms a Unreachable))) None
+joined terms a = cond (is_reached terms a) (only_if (joins_to terms a) (goto_block (get_or terms a Unreachable))) None
 
 abbrev pub is_at : ℕ → Option ℕ → Bool
 is_at b None = false
@@ -94,7 +84,7 @@ is_joined terms b = list_any (λ a. is_at b (joined terms a)) (numbers (length t
 
 -- a block stays where it is reached and isn't joined to another
 abbrev pub stays : List Term → ℕ → Bool
-stays terms b = reached terms b && not (is_joined terms b)
+stays terms b = is_reached terms b && not (is_joined terms b)
 
 -- a block and those that are joined to it, one after another, in so many steps
 abbrev pub line : (ℕ → Option ℕ) → ℕ → ℕ → List ℕ

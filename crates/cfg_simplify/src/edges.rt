@@ -1,47 +1,12 @@
 ghost use Rattle.std.specs.Prelude.{◌≡◌, ◌<◌, [], map, length, ◌++◌};
 ghost use Rattle.std.specs.List.{All};
 ghost use Rattle.std.specs.Option.{option_to_list};
-ghost use Rattle.cfg_simplify.specs.Edges.{arm_block, targets, retarget, retarget_arm};
+ghost use Rattle.mir_rules.specs.Parts.{arm_block, targets};
+ghost use Rattle.cfg_simplify.specs.Edges.{retarget, retarget_arm};
 ghost use Rattle.cfg_simplify.specs.Code.{at};
 
 use mir_syntax::{Arm, List, Term};
 use std::mem;
-
-/// Where a terminator leads: by its arms in order, and then to one block more.
-#[derive(Drop)]
-pub(crate) struct Exits<'a> {
-    pub arms: &'a [Arm],
-    pub last: Option<u32>,
-}
-
-pub(crate) fn exits_of(term: &Term) -> Exits<'_>
-    ensures { targets term.now ≡ map arm_block result.arms.now ++ option_to_list result.last }
-{
-    match term {
-        Term::Switch(_, arms, block) => Exits {
-            arms: arms.as_slice(),
-            last: Some(*block),
-        },
-        Term::Goto(block) => one_edge(*block),
-        Term::Drop(_, block) => one_edge(*block),
-        Term::Call(_, _, _, block) => one_edge(*block),
-        Term::Assert(_, _, _, _, block) => one_edge(*block),
-        Term::Return | Term::Unreachable => Exits {
-            arms: &[],
-            last: None,
-        },
-    }
-}
-
-fn one_edge(block: u32) -> Exits<'static>
-    ensures arms { result.arms.now ≡ [] }
-    ensures last { result.last ≡ Some block }
-{
-    Exits {
-        arms: &[],
-        last: Some(block),
-    }
-}
 
 fn retargeted_arms(arms: List<Arm>, numbers: &[u32]) -> List<Arm>
     requires { All (λ b. b < length numbers.now) (map arm_block arms) }

@@ -1,8 +1,8 @@
 ghost use Rattle.std.specs.Prelude.{◌≡◌, ℕ, ◌<◌, ◌^◌, map, length, IfOk};
 ghost use Rattle.std.specs.List.{All};
-ghost use Rattle.cfg_simplify.specs.Edges.{Closed};
+ghost use Rattle.mir_cfg.specs.Paths.{Closed, block_term};
 ghost use Rattle.cfg_simplify.specs.Simple.{numbers, onward, walk, goto_link, landing, settle as settled_at};
-ghost use Rattle.cfg_simplify.specs.Code.{at, block_term, bare_goto, bare_hopped};
+ghost use Rattle.cfg_simplify.specs.Code.{at, bare_goto, bare_hopped};
 
 use crate::edges::retarget_in_place;
 use mir_syntax::{Block, List, OutOfMemory, Term};

@@ -1,10 +1,12 @@
-ghost use Rattle.std.specs.Prelude.{◌≡◌, ℕ, ◌<◌, ◌≤◌, ◌^◌, min, cond, replicate, map, length, IfOk};
+ghost use Rattle.std.specs.Prelude.{◌≡◌, ℕ, ◌<◌, ◌≤◌, ◌^◌, min, cond, replicate, map, length, IfOk, OnOk};
 ghost use Rattle.std.specs.List.{All};
-ghost use Rattle.cfg_simplify.specs.Edges.{Closed, targets, goto_block};
-ghost use Rattle.cfg_simplify.specs.Simple.{numbers, reached as is_reached, incoming, joined, only_if};
-ghost use Rattle.cfg_simplify.specs.Code.{at, block_term, one_more, counted, joins_by};
+ghost use Rattle.mir_rules.specs.Parts.{targets};
+ghost use Rattle.mir_cfg.specs.Paths.{Closed, is_reached, block_term};
+ghost use Rattle.cfg_simplify.specs.Edges.{goto_block};
+ghost use Rattle.cfg_simplify.specs.Simple.{numbers, incoming, joined, only_if};
+ghost use Rattle.cfg_simplify.specs.Code.{at, one_more, counted, joins_by};
 
-use crate::edges::exits_of;
+use mir_cfg::succs;
 use mir_syntax::{Block, List, OutOfMemory, Term};
 use std::alloc::Global;
 
@@ -20,18 +22,25 @@ fn count_edge(counts: &mut [u8], block: u32)
     }
 }
 
-fn count_edges(counts: &mut [u8], term: &Term)
-    requires within { All (λ b. b < length counts.old) (targets term.now) }
+fn count_all(counts: &mut [u8], ends: &[u32])
+    requires within { All (λ b. b < length counts.old) ends.now }
     requires capped { All (λ n. n ≤ 2) counts.old }
-    ensures { counts.new ≡ counted counts.old (targets term.now) }
+    ensures { counts.new ≡ counted counts.old ends.now }
 {
-    let exits = exits_of(term);
-    for arm in exits.arms {
-        count_edge(counts, arm.block);
+    for block in ends {
+        count_edge(counts, *block);
     }
-    if let Some(block) = exits.last {
-        count_edge(counts, block);
-    }
+}
+
+/// Counts the edges of a block.
+fn count_edges(alloc: Global, counts: &mut [u8], block: &Block) -> Result<(), OutOfMemory>
+    requires within { All (λ b. b < length counts.old) (targets block.now.term) }
+    requires capped { All (λ n. n ≤ 2) counts.old }
+    ensures { OnOk result (counts.new ≡ counted counts.old (targets block.now.term)) }
+{
+    let ends = succs(alloc, block)?;
+    count_all(counts, ends.as_slice());
+    Ok(())
 }
 
 fn zeros(alloc: Global, count: usize) -> Result<Vec<u8>, OutOfMemory>
@@ -58,7 +67,7 @@ fn incoming_counts(
     let mut counts = zeros(alloc, blocks.len())?;
     for block in 0..blocks.len() {
         if reached[block] {
-            count_edges(counts.as_mut_slice(), &blocks[block].term);
+            count_edges(alloc, counts.as_mut_slice(), &blocks[block])?;
         }
     }
     Ok(counts)

@@ -1,12 +1,11 @@
 ghost use Rattle.std.specs.Prelude.{◌≡◌, ℕ, ◌<◌, ◌^◌, ◌==◌, ◌&&◌, not, map, length, get_or, set, Some, IfOk, OnOk, false};
 ghost use Rattle.std.specs.List.{list_any, flat_map};
-ghost use Rattle.cfg_simplify.specs.Edges.{Closed};
+ghost use Rattle.mir_cfg.specs.Paths.{Closed, block_term, is_reached};
 ghost use Rattle.cfg_simplify.specs.Simple.{numbers as all_numbers, onward, walk, line, is_at, new_number, stays, joined};
-ghost use Rattle.cfg_simplify.specs.Code.{block_term, link_at, flag_at, hollow, stmts_in, unmarked, IsFresh, bare_regrouped};
+ghost use Rattle.cfg_simplify.specs.Code.{link_at, flag_at, hollow, stmts_in, unmarked, IsFresh, bare_regrouped};
 
 use crate::edges::retargeted;
 use crate::joins::joined_blocks;
-use crate::reach::reached_blocks;
 use mir_syntax::{Block, List, OutOfMemory, Stmt, Term};
 use std::alloc::Global;
 use std::mem;
@@ -126,13 +125,16 @@ fn kept_blocks(
 }
 
 /// The reached blocks, each with those that are joined to it, renumbered.
-pub(crate) fn regrouped(alloc: Global, blocks: List<Block>) -> Result<List<Block>, OutOfMemory>
-    requires some_block { 0 < length blocks }
+pub(crate) fn regrouped(
+    alloc: Global,
+    blocks: List<Block>,
+    reached: Vec<bool>,
+) -> Result<List<Block>, OutOfMemory>
     requires closed { Closed (map block_term blocks) }
     requires few { length blocks < 2 ^ 30 }
+    requires marks { reached.items ≡ map (is_reached (map block_term blocks)) (all_numbers (length blocks)) }
     ensures { IfOk result (λ list. list ≡ bare_regrouped blocks) }
 {
-    let reached = reached_blocks(alloc, blocks.as_slice())?;
     let joins = joined_blocks(alloc, blocks.as_slice(), reached.as_slice())?;
     let marks = stay_marks(reached, joins.as_slice());
     kept_blocks(alloc, blocks, marks.as_slice(), joins.as_slice())

@@ -1,5 +1,5 @@
 -- A block to which a path leads is led to by no more edges than there are blocks.
-use Rattle.std.proofs.Common.{◌≡◌, ◌⊎◌, inl, inr, refl, sym, ap, ◌∙◌, ℕ, zero, suc, ◌+◌, ◌-◌, ◌<◌, ◌≤◌, Bool, true, false, cond, ◌||◌, ◌==◌, List, [], ◌∷◌, length, get_or, arith}
+use Rattle.std.proofs.Common.{◌≡◌, ◌⊎◌, inl, inr, refl, sym, ap, ◌∙◌, ℕ, zero, suc, ◌+◌, ◌-◌, ◌<◌, ◌≤◌, Bool, true, false, cond, ◌==◌, List, [], ◌∷◌, length, get_or, arith}
 use Rattle.std.specs.Prelude.{IsTrue, ◌↔◌}
 use Rattle.std.specs.List.{All, Contains, list_any}
 use Rattle.std.proofs.lemmas.Bool.{eqb-true, eq-eqb, or_cases, or_left, or_right, cases_Bool, cases_lt, both_ways}
@@ -143,8 +143,8 @@ module _ (terms : List Term) where
 
   grows : 0 < length terms → (n : ℕ) → ((m : ℕ) × (m ≤ n) × Stable m) ⊎ (suc n ≤ count (λ b. leads terms n 0 b) (length terms))
   grows some zero = inr (
-    let more = count_more (λ b. false) (λ b. leads terms 0 0 b) (λ x e. absurd (both_ways false refl e)) 0 (leads_self 0 0) refl (length terms) some in
-    omega (arith, more))
+      let more = count_more (λ b. false) (λ b. leads terms 0 0 b) (λ x e. absurd (both_ways false refl e)) 0 (leads_self 0 0) refl (length terms) some in
+      omega (arith, more))
   grows some (suc n) = elim (grows some n) [
     | inl (m, l, s) ↦ inl (m, omega (arith, l), s)
     | inr many ↦ elim (look n (length terms)) [

@@ -2,20 +2,20 @@
 use Rattle.std.proofs.Common.{◌≡◌, ℕ, ◌+◌, min, ◌<◌, ◌≤◌, List, [], ◌∷◌, ◌++◌, map, length, get_or, take, replicate, Bool, true, false, not, cond, ◌&&◌, ◌==◌, inl, inr, Some, None, refl, sym, ap, ap₂, ◌∙◌, arith}
 use Rattle.std.specs.List.{All, filter, count_by, flat_map}
 use Rattle.std.proofs.lemmas.Bool.{eqb-true, eq-eqb, ne_eqb, cases_eq, cond-true, cond-false}
-use Rattle.std.proofs.lemmas.List.{append-nil, length-set, length-replicate, get_or-set_same, get_or-set_other, get_or-replicate, take_all, map_more, get_or-map}
+use Rattle.std.proofs.lemmas.List.{append-nil, length-set, length-replicate, get_or-set_same, get_or-set_other, get_or-replicate, take_more, get_or-map}
 use Rattle.std.proofs.lemmas.List.Elements.{All-set, All-replicate, filter-append, All-get_or, All-head}
 use Rattle.std.proofs.lemmas.List.Sums.{sum_by-append}
 use Rattle.std.proofs.lemmas.Grind.{flat_map-append}
-use Rattle.mir_syntax.specs.declared.body.Arm.{Arm}
 use Rattle.mir_syntax.specs.declared.body.Block.{Block}
 use Rattle.mir_syntax.specs.declared.body.Term.{Term}
 use Rattle.mir_syntax.specs.declared.body.Term.TheVariants.{Goto, Switch, Return, Unreachable, Drop, Call, Assert}
-use Rattle.cfg_simplify.specs.Edges.{arm_block, targets, goto_block, edges, Closed}
-use Rattle.cfg_simplify.specs.Simple.{numbers, reached, incoming, joins_to, only_if, joined}
-use Rattle.cfg_simplify.specs.Code.{at, block_term, one_more, counted, joins_by}
-use Rattle.cfg_simplify.proofs.equal.Lists.{numbers_push}
+use Rattle.mir_rules.specs.Parts.{targets}
+use Rattle.mir_cfg.specs.Paths.{exits, Closed, is_reached, block_term}
+use Rattle.cfg_simplify.specs.Edges.{goto_block}
+use Rattle.cfg_simplify.specs.Simple.{numbers, incoming, joins_to, only_if, joined}
+use Rattle.cfg_simplify.specs.Code.{at, one_more, counted, joins_by}
+use Rattle.cfg_simplify.proofs.equal.Lists.{same_tests, numbers_push}
 use Rattle.cfg_simplify.proofs.equal.Terms.{block-closed}
-use Rattle.cfg_simplify.proofs.equal.Paths.{same_tests}
 
 -- ---- counting a list of ends
 
@@ -50,24 +50,15 @@ at-counted counts (e ∷ es) b l h =
           rest ∙ omega (arith, there, none, more))
     ]
 
-module _ (arms : List Arm) (i : ℕ) (d : Arm) (l : i < length arms) where
-  pub counts_more : (first counts counts2 : List ℕ) → counts ≡ counted first (map arm_block (take i arms)) → counts2 ≡ one_more counts (get_or arms i d).block → counts2 ≡ counted first (map arm_block (take (i + 1) arms))
-  counts_more first counts counts2 e e2 =
-      e2 ∙ ap (λ xs. one_more xs (get_or arms i d).block) e ∙ sym (counted-append first (map arm_block (take i arms)) ((get_or arms i d).block ∷ [])) ∙ ap (counted first) (sym (map_more arm_block arms i d l))
-
-pub counts_last : (arms : List Arm) (i b : ℕ) (t : Term) (first counts counts2 : List ℕ) → length arms ≤ i → targets t ≡ map arm_block arms ++ b ∷ [] → counts ≡ counted first (map arm_block (take i arms)) → counts2 ≡ one_more counts b → counts2 ≡ counted first (targets t)
-counts_last arms i b t first counts counts2 l e e2 e3 =
-    e3 ∙ ap (λ xs. one_more xs b) e2 ∙ sym (counted-append first (map arm_block (take i arms)) (b ∷ []))
-    ∙ ap (counted first) (ap (λ xs. map arm_block xs ++ b ∷ []) (take_all i arms l) ∙ sym e)
-
-pub counts_none : (arms : List Arm) (i : ℕ) (t : Term) (first counts : List ℕ) → length arms ≤ i → targets t ≡ map arm_block arms ++ [] → counts ≡ counted first (map arm_block (take i arms)) → counts ≡ counted first (targets t)
-counts_none arms i t first counts l e e2 = e2 ∙ ap (counted first) (ap (map arm_block) (take_all i arms l) ∙ sym (append-nil (map arm_block arms)) ∙ sym e)
+pub counts_more : (ends : List ℕ) (i d : ℕ) → i < length ends → (first counts counts2 : List ℕ) → counts ≡ counted first (take i ends) → counts2 ≡ one_more counts (get_or ends i d) → counts2 ≡ counted first (take (i + 1) ends)
+counts_more ends i d l first counts counts2 e e2 =
+    e2 ∙ ap (λ xs. one_more xs (get_or ends i d)) e ∙ sym (counted-append first (take i ends) (get_or ends i d ∷ [])) ∙ ap (counted first) (sym (take_more ends i d l))
 
 -- ---- counting the edges of reached blocks
 
 -- where the edges of the reached ones of the first blocks lead
 abbrev pub ends_of : List Term → ℕ → List ℕ
-ends_of terms i = flat_map (edges terms) (filter (reached terms) (numbers i))
+ends_of terms i = flat_map (exits terms) (filter (is_reached terms) (numbers i))
 
 pub record IsCounted (terms : List Term) (i : ℕ) (counts : List ℕ) : Type 0 where
   pub long : length counts ≡ length terms
@@ -81,27 +72,27 @@ counted-none terms = record {
   each = λ b l. get_or-replicate (length terms) b 0 0 l;
 }
 
-pub ends-step : (terms : List Term) (i : ℕ) → ends_of terms (i + 1) ≡ ends_of terms i ++ flat_map (edges terms) (cond (reached terms i) (i ∷ []) [])
+pub ends-step : (terms : List Term) (i : ℕ) → ends_of terms (i + 1) ≡ ends_of terms i ++ flat_map (exits terms) (cond (is_reached terms i) (i ∷ []) [])
 ends-step terms i =
-    ap (λ xs. flat_map (edges terms) (filter (reached terms) xs)) (numbers_push i)
-    ∙ ap (flat_map (edges terms)) (filter-append (reached terms) (numbers i) (i ∷ []))
-    ∙ flat_map-append (edges terms) (filter (reached terms) (numbers i)) (cond (reached terms i) (i ∷ []) [])
+    ap (λ xs. flat_map (exits terms) (filter (is_reached terms) xs)) (numbers_push i)
+    ∙ ap (flat_map (exits terms)) (filter-append (is_reached terms) (numbers i) (i ∷ []))
+    ∙ flat_map-append (exits terms) (filter (is_reached terms) (numbers i)) (cond (is_reached terms i) (i ∷ []) [])
 
-pub counted-skip : (terms : List Term) (i : ℕ) (counts : List ℕ) → IsCounted terms i counts → reached terms i ≡ false → IsCounted terms (i + 1) counts
+pub counted-skip : (terms : List Term) (i : ℕ) (counts : List ℕ) → IsCounted terms i counts → is_reached terms i ≡ false → IsCounted terms (i + 1) counts
 counted-skip terms i counts s skipped =
-    let e : ends_of terms (i + 1) ≡ ends_of terms i = ends-step terms i ∙ ap (λ xs. ends_of terms i ++ flat_map (edges terms) xs) (cond-false (reached terms i) (i ∷ []) [] skipped) ∙ append-nil (ends_of terms i) in
+    let e : ends_of terms (i + 1) ≡ ends_of terms i = ends-step terms i ∙ ap (λ xs. ends_of terms i ++ flat_map (exits terms) xs) (cond-false (is_reached terms i) (i ∷ []) [] skipped) ∙ append-nil (ends_of terms i) in
     record { long = s.long; capped = s.capped; each = λ b l. s.each b l ∙ ap (λ xs. min 2 (count_by (λ e. e == b) xs)) (sym e) }
 
-pub counted-step : (terms : List Term) (i : ℕ) (counts : List ℕ) → IsCounted terms i counts → reached terms i ≡ true → IsCounted terms (i + 1) (counted counts (edges terms i))
+pub counted-step : (terms : List Term) (i : ℕ) (counts : List ℕ) → IsCounted terms i counts → is_reached terms i ≡ true → IsCounted terms (i + 1) (counted counts (exits terms i))
 counted-step terms i counts s taken =
-    let e : ends_of terms (i + 1) ≡ ends_of terms i ++ (edges terms i ++ []) = ends-step terms i ∙ ap (λ xs. ends_of terms i ++ flat_map (edges terms) xs) (cond-true (reached terms i) (i ∷ []) [] taken) in
+    let e : ends_of terms (i + 1) ≡ ends_of terms i ++ (exits terms i ++ []) = ends-step terms i ∙ ap (λ xs. ends_of terms i ++ flat_map (exits terms) xs) (cond-true (is_reached terms i) (i ∷ []) [] taken) in
     record {
-      long = length-counted counts (edges terms i) ∙ s.long;
-      capped = capped-counted counts (edges terms i) s.capped;
+      long = length-counted counts (exits terms i) ∙ s.long;
+      capped = capped-counted counts (exits terms i) s.capped;
       each = λ b l.
-          (let sums : count_by (λ e. e == b) (ends_of terms (i + 1)) ≡ count_by (λ e. e == b) (ends_of terms i) + count_by (λ e. e == b) (edges terms i) =
-          ap (count_by (λ e. e == b)) (e ∙ ap (λ xs. ends_of terms i ++ xs) (append-nil (edges terms i))) ∙ sum_by-append (λ (e : ℕ). cond (e == b) 1 0) (ends_of terms i) (edges terms i) in
-          let here = at-counted counts (edges terms i) b (omega (arith, s.long, l)) s.capped in
+          (let sums : count_by (λ e. e == b) (ends_of terms (i + 1)) ≡ count_by (λ e. e == b) (ends_of terms i) + count_by (λ e. e == b) (exits terms i) =
+          ap (count_by (λ e. e == b)) (e ∙ ap (λ xs. ends_of terms i ++ xs) (append-nil (exits terms i))) ∙ sum_by-append (λ (e : ℕ). cond (e == b) 1 0) (ends_of terms i) (exits terms i) in
+          let here = at-counted counts (exits terms i) b (omega (arith, s.long, l)) s.capped in
           let so = s.each b l in
           omega (arith, sums, here, so));
     }
@@ -120,7 +111,7 @@ only-agree p q (Drop x b) h = refl
 only-agree p q (Call x c xs b) h = refl
 only-agree p q (Assert x e text xs b) h = refl
 
-pub joined-is : (blocks : List Block) (counts : List ℕ) (a : ℕ) (d : Block) → Closed (map block_term blocks) → ((b : ℕ) → b < length blocks → at counts b ≡ min 2 (incoming (map block_term blocks) b)) → a < length blocks → (flag : Bool) → flag ≡ reached (map block_term blocks) a → cond flag (only_if (joins_by counts a) (goto_block (block_term (get_or blocks a d)))) None ≡ joined (map block_term blocks) a
+pub joined-is : (blocks : List Block) (counts : List ℕ) (a : ℕ) (d : Block) → Closed (map block_term blocks) → ((b : ℕ) → b < length blocks → at counts b ≡ min 2 (incoming (map block_term blocks) b)) → a < length blocks → (flag : Bool) → flag ≡ is_reached (map block_term blocks) a → cond flag (only_if (joins_by counts a) (goto_block (block_term (get_or blocks a d)))) None ≡ joined (map block_term blocks) a
 joined-is blocks counts a d closed each l flag same =
     let terms = map block_term blocks in
     let t = block_term (get_or blocks a d) in

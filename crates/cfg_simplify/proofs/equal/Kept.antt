@@ -11,9 +11,11 @@ use Rattle.mir_syntax.specs.declared.body.Stmt.{Stmt}
 use Rattle.mir_syntax.specs.declared.body.Block.{Block}
 use Rattle.mir_syntax.specs.declared.body.Term.{Term}
 use Rattle.mir_syntax.specs.declared.body.Term.TheVariants.{Unreachable}
-use Rattle.cfg_simplify.specs.Edges.{targets, retarget, goto_block, edges, Closed}
-use Rattle.cfg_simplify.specs.Simple.{numbers, onward, walk, reached, joins_to, only_if, joined, is_at, stays, line, new_number}
-use Rattle.cfg_simplify.specs.Code.{at, link_at, flag_at, block_term, hollow, stmts_in}
+use Rattle.mir_rules.specs.Parts.{targets}
+use Rattle.mir_cfg.specs.Paths.{exits, Closed, is_reached, block_term}
+use Rattle.cfg_simplify.specs.Edges.{retarget, goto_block}
+use Rattle.cfg_simplify.specs.Simple.{numbers, onward, walk, joins_to, only_if, joined, is_at, stays, line, new_number}
+use Rattle.cfg_simplify.specs.Code.{at, link_at, flag_at, hollow, stmts_in}
 use Rattle.cfg_simplify.proofs.equal.Lists.{numbers_push, get_from, length-numbers}
 use Rattle.cfg_simplify.proofs.equal.Terms.{retarget-agree}
 use Rattle.cfg_simplify.proofs.equal.Lines.{joined-tells, last-on-line, apart, walk-same, line-same}
@@ -24,7 +26,7 @@ number-step keep i = ap (count_by keep) (numbers_push i) ∙ sum_by-append (λ (
 joined-past : (terms : List Term) (b : ℕ) → length terms ≤ b → joined terms b ≡ None
 joined-past terms b l =
     let e : get_or terms b Unreachable ≡ Unreachable = get_or_past terms b Unreachable l in
-    ap (λ t. cond (reached terms b) (only_if (joins_to terms b) (goto_block t)) None) e ∙ none (reached terms b)
+    ap (λ t. cond (is_reached terms b) (only_if (joins_to terms b) (goto_block t)) None) e ∙ none (is_reached terms b)
   where
     none : (v : Bool) → cond {A = Option ℕ} v None None ≡ None
     none true = refl
@@ -42,7 +44,7 @@ link-is terms n joins same e b = elim (cases_lt b n) [
 pub joined-below : (terms : List Term) → Closed terms → (a b : ℕ) → joined terms a ≡ Some b → b < length terms
 joined-below terms closed a b h =
     let j = joined-tells terms a b h in
-    let all : All (λ t. t < length terms) (edges terms a) = closed a Unreachable j.from in
+    let all : All (λ t. t < length terms) (exits terms a) = closed a in
     rw j.leads_there at all 0 0 (omega (arith, ap length j.leads_there))
 
 flat-agree : (f g : ℕ → List Stmt) (xs : List ℕ) → ((x : ℕ) → list_any (λ y. x == y) xs ≡ true → f x ≡ g x) → flat_map f xs ≡ flat_map g xs
@@ -69,7 +71,7 @@ module _ (blocks left : List Block) (i : ℕ) (stay : stays (map block_term bloc
   pub last-stands : get_or left (walk (onward (joined (map block_term blocks))) (length blocks) i) hollow ≡ get_or blocks (walk (onward (joined (map block_term blocks))) (length blocks) i) hollow
   last-stands = on-line-stands (walk (onward (joined (map block_term blocks))) (length blocks) i) (last-on-line (joined (map block_term blocks)) (length blocks) i)
 
-filter-step : (keep : ℕ → Bool) (i : ℕ) → filter keep (numbers (i + 1)) ≡ filter keep (numbers i) ++ cond (keep i) (i ∷ []) []
+pub filter-step : (keep : ℕ → Bool) (i : ℕ) → filter keep (numbers (i + 1)) ≡ filter keep (numbers i) ++ cond (keep i) (i ∷ []) []
 filter-step keep i = ap (filter keep) (numbers_push i) ∙ filter-append keep (numbers i) (i ∷ [])
 
 pub kept-skip : (blocks : List Block) (keep : ℕ → Bool) (f : ℕ → Block) (i : ℕ) (kept : List Block) → keep i ≡ false → kept ≡ map f (filter keep (numbers i)) → kept ≡ map f (filter keep (numbers (i + 1)))
@@ -122,8 +124,8 @@ any-map test f [] = refl
 any-map test f (x ∷ xs) = ap (λ v. test (f x) || v) (any-map test f xs)
 
 -- the marks are those of the blocks that stay
-pub marks-are : (terms : List Term) (n : ℕ) (found marks : List Bool) (joins : List (Option ℕ)) → n ≡ length terms → found ≡ map (reached terms) (numbers n) → joins ≡ map (joined terms) (numbers n) → length marks ≡ length found → ((b : ℕ) → flag_at marks b ≡ (flag_at found b && not (list_any (is_at b) joins))) → marks ≡ map (stays terms) (numbers n)
+pub marks-are : (terms : List Term) (n : ℕ) (found marks : List Bool) (joins : List (Option ℕ)) → n ≡ length terms → found ≡ map (is_reached terms) (numbers n) → joins ≡ map (joined terms) (numbers n) → length marks ≡ length found → ((b : ℕ) → flag_at marks b ≡ (flag_at found b && not (list_any (is_at b) joins))) → marks ≡ map (stays terms) (numbers n)
 marks-are terms n found marks joins same e e2 long each =
-    fill_by_all (stays terms) marks n false (long ∙ ap length e ∙ length-numbers (reached terms) n) (λ b l.
-    each b ∙ ap₂ (λ (v w : Bool). v && not w) (get_from (reached terms) n found b false e l)
+    fill_by_all (stays terms) marks n false (long ∙ ap length e ∙ length-numbers (is_reached terms) n) (λ b l.
+    each b ∙ ap₂ (λ (v w : Bool). v && not w) (get_from (is_reached terms) n found b false e l)
     (ap (list_any (is_at b)) e2 ∙ any-map (is_at b) (joined terms) (numbers n) ∙ ap (λ k. list_any (λ a. is_at b (joined terms a)) (numbers k)) same))

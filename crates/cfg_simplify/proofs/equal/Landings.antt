@@ -1,16 +1,18 @@
 -- The landings that the code finds are the defined ones.
-use Rattle.std.proofs.Common.{◌≡◌, ℕ, ◌<◌, List, [], ◌∷◌, map, length, get_or, Option, is_some, sym, ap, ◌∙◌, arith}
+use Rattle.std.proofs.Common.{◌≡◌, ℕ, ◌<◌, List, [], ◌∷◌, map, length, get_or, Option, is_some, inl, inr, sym, ap, ◌∙◌, arith}
 use Rattle.std.specs.List.{All}
-use Rattle.std.proofs.lemmas.List.{length-map, same_lists, get_or-map}
-use Rattle.std.proofs.lemmas.Bool.{cond_both}
+use Rattle.std.proofs.lemmas.List.{length-map, same_lists, get_or-map, get_or_past}
+use Rattle.std.proofs.lemmas.Bool.{cond_both, cases_lt}
 use Rattle.std.proofs.lemmas.List.Elements.{All-nil, All-cons, All-head, All-tail, All-append}
 use Rattle.mir_syntax.specs.declared.body.Arm.{Arm}
 use Rattle.mir_syntax.specs.declared.body.Block.{Block}
 use Rattle.mir_syntax.specs.declared.body.Term.{Term}
 use Rattle.mir_syntax.specs.declared.body.Term.TheVariants.{Goto, Switch, Return, Unreachable, Drop, Call, Assert}
-use Rattle.cfg_simplify.specs.Edges.{arm_block, targets, retarget, retarget_arm, Closed}
+use Rattle.mir_rules.specs.Parts.{arm_block, targets}
+use Rattle.mir_cfg.specs.Paths.{Closed, block_term}
+use Rattle.cfg_simplify.specs.Edges.{retarget, retarget_arm}
 use Rattle.cfg_simplify.specs.Simple.{numbers, onward, walk, goto_link, settle, landing}
-use Rattle.cfg_simplify.specs.Code.{at, block_term, bare_goto, bare_hopped_block, bare_hopped, hollow}
+use Rattle.cfg_simplify.specs.Code.{at, bare_goto, bare_hopped_block, bare_hopped, hollow}
 use Rattle.cfg_simplify.proofs.equal.Lists.{All-left, All-last, length-numbers, get_from, same_numbers, all-numbers, walk-below, walk-agree}
 use Rattle.cfg_simplify.proofs.equal.Terms.{step-below, block-closed, retarget-agree}
 
@@ -88,11 +90,16 @@ landing-below blocks closed b l =
     cond_both (is_some (goto_link gotos end)) b end (λ x. x < length blocks) (λ e. l) (λ e. walk-below (onward (goto_link gotos)) (length blocks) (step-below blocks closed) (length gotos) b l)
 
 pub hopped-closed : (blocks : List Block) → Closed (map block_term blocks) → Closed (map block_term (bare_hopped blocks))
-hopped-closed blocks closed k d l =
-    let f = landing (map bare_goto blocks) in
-    let long : length (map block_term (bare_hopped blocks)) ≡ length blocks = length-map (bare_hopped blocks) block_term ∙ length-map blocks (bare_hopped_block f) in
-    let within : k < length blocks = omega (arith, long, l) in
-    let within2 : k < length (bare_hopped blocks) = omega (arith, within, length-map blocks (bare_hopped_block f)) in
-    let is : get_or (map block_term (bare_hopped blocks)) k d ≡ retarget f (block_term (get_or blocks k hollow)) =
-    get_or-map block_term (bare_hopped blocks) k hollow d within2 ∙ ap block_term (get_or-map (bare_hopped_block f) blocks k hollow hollow within) in
-    rw (is, long) (retarget-inside f (length blocks) (landing-below blocks closed) (block_term (get_or blocks k hollow)) (block-closed blocks k hollow closed within))
+hopped-closed blocks closed k = elim (cases_lt k (length blocks)) [
+  | inl within ↦ (
+      let f = landing (map bare_goto blocks) in
+      let long : length (map block_term (bare_hopped blocks)) ≡ length blocks = length-map (bare_hopped blocks) block_term ∙ length-map blocks (bare_hopped_block f) in
+      let within2 : k < length (bare_hopped blocks) = omega (arith, within, length-map blocks (bare_hopped_block f)) in
+      let is : get_or (map block_term (bare_hopped blocks)) k Unreachable ≡ retarget f (block_term (get_or blocks k hollow)) =
+      get_or-map block_term (bare_hopped blocks) k hollow Unreachable within2 ∙ ap block_term (get_or-map (bare_hopped_block f) blocks k hollow hollow within) in
+      rw (is, long) (retarget-inside f (length blocks) (landing-below blocks closed) (block_term (get_or blocks k hollow)) (block-closed blocks k hollow closed within)))
+  | inr past ↦ (
+      let long : length (map block_term (bare_hopped blocks)) ≡ length blocks = length-map (bare_hopped blocks) block_term ∙ length-map blocks (bare_hopped_block (landing (map bare_goto blocks))) in
+      let is : get_or (map block_term (bare_hopped blocks)) k Unreachable ≡ Unreachable = get_or_past (map block_term (bare_hopped blocks)) k Unreachable (omega (arith, long, past)) in
+      rw is (All-nil (λ (b : ℕ). b < length (map block_term (bare_hopped blocks)))))
+]

@@ -9,8 +9,10 @@ use Rattle.std.proofs.lemmas.List.FromFn.{get_or-range_with_len, length-range_wi
 use Rattle.std.proofs.lemmas.List.Sums.{sum_by-append}
 use Rattle.mir_syntax.specs.declared.body.Term.{Term}
 use Rattle.mir_syntax.specs.declared.body.Term.TheVariants.{Goto, Switch, Return, Unreachable, Drop, Call, Assert}
-use Rattle.cfg_simplify.specs.Edges.{targets, goto_block, edges}
-use Rattle.cfg_simplify.specs.Simple.{numbers, onward, walk, reached, incoming, joins_to, only_if, joined, is_at, is_joined, stays, line}
+use Rattle.mir_rules.specs.Parts.{targets}
+use Rattle.mir_cfg.specs.Paths.{exits, is_reached}
+use Rattle.cfg_simplify.specs.Edges.{goto_block}
+use Rattle.cfg_simplify.specs.Simple.{numbers, onward, walk, incoming, joins_to, only_if, joined, is_at, is_joined, stays, line}
 use Rattle.cfg_simplify.specs.Code.{IsFresh}
 use Rattle.cfg_simplify.proofs.equal.Counts.{ends_of, ends-step}
 
@@ -38,20 +40,20 @@ cond-some true o b h = (refl, h)
 cond-some false o b h = absurd cc
 
 pub record IsJoined (terms : List Term) (a b : ℕ) : Type 0 where
-  pub is_reached : reached terms a ≡ true
-  pub leads_there : edges terms a ≡ b ∷ []
+  pub from_reached : is_reached terms a ≡ true
+  pub leads_there : exits terms a ≡ b ∷ []
   pub once : incoming terms b ≡ 1
   pub from : a < length terms
 
 pub joined-tells : (terms : List Term) (a b : ℕ) → joined terms a ≡ Some b → IsJoined terms a b
 joined-tells terms a b h =
     let t = get_or terms a Unreachable in
-    let first = cond-some (reached terms a) (only_if (joins_to terms a) (goto_block t)) b h in
+    let first = cond-some (is_reached terms a) (only_if (joins_to terms a) (goto_block t)) b h in
     let second = only-some (joins_to terms a) (goto_block t) b first.1 in
     let third = and_parts (not (b == 0)) (not (b == a) && (incoming terms b == 1)) second.1 in
     let fourth = and_parts (not (b == a)) (incoming terms b == 1) third.1 in
     record {
-      is_reached = first.0;
+      from_reached = first.0;
       leads_there = goto-edges t b second.0;
       once = eqb-true (incoming terms b) 1 fourth.1;
       from = elim (cases_lt a (length terms)) [
@@ -66,9 +68,9 @@ joined-tells terms a b h =
 abbrev pub seen : List Term → ℕ → ℕ → ℕ
 seen terms b i = count_by (λ e. e == b) (ends_of terms i)
 
-pub seen-step : (terms : List Term) (b i : ℕ) → seen terms b (i + 1) ≡ seen terms b i + count_by (λ e. e == b) (flat_map (edges terms) (cond (reached terms i) (i ∷ []) []))
+pub seen-step : (terms : List Term) (b i : ℕ) → seen terms b (i + 1) ≡ seen terms b i + count_by (λ e. e == b) (flat_map (exits terms) (cond (is_reached terms i) (i ∷ []) []))
 seen-step terms b i =
-    ap (count_by (λ e. e == b)) (ends-step terms i) ∙ sum_by-append (λ (e : ℕ). cond (e == b) 1 0) (ends_of terms i) (flat_map (edges terms) (cond (reached terms i) (i ∷ []) []))
+    ap (count_by (λ e. e == b)) (ends-step terms i) ∙ sum_by-append (λ (e : ℕ). cond (e == b) 1 0) (ends_of terms i) (flat_map (exits terms) (cond (is_reached terms i) (i ∷ []) []))
 
 pub seen-up : (terms : List Term) (b i k : ℕ) → seen terms b i ≤ seen terms b (i + k)
 seen-up terms b i zero = (let e : i + 0 ≡ i = omega arith in rw e (let l : seen terms b i ≤ seen terms b i = omega arith in l))
@@ -80,11 +82,11 @@ seen-up terms b i (suc k) =
 
 seen-hit : (terms : List Term) (a b : ℕ) → IsJoined terms a b → seen terms b a + 1 ≡ seen terms b (a + 1)
 seen-hit terms a b j =
-    let e : flat_map (edges terms) (cond (reached terms a) (a ∷ []) []) ≡ b ∷ [] =
-    ap (flat_map (edges terms)) (cond-true (reached terms a) (a ∷ []) [] j.is_reached) ∙ append-nil (edges terms a) ∙ j.leads_there in
+    let e : flat_map (exits terms) (cond (is_reached terms a) (a ∷ []) []) ≡ b ∷ [] =
+    ap (flat_map (exits terms)) (cond-true (is_reached terms a) (a ∷ []) [] j.from_reached) ∙ append-nil (exits terms a) ∙ j.leads_there in
     let one : ◌≡◌ {A = ℕ} (0 + cond (b == b) 1 0) 1 = ap (λ (v : ℕ). 0 + v) (cond-true (b == b) 1 0 (eq-eqb b b refl)) in
     let step = seen-step terms b a in
-    let all : count_by (λ x. x == b) (flat_map (edges terms) (cond (reached terms a) (a ∷ []) [])) ≡ 1 = ap (count_by (λ x. x == b)) e ∙ one in
+    let all : count_by (λ x. x == b) (flat_map (exits terms) (cond (is_reached terms a) (a ∷ []) [])) ≡ 1 = ap (count_by (λ x. x == b)) e ∙ one in
     omega (arith, step, all)
 
 two-apart : (terms : List Term) (a c b : ℕ) → a < c → IsJoined terms a b → IsJoined terms c b → ⊥
@@ -107,7 +109,7 @@ one-source terms a c b h g = elim (cases_order a c) [
 
 pub no-source : (terms : List Term) (a h : ℕ) → stays terms h ≡ true → joined terms a ≡ Some h → ⊥
 no-source terms a h s e =
-    let both = and_parts (reached terms h) (not (is_joined terms h)) s in
+    let both = and_parts (is_reached terms h) (not (is_joined terms h)) s in
     let none : is_joined terms h ≡ false = not-true (is_joined terms h) both.1 in
     let l : a < length terms = (joined-tells terms a h e).from in
     let at-a : get_or (numbers (length terms)) a 0 ≡ a = get_or-range_with_len 0 (length terms) a 0 l ∙ omega arith in

@@ -1,5 +1,5 @@
 -- Laws of terminators and their edges.
-use Rattle.std.proofs.Common.{◌≡◌, ℕ, zero, suc, ◌<◌, List, [], ◌∷◌, map, length, get_or, None, Bool, true, false, cond, refl, ap, ap₂, arith}
+use Rattle.std.proofs.Common.{◌≡◌, ℕ, zero, suc, ◌<◌, List, [], ◌∷◌, map, length, get_or, None, Bool, true, false, cond, refl, ap, ap₂}
 use Rattle.std.specs.List.{All}
 use Rattle.std.specs.Option.{unwrap_or}
 use Rattle.std.proofs.lemmas.List.Elements.{All-head, All-tail}
@@ -9,9 +9,11 @@ use Rattle.mir_syntax.specs.declared.body.Operand.{Operand}
 use Rattle.mir_syntax.specs.declared.body.Block.{Block}
 use Rattle.mir_syntax.specs.declared.body.Term.{Term}
 use Rattle.mir_syntax.specs.declared.body.Term.TheVariants.{Goto, Switch, Return, Unreachable, Drop, Call, Assert}
-use Rattle.cfg_simplify.specs.Edges.{arm_block, targets, retarget, retarget_arm, goto_block, Closed}
+use Rattle.mir_rules.specs.Parts.{arm_block, targets}
+use Rattle.mir_cfg.specs.Paths.{Closed, block_term}
+use Rattle.cfg_simplify.specs.Edges.{retarget, retarget_arm, goto_block}
 use Rattle.cfg_simplify.specs.Simple.{is_nil, onward, goto_link}
-use Rattle.cfg_simplify.specs.Code.{block_term, bare_goto, hollow}
+use Rattle.cfg_simplify.specs.Code.{bare_goto, hollow}
 use Rattle.cfg_simplify.proofs.equal.Lists.{All-left, All-last}
 
 pub switch_arms : (P : ℕ → Type 0) (t : Term) (x : Operand) (arms : List Arm) (b : ℕ) → t ≡ Switch x arms b → All P (targets t) → All P (map arm_block arms)
@@ -42,7 +44,7 @@ retarget-agree f g (Assert x e text xs b) h = ap (Assert x e text xs) (All-head 
 pub block-closed : (blocks : List Block) (i : ℕ) (d : Block) → Closed (map block_term blocks) → i < length blocks → All (λ b. b < length blocks) (targets (block_term (get_or blocks i d)))
 block-closed blocks i d h l =
     let long : length (map block_term blocks) ≡ length blocks = length-map blocks block_term in
-    let here : All (λ b. b < length (map block_term blocks)) (targets (get_or (map block_term blocks) i Unreachable)) = h i Unreachable (omega (arith, long, l)) in
+    let here : All (λ b. b < length (map block_term blocks)) (targets (get_or (map block_term blocks) i Unreachable)) = h i in
     let term : get_or (map block_term blocks) i Unreachable ≡ block_term (get_or blocks i d) = get_or-map block_term blocks i d Unreachable l in
     rw (← long) (rw term at here)
 

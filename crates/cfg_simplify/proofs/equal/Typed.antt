@@ -11,7 +11,8 @@ use Rattle.mir_syntax.specs.Tree.{Tree}
 use Rattle.mir_syntax.specs.Crate.{TypedStmt, TypedBlock, stmt_of, block_of}
 use Rattle.cfg_simplify.specs.Edges.{retarget, goto_block}
 use Rattle.cfg_simplify.specs.Simple.{numbers, onward, walk, is_nil, empty_goto, landing, hopped_block, hopped, joined, stays, line, new_number, term_of, stmts_at, whole_block, regrouped, simple_blocks}
-use Rattle.cfg_simplify.specs.Code.{block_term, bare_goto, hollow, stmts_in, bare_hopped_block, bare_hopped, bare_whole, bare_regrouped}
+use Rattle.mir_cfg.specs.Paths.{block_term}
+use Rattle.cfg_simplify.specs.Code.{bare_goto, hollow, stmts_in, bare_hopped_block, bare_hopped, bare_whole, bare_regrouped}
 
 map-same : {X Y : Type 0} (f g : X → Y) (xs : List X) → ((x : X) → f x ≡ g x) → map f xs ≡ map g xs
 map-same f g [] h = refl

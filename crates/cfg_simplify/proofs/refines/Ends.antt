@@ -9,15 +9,15 @@ use Rattle.std.proofs.lemmas.Map.Keys.{IsDistinct-push}
 use Rattle.std.proofs.lemmas.Map.Steps.{length-le_from_distinct_below}
 use Rattle.mir_syntax.specs.declared.body.Term.{Term}
 use Rattle.mir_syntax.specs.declared.body.Term.TheVariants.{Goto, Unreachable}
-use Rattle.cfg_simplify.specs.Edges.{edges, goto_block, Closed}
-use Rattle.cfg_simplify.specs.Simple.{numbers, onward, walk, reached, incoming, joins_to, only_if, joined, is_at, is_joined, stays, line}
+use Rattle.mir_cfg.specs.Paths.{exits, Closed, is_reached}
+use Rattle.cfg_simplify.specs.Edges.{goto_block}
+use Rattle.cfg_simplify.specs.Simple.{numbers, onward, walk, incoming, joins_to, only_if, joined, is_at, is_joined, stays, line}
 use Rattle.cfg_simplify.specs.Code.{at}
 use Rattle.cfg_simplify.proofs.equal.Kept.{joined-below}
 use Rattle.cfg_simplify.proofs.equal.Lines.{joined-tells, cases-link, on-line, fresh, seen, seen-step, seen-up}
 use Rattle.cfg_simplify.proofs.equal.Lists.{walk-below}
-use Rattle.cfg_simplify.proofs.equal.Paths.{any-place}
 use Rattle.cfg_simplify.proofs.refines.Hopped.{goto_is}
-use Rattle.cfg_simplify.proofs.refines.Reached.{edges_reached}
+use Rattle.mir_cfg.proofs.Reaching.{any_which, exits_reached}
 
 -- ---- a joined block
 
@@ -37,7 +37,7 @@ reached_joined false o b h = absurd cc
 pub joined_goto : (terms : List Term) (a b : ℕ) → joined terms a ≡ Some b → get_or terms a Unreachable ≡ Goto b
 joined_goto terms a b h =
     let t = get_or terms a Unreachable in
-    goto_is t b (goto_joined (joins_to terms a) (goto_block t) b (reached_joined (reached terms a) (only_if (joins_to terms a) (goto_block t)) b h))
+    goto_is t b (goto_joined (joins_to terms a) (goto_block t) b (reached_joined (is_reached terms a) (only_if (joins_to terms a) (goto_block t)) b h))
 
 passes_joined : (p : ℕ → Bool) (o : Option ℕ) (b : ℕ) → only_if p o ≡ Some b → p b ≡ true
 passes_joined p None b h = absurd cc
@@ -50,14 +50,13 @@ passes_joined p (Some c) b h = go (p c) refl h
 -- bb0 is joined to none
 pub start_alone : (terms : List Term) → is_joined terms 0 ≡ false
 start_alone terms = false_from_ne_true (is_joined terms 0) (λ on.
-    (let p = any-place (λ a. is_at 0 (joined terms a)) (numbers (length terms)) on in
-    let y = at (numbers (length terms)) p.0 in
+    (let (y, among, test) = any_which (λ a. is_at 0 (joined terms a)) (numbers (length terms)) on in
     elim (cases-link (joined terms y)) [
-      | inl alone ↦ both_ways false refl (rw alone at p.2)
+      | inl alone ↦ both_ways false refl (rw alone at test)
       | inr (e, some) ↦ (
-          let same : e ≡ 0 = eqb-true e 0 (rw some at p.2) in
+          let same : e ≡ 0 = eqb-true e 0 (rw some at test) in
           let t = get_or terms y Unreachable in
-          let fits : joins_to terms y 0 ≡ true = passes_joined (joins_to terms y) (goto_block t) 0 (reached_joined (reached terms y) (only_if (joins_to terms y) (goto_block t)) 0 (some ∙ ap Some same)) in
+          let fits : joins_to terms y 0 ≡ true = passes_joined (joins_to terms y) (goto_block t) 0 (reached_joined (is_reached terms y) (only_if (joins_to terms y) (goto_block t)) 0 (some ∙ ap Some same)) in
           both_ways false refl fits)
     ]))
 
@@ -77,13 +76,13 @@ count_hit (x ∷ xs) b (suc k) l e =
 module _ (terms : List Term) (b : ℕ) (once : incoming terms b ≡ 1) where
   -- from a reached block an edge leads there
   abbrev Hits : ℕ → Type 0
-  Hits a = (reached terms a ≡ true) × (a < length terms) × (0 < count_by (λ e. e == b) (edges terms a))
+  Hits a = (is_reached terms a ≡ true) × (a < length terms) × (0 < count_by (λ e. e == b) (exits terms a))
 
   seen_here : (a : ℕ) → Hits a → seen terms b a < seen terms b (a + 1)
   seen_here a (r, l, hit) =
-      let e : flat_map (edges terms) (cond (reached terms a) (a ∷ []) []) ≡ edges terms a = ap (flat_map (edges terms)) (cond-true (reached terms a) (a ∷ []) [] r) ∙ append-nil (edges terms a) in
+      let e : flat_map (exits terms) (cond (is_reached terms a) (a ∷ []) []) ≡ exits terms a = ap (flat_map (exits terms)) (cond-true (is_reached terms a) (a ∷ []) [] r) ∙ append-nil (exits terms a) in
       let step = seen-step terms b a in
-      let all : count_by (λ x. x == b) (flat_map (edges terms) (cond (reached terms a) (a ∷ []) [])) ≡ count_by (λ x. x == b) (edges terms a) = ap (count_by (λ x. x == b)) e in
+      let all : count_by (λ x. x == b) (flat_map (exits terms) (cond (is_reached terms a) (a ∷ []) [])) ≡ count_by (λ x. x == b) (exits terms a) = ap (count_by (λ x. x == b)) e in
       omega (arith, step, all, hit)
 
   two_apart : (a c : ℕ) → a < c → Hits a → Hits c → ⊥
@@ -148,7 +147,7 @@ module _ (terms : List Term) (closed : Closed terms) where
   ]
 
   module _ (some : 0 < length terms) where
-    pub line_reached : (n h : ℕ) → reached terms h ≡ true → reached terms (walk (onward (joined terms)) n h) ≡ true
+    pub line_reached : (n h : ℕ) → is_reached terms h ≡ true → is_reached terms (walk (onward (joined terms)) n h) ≡ true
     line_reached zero h r = r
     line_reached (suc n) h r =
         let x = walk (onward (joined terms)) n h in
@@ -156,27 +155,26 @@ module _ (terms : List Term) (closed : Closed terms) where
           | inl none ↦ rw none (line_reached n h r)
           | inr (c, some_c) ↦ rw some_c (
               let j = joined-tells terms x c some_c in
-              let all : All (λ t. reached terms t ≡ true) (c ∷ []) = rw j.leads_there at (edges_reached terms closed some x j.is_reached j.from) in
+              let all : All (λ t. is_reached terms t ≡ true) (c ∷ []) = rw j.leads_there at (exits_reached terms closed some x j.from_reached) in
               all 0 0 (omega arith))
         ]
 
     -- where an edge of a reached block leads to which nothing is joined, a line begins
-    pub end_stays : (x : ℕ) → reached terms x ≡ true → x < length terms → joined terms x ≡ None → All (λ c. stays terms c ≡ true) (edges terms x)
+    pub end_stays : (x : ℕ) → is_reached terms x ≡ true → x < length terms → joined terms x ≡ None → All (λ c. stays terms c ≡ true) (exits terms x)
     end_stays x r l none k d m =
-        let c = get_or (edges terms x) k d in
-        let first : reached terms c ≡ true = edges_reached terms closed some x r l k d m in
+        let c = get_or (exits terms x) k d in
+        let first : is_reached terms c ≡ true = exits_reached terms closed some x r k d m in
         let apart : is_joined terms c ≡ false = false_from_ne_true (is_joined terms c) (λ on.
-        (let p = any-place (λ a. is_at c (joined terms a)) (numbers (length terms)) on in
-        let y = at (numbers (length terms)) p.0 in
+        (let (y, among, test) = any_which (λ a. is_at c (joined terms a)) (numbers (length terms)) on in
         elim (cases-link (joined terms y)) [
-          | inl alone ↦ both_ways false refl (rw alone at p.2)
+          | inl alone ↦ both_ways false refl (rw alone at test)
           | inr (e, some_e) ↦ (
-              let same : e ≡ c = eqb-true e c (rw some_e at p.2) in
+              let same : e ≡ c = eqb-true e c (rw some_e at test) in
               let j = joined-tells terms y e some_e in
               let once : incoming terms c ≡ 1 = rw same at j.once in
-              let hit : 0 < count_by (λ t. t == c) (edges terms y) = rw j.leads_there (count_hit (e ∷ []) c 0 (omega arith) same) in
-              let mine : 0 < count_by (λ t. t == c) (edges terms x) = count_hit (edges terms x) c k m (same_default (edges terms x) k 0 d m) in
-              let one : x ≡ y = one_block terms c once x y (r, l, mine) (j.is_reached, j.from, hit) in
+              let hit : 0 < count_by (λ t. t == c) (exits terms y) = rw j.leads_there (count_hit (e ∷ []) c 0 (omega arith) same) in
+              let mine : 0 < count_by (λ t. t == c) (exits terms x) = count_hit (exits terms x) c k m (same_default (exits terms x) k 0 d m) in
+              let one : x ≡ y = one_block terms c once x y (r, l, mine) (j.from_reached, j.from, hit) in
               let bad : None ≡ Some e = sym none ∙ ap (joined terms) one ∙ some_e in
               absurd cc)
         ])) in

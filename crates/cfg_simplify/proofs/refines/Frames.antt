@@ -1,5 +1,6 @@
 -- What a body with the same statements under other jumps shows of its frames.
-use Rattle.std.proofs.Common.{◌≡◌, ◌⊎◌, inl, inr, refl, sym, ap, ap₂, ◌∙◌, subst, ℕ, suc, ◌<◌, ◌≤◌, false, List, [], ◌∷◌, ◌++◌, Option, Some, None, slice_get, arith}
+use Rattle.std.proofs.Common.{◌≡◌, ◌⊎◌, inl, inr, refl, sym, ap, ap₂, ◌∙◌, subst, ℕ, suc, ◌<◌, ◌≤◌, true, false, List, [], ◌∷◌, ◌++◌, Option, Some, None, slice_get, arith}
+use Rattle.std.proofs.lemmas.Bool.{both_ways}
 use Rattle.mir_syntax.specs.declared.body.Place as place
 use Rattle.mir_syntax.specs.declared.body.Operand.{Operand}
 use Rattle.mir_syntax.specs.declared.body.Term.{Term}
@@ -8,6 +9,7 @@ use Rattle.mir_syntax.specs.Tree.{Tree}
 use Rattle.mir_syntax.specs.Shapes.{Shape}
 use Rattle.mir_syntax.specs.Crate.{TypedRvalue, «use», binary, overflow, unary, cast, discriminant, tuple, build, TypedStmt, assign, storage_live, storage_dead, set_discriminant, TypedBlock, TypedBody}
 use Rattle.mir_syntax.specs.Crate as rvalue
+use Rattle.mir_rules.specs.Drops.{is_drop}
 use Rattle.mir_semantics.specs.Values.{Value, blank}
 use Rattle.mir_semantics.specs.Memory.{Memory, local_at, open_frame, write}
 use Rattle.mir_semantics.specs.Step.{dest_of, Here, Dest, Dropping, Control, State, Next, on, local_addr, read_at, new_slots, go_on, to_block, next_stmt, take_arm, destroyed, return_to, begun, finish, perform, step}
@@ -45,10 +47,6 @@ use Rattle.mir_renaming.proofs.Among.{all_operand, all_operands, all_rvalue}
 use Rattle.mir_renaming.proofs.Slots.{slots_rel, value_in}
 use Rattle.mir_renaming.proofs.Tight.{slots_tight, tight_in}
 
-abbrev pub IsDrop : Term → Type 0
-IsDrop (Drop p u) = Unit {0}
-IsDrop _ = ⊥
-
 module _ (X : Change) (same_locals : X.body2.locals ≡ X.body1.locals) (Place : ℕ → ℕ → ℕ → ℕ → ℕ → Type 0) (jumps : BodyJumps X.body2 X.body1 Place) where
   -- the start of a block stands for that of another
   abbrev pub ToPlace : ℕ → ℕ → Type 0
@@ -62,7 +60,7 @@ module _ (X : Change) (same_locals : X.body2.locals ≡ X.body1.locals) (Place :
 
   -- a drop that goes on stands at its terminator
   abbrev pub Busy : Control → Type 0
-  Busy c = (d : Dropping) → c.dropping ≡ Some d → (k : TypedBlock) → slice_get X.body1.blocks c.block ≡ Some k → IsDrop k.term × (slice_get k.stmts c.at ≡ None)
+  Busy c = (d : Dropping) → c.dropping ≡ Some d → (k : TypedBlock) → slice_get X.body1.blocks c.block ≡ Some k → (is_drop k.term ≡ true) × (slice_get k.stmts c.at ≡ None)
 
   pub record Stand (n : ℕ) (j : Renaming) (c2 c1 : Control) : Type 0 where
     pub function1 : c1.function ≡ X.f
@@ -109,15 +107,18 @@ module _ (X : Change) (same_locals : X.body2.locals ≡ X.body1.locals) (Place :
   }
 
   stand_begins : (j : Renaming) (k2 k1 : ℕ) (d2 d1 : Option Dest) → ((x : ℕ) → j k1 x ≡ None) → ((h x g y : ℕ) → j h x ≡ Some (g, y) → g < k2) → (n : ℕ) × Stand n (opened j k2 k1 Some) (new_control X.f k2 d2) (new_control X.f k1 d1)
-  stand_begins j k2 k1 d2 d1 fresh1 fresh2 = (jumps.starts.0, record {
-    function1 = refl;
-    function2 = refl;
-    drops = tt;
-    roots = λ x. opened_at j k2 k1 Some fresh1 fresh2 x x refl;
-    only = λ i x y e. only i x y (opened_parts j k2 k1 Some fresh1 fresh2 i x k2 y e);
-    here = jumps.starts.1;
-    busy = (λ d z. absurd (let y : ◌≡◌ {A = Option Dropping} None (Some d) = z in grind arith));
-  })
+  stand_begins j k2 k1 d2 d1 fresh1 fresh2 = (
+    jumps.starts.0,
+    record {
+      function1 = refl;
+      function2 = refl;
+      drops = tt;
+      roots = λ x. opened_at j k2 k1 Some fresh1 fresh2 x x refl;
+      only = λ i x y e. only i x y (opened_parts j k2 k1 Some fresh1 fresh2 i x k2 y e);
+      here = jumps.starts.1;
+      busy = (λ d z. absurd (let y : ◌≡◌ {A = Option Dropping} None (Some d) = z in grind arith));
+    },
+  )
     where
       only : (i x y : ℕ) → ((i ≡ k1) × (◌≡◌ {A = ℕ} k2 k2) × (Some x ≡ Some y)) ⊎ ((k1 ≡ i → ⊥) × (j i x ≡ Some (k2, y))) → (i ≡ k1) × (x ≡ y)
       only i x y (inl p) = (p.0, some_val p.2)
@@ -140,10 +141,6 @@ module _ (X : Change) (same_locals : X.body2.locals ≡ X.body1.locals) (Place :
 
 abbrev pub sub_self : (j : Renaming) → Sub j j
 sub_self j f x r e = e
-
-abbrev pub NoDrop : Term → Type 0
-NoDrop (Drop p u) = ⊥
-NoDrop _ = Unit {0}
 
 module _ (X : Change) (same_locals : X.body2.locals ≡ X.body1.locals) (Place : ℕ → ℕ → ℕ → ℕ → ℕ → Type 0) (jumps : BodyJumps X.body2 X.body1 Place) (V : Valids X) (Inv : State → Type 0) (inv_kept : (s s' : State) → Inv s → step X.source s ≡ Some (on s') → Inv s') (flat : (s : State) (x : Next) → Inv s → step X.source s ≡ Some x → Flat x) where
   abbrev D : List Shape
@@ -168,10 +165,14 @@ module _ (X : Change) (same_locals : X.body2.locals ≡ X.body1.locals) (Place :
     back_at m2' m1' e2 e1 n' a2 a1 f2 f1 d2 d1 dr h bz l' lv =
         let j = r.core.lent in
         let be' : Below X P j e2.dest e1.dest e2.frame e1.frame cs2 ds m2 m1 = subst (λ g. Below X P j e2.dest e1.dest g e1.frame cs2 ds m2 m1) (sym a2) (subst (λ g. Below X P j e2.dest e1.dest c2.frame g cs2 ds m2 m1) (sym a1) (subst (λ d. Below X P j d e1.dest c2.frame c1.frame cs2 ds m2 m1) (sym d2) (subst (λ d. Below X P j c2.dest d c2.frame c1.frame cs2 ds m2 m1) (sym d1) be))) in
-        let ag' : AgreesBy X j c1 m2' m1' = agrees_by X r.typed1.types j j (suc c2.frame) (suc c1.frame) m2' m1' m2 m1 c1 (omega arith) ks.0 lv ag in
-        (n', _, refl, back_core X P V Inv kept n s2 s1 r m2 m1 m2' m1' e2 e1 ds cs2 ks.1 be' (omega (arith, a1, l1)) (omega (arith, a2, l2)) l'
-          (leaves_less D r.typed1.types j j (suc c2.frame) (suc c1.frame) e2.frame e1.frame m2' m1' m2 m1 (omega (arith, a2)) (omega (arith, a1)) lv)
-          n' (refl, moved X same_locals Place jumps i n' j c2 c1 e2 e1 a2 a1 f2 f1 dr h bz st, agrees_at X j c1 e1 m2' m1' f1 a1 ag'))
+        let ag' : AgreesBy X j c1 m2' m1' = agrees_by X r.typed1.types j j (suc c2.frame) (suc c1.frame) m2' m1' m2 m1 c1 (omega arith) ks.0 lv ag in (
+          n',
+          _,
+          refl,
+          back_core X P V Inv kept n s2 s1 r m2 m1 m2' m1' e2 e1 ds cs2 ks.1 be' (omega (arith, a1, l1)) (omega (arith, a2, l2)) l'
+              (leaves_less D r.typed1.types j j (suc c2.frame) (suc c1.frame) e2.frame e1.frame m2' m1' m2 m1 (omega (arith, a2)) (omega (arith, a1)) lv)
+              n' (refl, moved X same_locals Place jumps i n' j c2 c1 e2 e1 a2 a1 f2 f1 dr h bz st, agrees_at X j c1 e1 m2' m1' f1 a1 ag'),
+        )
 
     back : (d2 d1 : Option Dest) → DestsRel r.core.lent d1 d2 → ((d : Dest) → d1 ≡ Some d → (t : Tree) × AddrTy D r.typed1.types d.addr t) → Same r.core.lent v w → return_to D s1 m1 d1 (c1 ∷ ds) v ≡ Some x → Goes X P (return_to D s2 m2 d2 (c2 ∷ cs2) w) x
     unfolding return_to
@@ -307,22 +308,22 @@ module _ (X : Change) (same_locals : X.body2.locals ≡ X.body1.locals) (Place :
         let ((w, g, rel), at) = text.read_at_rel D ts1 ts2 f1 f2 j j (sub_self j) s2.memory s1.memory (record { frame = f1; local = 0; path = [] }) (record { frame = f2; local = 0; path = [] }) v (record { root = st.roots 0; path = refl }) r.core.linked.mem e in
         (w, g, (rel, whole_tight j v w rel (read_at_whole s1.memory (record { frame = f1; local = 0; path = [] }) v e)))
 
-    likewise : (t u : Term) → SameTerm Tos u t → NoDrop t → TermMoves H1 t → TermTy X.source H1 t → own.SameStep X P V Inv frames n s2 s1 r [] s1.callers refl (omega arith) be S Q left refl first t u
-    likewise (Goto u1) (Goto u2) h nd mo ty = λ m2 m1 q. edge m2 m1 u2 u1 h (agreed m2 m1 q.leaves)
-    likewise (Switch o arms1 u1) (Switch p arms2 u2) (ho, hu) nd mo ty = (subst (λ p. Reads S Q o p) (sym ho) (reads_one o mo), λ i m2 m1 q. edge m2 m1 (take_arm i arms2 u2) (take_arm i arms1 u1) (hu i) (agreed m2 m1 q.leaves))
-    likewise Return Return h nd mo ty = (refl, result)
-    likewise Unreachable u h nd mo ty = tt
-    likewise (Call p g os u1) (Call p' g' ps u2) (hp, hg, ho, hu) nd mo (t, pt, ct) = (
+    same_step : (t u : Term) → SameTerm Tos u t → is_drop t ≡ false → TermMoves H1 t → TermTy X.source H1 t → own.SameStep X P V Inv frames n s2 s1 r [] s1.callers refl (omega arith) be S Q left refl first t u
+    same_step (Goto u1) (Goto u2) h nd mo ty = λ m2 m1 q. edge m2 m1 u2 u1 h (agreed m2 m1 q.leaves)
+    same_step (Switch o arms1 u1) (Switch p arms2 u2) (ho, hu) nd mo ty = (subst (λ p. Reads S Q o p) (sym ho) (reads_one o mo), λ i m2 m1 q. edge m2 m1 (take_arm i arms2 u2) (take_arm i arms1 u1) (hu i) (agreed m2 m1 q.leaves))
+    same_step Return Return h nd mo ty = (refl, result)
+    same_step Unreachable u h nd mo ty = tt
+    same_step (Call p g os u1) (Call p' g' ps u2) (hp, hg, ho, hu) nd mo (t, pt, ct) = (
       sym hg,
       subst (λ ps. AllRead S Q os ps) (sym ho) (reads os mo),
       λ d1 e.
           let (d2, g1, dr) = kept.dest_as D ts1 ts2 f1 f2 j j (sub_self j) G bok lok Q keeps s2.memory s1.memory p p d1 (itself.place_self D ts1 ts2 f1 f2 j j (sub_self j) G bok lok types j p (st.roots p.local)) first e in
           (d2, ap (dest_of S.target s2.memory) hp ∙ g1, goal d2 d1 u2 u1 t hu dr (dest_ty D G bok ts1 f1 lok s1.memory p t d1 r.typed1.mem pt e)),
     )
-    likewise (Assert o c words os u1) (Assert p c' words' ps u2) (hp, hc, hw, ho, hu) nd mo ty =
+    same_step (Assert o c words os u1) (Assert p c' words' ps u2) (hp, hc, hw, ho, hu) nd mo ty =
         (subst (λ p. Reads S Q o p) (sym hp) (reads_one o mo.0), sym hc, sym hw, subst (λ ps. AllRead S Q os ps) (sym ho) (reads os mo.1), λ m2 m1 q. edge m2 m1 u2 u1 hu (agreed m2 m1 q.leaves))
-    likewise (Drop p u1) u h nd mo ty = absurd nd
-    likewise t u h nd mo ty = absurd h
+    same_step (Drop p u1) u h nd mo ty = absurd (both_ways true nd refl)
+    same_step t u h nd mo ty = absurd h
 
     -- ---- a drop
 
@@ -348,7 +349,7 @@ module _ (X : Change) (same_locals : X.body2.locals ≡ X.body1.locals) (Place :
 
     -- the source stands at a drop
     abbrev AtDrop : Type 0
-    AtDrop = (k : TypedBlock) → slice_get X.body1.blocks s1.top.block ≡ Some k → IsDrop k.term × (slice_get k.stmts s1.top.at ≡ None)
+    AtDrop = (k : TypedBlock) → slice_get X.body1.blocks s1.top.block ≡ Some k → (is_drop k.term ≡ true) × (slice_get k.stmts s1.top.at ≡ None)
 
     dropping_at : AtDrop → (d e : Dropping) → Visiting j d e → Tos e.target d.target → Standing n j (record s2.top { dropping = Some e }) (record s1.top { dropping = Some d })
     dropping_at hb d e vs tg = moved X same_locals Place jumps n n j s2.top s1.top (record s2.top { dropping = Some e }) (record s1.top { dropping = Some d }) refl refl refl refl (vs, tg) st.here (λ d0 z k ek. hb k ek) st
@@ -365,17 +366,17 @@ module _ (X : Change) (same_locals : X.body2.locals ≡ X.body1.locals) (Place :
         (λ d e vs tg. inr (record s1.top { dropping = Some d }, [], s1.callers, refl, r.core.base.top1, r.core.base.top2, omega arith, (refl, (n, dropping_at hb d e vs tg), tt, ag), be))
         d d2 x (begun_own X.source s1 r.drops X.body1 eb p u1 s1.top.dropping d hd refl e1) tys vs0 tg0 pty k1)
 
-    by_likewise : (t t2 : Term) → SameTerm Tos t2 t → NoDrop t → TermMoves H1 t → TermTy X.source H1 t → FewTerm X.source t → (x : Next) → finish X.source H1 s1 t ≡ Some x → Flat x → Goes X P (finish (target X) S.target s2 t2) x
-    by_likewise t t2 h nd mo ty few x e fl = own.same_step_goes X P V Inv frames n s2 s1 r [] s1.callers refl (omega arith) be S Q left refl first refl refl X.body1 eb (λ h x y v e q. (st.only h x y e).0) (λ h x y lt e. (let z = (st.only h x y e).0 in omega (arith, z, lt))) t t2 x few (likewise t t2 h nd mo ty) e fl
+    by_same_step : (t t2 : Term) → SameTerm Tos t2 t → is_drop t ≡ false → TermMoves H1 t → TermTy X.source H1 t → FewTerm X.source t → (x : Next) → finish X.source H1 s1 t ≡ Some x → Flat x → Goes X P (finish (target X) S.target s2 t2) x
+    by_same_step t t2 h nd mo ty few x e fl = own.same_step_goes X P V Inv frames n s2 s1 r [] s1.callers refl (omega arith) be S Q left refl first refl refl X.body1 eb (λ h x y v e q. (st.only h x y e).0) (λ h x y lt e. (let z = (st.only h x y e).0 in omega (arith, z, lt))) t t2 x few (same_step t t2 h nd mo ty) e fl
 
     end_goes : (t t2 : Term) → ((k : TypedBlock) → slice_get X.body1.blocks s1.top.block ≡ Some k → (k.term ≡ t) × (slice_get k.stmts s1.top.at ≡ None)) → SameTerm Tos t2 t → TermMoves H1 t → TermTy X.source H1 t → FewTerm X.source t → DropPlain t → (x : Next) → finish X.source H1 s1 t ≡ Some x → Flat x → Goes X P (finish (target X) S.target s2 t2) x
-    end_goes (Drop p u1) (Drop q u2) hk h mo ty few hd x e fl = subst (λ q. Goes X P (finish (target X) S.target s2 (Drop q u2)) x) (sym h.0) (drop_goes (λ k ek. (let (t, z) = hk k ek in (subst IsDrop (sym t) tt, z))) p u1 u2 h.1 hd x e)
-    end_goes (Goto u1) t2 hk h mo ty few hd x e fl = by_likewise (Goto u1) t2 h tt mo ty few x e fl
-    end_goes (Switch o arms u1) t2 hk h mo ty few hd x e fl = by_likewise (Switch o arms u1) t2 h tt mo ty few x e fl
-    end_goes Return t2 hk h mo ty few hd x e fl = by_likewise Return t2 h tt mo ty few x e fl
-    end_goes Unreachable t2 hk h mo ty few hd x e fl = by_likewise Unreachable t2 h tt mo ty few x e fl
-    end_goes (Call p g os u1) t2 hk h mo ty few hd x e fl = by_likewise (Call p g os u1) t2 h tt mo ty few x e fl
-    end_goes (Assert o c ws os u1) t2 hk h mo ty few hd x e fl = by_likewise (Assert o c ws os u1) t2 h tt mo ty few x e fl
+    end_goes (Drop p u1) (Drop q u2) hk h mo ty few hd x e fl = subst (λ q. Goes X P (finish (target X) S.target s2 (Drop q u2)) x) (sym h.0) (drop_goes (λ k ek. (let (t, z) = hk k ek in (ap is_drop t, z))) p u1 u2 h.1 hd x e)
+    end_goes (Goto u1) t2 hk h mo ty few hd x e fl = by_same_step (Goto u1) t2 h refl mo ty few x e fl
+    end_goes (Switch o arms u1) t2 hk h mo ty few hd x e fl = by_same_step (Switch o arms u1) t2 h refl mo ty few x e fl
+    end_goes Return t2 hk h mo ty few hd x e fl = by_same_step Return t2 h refl mo ty few x e fl
+    end_goes Unreachable t2 hk h mo ty few hd x e fl = by_same_step Unreachable t2 h refl mo ty few x e fl
+    end_goes (Call p g os u1) t2 hk h mo ty few hd x e fl = by_same_step (Call p g os u1) t2 h refl mo ty few x e fl
+    end_goes (Assert o c ws os u1) t2 hk h mo ty few hd x e fl = by_same_step (Assert o c ws os u1) t2 h refl mo ty few x e fl
     end_goes (Drop p u1) t2 hk h mo ty few hd x e fl = absurd h
 
     payloads : text.PayloadsOk D ts1 ts2 f1 f2 j j (sub_self j) s2.memory
@@ -441,7 +442,7 @@ module _ (X : Change) (same_locals : X.body2.locals ≡ X.body1.locals) (Place :
       where
         only_goto : (k1 : TypedBlock) (u : ℕ) → slice_get X.body1.blocks s1.top.block ≡ Some k1 → k1.term ≡ Goto u → (o1 : Option Dropping) → s1.top.dropping ≡ o1 → Dropped X same_locals Place jumps j o1 s2.top.dropping → Dropped X same_locals Place jumps j None s2.top.dropping
         only_goto k1 u i1 t None z h = h
-        only_goto k1 u i1 t (Some d) z h = absurd (subst IsDrop t (st.busy d z k1 i1).0)
+        only_goto k1 u i1 t (Some d) z h = absurd (both_ways (is_drop k1.term) (ap is_drop t) (st.busy d z k1 i1).0)
 
         go : (k1 : TypedBlock) (i1 : slice_get X.body1.blocks s1.top.block ≡ Some k1) (o : Option TypedStmt) → slice_get k1.stmts s1.top.at ≡ o → Meets Place n X.body2 s2.top.block s2.top.at s1.top.block s1.top.at k1.term (slice_get k1.stmts s1.top.at) → perform X.source H1 s1 k1.term (slice_get k1.stmts s1.top.at) ≡ Some x → Answers X P n s2 x
         go k1 i1 (Some s) at1 m q = by_stmt (subst (λ o. Meets Place n X.body2 s2.top.block s2.top.at s1.top.block s1.top.at k1.term o) at1 m) (subst (λ o. perform X.source H1 s1 k1.term o ≡ Some x) at1 q)

@@ -3,11 +3,10 @@ use Rattle.std.proofs.Common.{◌≡◌, refl, sym, ap, ◌∙◌, ℕ, zero, su
 use Rattle.std.specs.List.{filter}
 use Rattle.std.proofs.lemmas.Bool.{cases_lt, cases_Bool, cond-true, cond-false}
 use Rattle.std.proofs.lemmas.List.{append-nil}
-use Rattle.std.proofs.lemmas.List.Elements.{filter-append}
 use Rattle.std.proofs.lemmas.List.Sums.{length-filter}
 use Rattle.mir_syntax.proofs.Trees.{slice_get-front}
 use Rattle.cfg_simplify.specs.Simple.{numbers, new_number}
-use Rattle.cfg_simplify.proofs.equal.Lists.{numbers_push}
+use Rattle.cfg_simplify.proofs.equal.Kept.{filter-step}
 
 -- ---- an element more
 
@@ -25,7 +24,7 @@ module _ (keep : ℕ → Bool) where
   one_more : (n : ℕ) → filter keep (numbers (suc n)) ≡ filter keep (numbers n) ++ cond (keep n) (n ∷ []) []
   one_more n =
       let e : suc n ≡ n + 1 = omega arith in
-      ap (λ k. filter keep (numbers k)) e ∙ ap (filter keep) (numbers_push n) ∙ filter-append keep (numbers n) (n ∷ [])
+      ap (λ k. filter keep (numbers k)) e ∙ filter-step keep n
 
   pub with_kept : (n : ℕ) → keep n ≡ true → filter keep (numbers (suc n)) ≡ filter keep (numbers n) ++ n ∷ []
   with_kept n k = one_more n ∙ ap (λ xs. filter keep (numbers n) ++ xs) (cond-true (keep n) (n ∷ []) [] k)

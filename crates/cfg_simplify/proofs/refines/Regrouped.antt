@@ -12,12 +12,11 @@ use Rattle.mir_syntax.proofs.Lists.{map_there}
 use Rattle.mir_rules.proofs.Terminators.{slice_get_there}
 use Rattle.cfg_simplify.proofs.refines.Jumps.{SameTerm}
 use Rattle.cfg_simplify.proofs.refines.Lines.{Begins, IsLine, Joins}
-use Rattle.cfg_simplify.specs.Edges.{edges, Closed}
-use Rattle.cfg_simplify.specs.Simple.{numbers, onward, walk, reached, joined, stays, line, new_number, term_of, no_block, stmts_at, whole_block, regrouped}
+use Rattle.mir_cfg.specs.Paths.{exits, Closed, is_reached}
+use Rattle.cfg_simplify.specs.Simple.{numbers, onward, walk, joined, stays, line, new_number, term_of, no_block, stmts_at, whole_block, regrouped}
 use Rattle.cfg_simplify.proofs.equal.Lines.{joined-tells, cases-link}
-use Rattle.cfg_simplify.proofs.equal.Paths.{edges-within}
 use Rattle.cfg_simplify.proofs.refines.Hopped.{same_term_led}
-use Rattle.cfg_simplify.proofs.refines.Reached.{start_reached}
+use Rattle.mir_cfg.proofs.Reaching.{start_reached}
 use Rattle.cfg_simplify.proofs.refines.Ends.{joined_goto, start_alone, line_below, line_ends, line_reached, end_stays}
 use Rattle.cfg_simplify.proofs.refines.Numbers.{kept_there, kept_is}
 
@@ -97,10 +96,10 @@ module _ (b : TypedBody) (closed : Closed (map term_of b.blocks)) (some : 0 < le
     pub last_below : walk (onward (joined (map term_of b.blocks))) (length b.blocks) a < length b.blocks
     last_below = rw long at (line_below terms closed (length b.blocks) a (rw long l))
 
-    last_reached : reached (map term_of b.blocks) last ≡ true
-    last_reached = line_reached terms closed (rw long some) (length b.blocks) a (and_parts (reached terms a) _ s).0
+    last_reached : is_reached (map term_of b.blocks) last ≡ true
+    last_reached = line_reached terms closed (rw long some) (length b.blocks) a (and_parts (is_reached terms a) _ s).0
 
-    pub last_stays : All (λ c. stays (map term_of b.blocks) c ≡ true) (edges (map term_of b.blocks) (walk (onward (joined (map term_of b.blocks))) (length b.blocks) a))
+    pub last_stays : All (λ c. stays (map term_of b.blocks) c ≡ true) (exits (map term_of b.blocks) (walk (onward (joined (map term_of b.blocks))) (length b.blocks) a))
     last_stays = end_stays terms closed (rw long some) last last_reached (rw long last_below) (subst (λ n. joined terms (walk (onward (joined terms)) n a) ≡ None) long (line_ends terms closed a s (rw long l)))
 
   -- a line's blocks, their statements one block's after another's, and the terminator of the last one
@@ -120,7 +119,7 @@ module _ (b : TypedBody) (closed : Closed (map term_of b.blocks)) (some : 0 < le
   led : (a : ℕ) → stays (map term_of b.blocks) a ≡ true → a < length b.blocks → SameTerm Target (whole_block b.blocks a).term (get_or (map term_of b.blocks) (walk (onward (joined (map term_of b.blocks))) (length b.blocks) a) Unreachable)
   led a s l =
       let x = walk (onward (joined terms)) (length b.blocks) a in
-      same_term_led Target (new_number keep) (get_or terms x Unreachable) (λ j d m. leads_to (get_or (edges terms x) j d) (rw long at (edges-within terms x closed j d m)) (last_stays a s l j d m))
+      same_term_led Target (new_number keep) (get_or terms x Unreachable) (λ j d m. leads_to (get_or (exits terms x) j d) (rw long at (closed x j d m)) (last_stays a s l j d m))
 
   pub joins : Joins (regrouped_body b) b lines
   joins = record {

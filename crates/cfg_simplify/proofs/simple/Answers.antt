@@ -9,14 +9,17 @@ use Rattle.cfg_simplify.proofs.simple.Goals as goal
 abbrev with_blocks : ℕ → List Tree → List TypedBlock → TypedBody
 with_blocks args locals blocks = record { args = args; locals = locals; blocks = blocks }
 
+pub reached_blocks-requires-clause-closed : goal.reached_blocks-requires-clause-closed
+reached_blocks-requires-clause-closed c = rw c.in_ok-blocks.ensures (hopped-closed c.args.body.blocks c.requires.closed)
+
 pub regrouped-requires-clause-closed : goal.regrouped-requires-clause-closed
-regrouped-requires-clause-closed c = rw c.in_ok-hopped.ensures (hopped-closed c.args.body.blocks c.requires.closed)
+regrouped-requires-clause-closed c = rw c.in_ok-blocks.ensures (hopped-closed c.args.body.blocks c.requires.closed)
 
 pub returns-clause-simpler : goal.returns-clause-simpler
 returns-clause-simpler c =
     let trees = trees_of c.args.program.now.types in
     ap (with_blocks c.args.body.args (map (at_id trees) c.args.body.locals))
-    (simple-same trees c.args.body.blocks c.in_ok-hopped.hopped c.in_ok-blocks.blocks c.in_ok-hopped.ensures c.in_ok-blocks.ensures)
+    (simple-same trees c.args.body.blocks c.in_ok-blocks.blocks c.in_ok-blocks-2.blocks c.in_ok-blocks.ensures c.in_ok-blocks-2.ensures)
 
 pub returns-clause-in_table : goal.returns-clause-in_table
-returns-clause-in_table c = λ h. simple_below (length c.args.program.now.types) c.args.body.args c.args.body.locals c.args.body.blocks c.in_ok-hopped.hopped c.in_ok-blocks.blocks c.in_ok-hopped.ensures c.in_ok-blocks.ensures h
+returns-clause-in_table c = λ h. simple_below (length c.args.program.now.types) c.args.body.args c.args.body.locals c.args.body.blocks c.in_ok-blocks.blocks c.in_ok-blocks-2.blocks c.in_ok-blocks.ensures c.in_ok-blocks-2.ensures h

@@ -1,5 +1,5 @@
 -- A cleaned body calls and drops nothing that the body doesn't.
-use Rattle.std.proofs.Common.{◌≡◌, refl, sym, ap, ◌∙◌, ℕ, true, false, List, Some, slice_get}
+use Rattle.std.proofs.Common.{◌≡◌, refl, sym, ap, ◌∙◌, ℕ, true, List}
 use Rattle.mir_syntax.specs.declared.body.Place as place
 use Rattle.mir_syntax.specs.declared.body.Operand.{Operand}
 use Rattle.mir_syntax.specs.declared.body.Callee.{Callee}

@@ -2,9 +2,9 @@
 use Rattle.std.proofs.Common.{◌≡◌, ◌≢◌, ◌⊎◌, inl, inr, refl, sym, ap, ◌∙◌, subst, ℕ, zero, suc, ◌<◌, ◌≤◌, Bool, true, is_some, List, [], ◌∷◌, ◌++◌, map, length, get_or, Option, Some, None, slice_get, arith}
 use Rattle.std.specs.List.{All, filter, flat_map}
 use Rattle.std.specs.Option.{unwrap_or}
-use Rattle.std.proofs.lemmas.Bool.{cond_both}
-use Rattle.std.proofs.lemmas.List.{length-map}
-use Rattle.std.proofs.lemmas.List.Elements.{All-head}
+use Rattle.std.proofs.lemmas.Bool.{cond_both, cases_lt}
+use Rattle.std.proofs.lemmas.List.{length-map, get_or_past}
+use Rattle.std.proofs.lemmas.List.Elements.{All-head, All-nil}
 use Rattle.std.proofs.lemmas.Option.{slice_get_within, slice_get-get_or, get_or_from_slice_get}
 use Rattle.mir_syntax.specs.declared.body.Term.{Term}
 use Rattle.mir_syntax.specs.declared.body.Term.TheVariants.{Unreachable}
@@ -18,12 +18,14 @@ use Rattle.mir_rules.proofs.Lists.{and_true-left}
 use Rattle.mir_rules.proofs.Keeps.{BodyKeeps}
 use Rattle.mir_rules.proofs.Terminators.{slice_get_there, term_typed, not_to_start}
 use Rattle.mir_rules.proofs.ValidCrates.{first_block, term_formed_at, target_there, body_formed_at, keeps, holds_body, valid_again}
-use Rattle.cfg_simplify.specs.Edges.{targets, retarget, Closed}
+use Rattle.mir_rules.specs.Parts.{targets}
+use Rattle.mir_cfg.specs.Paths.{exits, Closed}
+use Rattle.cfg_simplify.specs.Edges.{retarget}
 use Rattle.cfg_simplify.specs.Simple.{numbers, onward, walk, empty_goto, goto_link, landing, hopped_block, hopped, joined, stays, line, new_number, term_of, stmts_at, whole_block, regrouped, simple}
 use Rattle.cfg_simplify.proofs.refines.Hopped.{link_tells, hopped_body}
 use Rattle.cfg_simplify.proofs.refines.Numbers.{kept_there, kept_is, few_kept}
 use Rattle.cfg_simplify.proofs.refines.Regrouped.{term_at, start_stays, last_below, last_stays}
-use Rattle.cfg_simplify.proofs.valid.Rearranged.{targets_same, Rearranged, rearranged_formed, rearranged_keeps}
+use Rattle.cfg_simplify.proofs.valid.Rearranged.{Rearranged, rearranged_formed, rearranged_keeps}
 
 -- ---- what the rules say of edges
 
@@ -39,7 +41,7 @@ module _ (C : Crate) (b : TypedBody) (formed : body_formed C b ≡ true) where
   unfolding term_formed
   leads kept j k e i d l =
       let c = get_or (targets k.term) i d in
-      let at : slice_get (parts.targets k.term) i ≡ Some c = ap (λ xs. slice_get xs i) (targets_same k.term) ∙ slice_get-get_or (targets k.term) i d l in
+      let at : slice_get (targets k.term) i ≡ Some c = slice_get-get_or (targets k.term) i d l in
       let typed = term_typed C (shapes_of C) b.locals k.term (and_true-left (call_formed C k.term) _ (term_formed_at C b formed j k e)) (kept.terms j k e) in
       let away : c ≢ 0 = not_to_start k.term i c typed.targets at in
       (above c away, target_there C b formed j i c k e at)
@@ -49,13 +51,19 @@ module _ (C : Crate) (b : TypedBody) (formed : body_formed C b ≡ true) where
       above (suc c) h = omega arith
 
 pub closed : (b : TypedBody) → Leads b → Closed (map term_of b.blocks)
-closed b h i d l j e m =
-    let long : length (map term_of b.blocks) ≡ length b.blocks = length-map b.blocks term_of in
-    let (k, at) = slice_get_there b.blocks i (omega (arith, long, l)) in
-    let term : get_or (map term_of b.blocks) i d ≡ k.term = get_or_from_slice_get (map term_of b.blocks) i k.term d (map_there term_of b.blocks i k at) in
-    let all : All (λ c. (0 < c) × (c < length b.blocks)) (targets (get_or (map term_of b.blocks) i d)) = rw term (h i k at) in
-    let here = (all j e m).1 in
-    omega (arith, long, here)
+closed b h i = elim (cases_lt i (length b.blocks)) [
+  | inl l ↦ (
+      let (k, at) = slice_get_there b.blocks i l in
+      let term : get_or (map term_of b.blocks) i Unreachable ≡ k.term = get_or_from_slice_get (map term_of b.blocks) i k.term Unreachable (map_there term_of b.blocks i k at) in
+      let all : All (λ c. (0 < c) × (c < length b.blocks)) (exits (map term_of b.blocks) i) = rw term (h i k at) in
+      λ j e m. (let here = (all j e m).1 in omega (arith, long, here)))
+  | inr past ↦ (
+      let none : get_or (map term_of b.blocks) i Unreachable ≡ Unreachable = get_or_past (map term_of b.blocks) i Unreachable (omega (arith, long, past)) in
+      rw none (All-nil (λ (c : ℕ). c < length (map term_of b.blocks))))
+]
+  where
+    long : length (map term_of b.blocks) ≡ length b.blocks
+    long = length-map b.blocks term_of
 
 -- ---- skipped gotos
 

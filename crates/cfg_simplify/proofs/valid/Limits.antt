@@ -1,7 +1,7 @@
 -- The cleaning doesn't raise what the limits count of a body's blocks and locals.
-use Rattle.std.proofs.Common.{◌≡◌, refl, sym, ap, ap₂, ◌∙◌, ℕ, zero, suc, ◌+◌, ◌*◌, ◌<◌, ◌≤◌, Bool, true, cond, inl, inr, List, [], ◌∷◌, ◌++◌, map, length, get_or, set, arith}
+use Rattle.std.proofs.Common.{◌≡◌, refl, sym, ap, ap₂, ◌∙◌, ℕ, zero, suc, ◌+◌, ◌<◌, ◌≤◌, Bool, true, cond, inl, inr, List, [], ◌∷◌, map, length, get_or, set, arith}
 use Rattle.std.specs.List.{sum_by, filter}
-use Rattle.std.proofs.lemmas.Bool.{cases_Bool, cases_order, cases_lt, both_ways}
+use Rattle.std.proofs.lemmas.Bool.{cases_Bool, both_ways}
 use Rattle.std.proofs.lemmas.List.{length-map, length-set, get_or-map, get_or-set_other}
 use Rattle.std.proofs.lemmas.List.Sums.{sum_by-cons, sum_by_push, sum_by-set}
 use Rattle.mir_syntax.specs.declared.body.Term.{Term}
@@ -9,11 +9,12 @@ use Rattle.mir_syntax.specs.declared.body.Term.TheVariants.{Goto, Switch, Return
 use Rattle.mir_syntax.specs.Tree.{Tree}
 use Rattle.mir_syntax.specs.Shapes.{Shape}
 use Rattle.mir_syntax.specs.Crate.{TypedBlock, TypedBody, Crate}
-use Rattle.mir_rules.specs.Limits.{term_weight, block_weight, body_weight, is_call, ends_in_call, blocks_count, locals_count}
+use Rattle.mir_rules.specs.Limits.{term_weight, body_weight, is_call, blocks_count, locals_count}
 use Rattle.mir_rules.specs.Valid.{at_function, ValidAt}
 use Rattle.mir_rules.proofs.ValidCrates.{body_formed_at, keeps, holds_body}
-use Rattle.cfg_simplify.specs.Edges.{retarget, Closed}
-use Rattle.cfg_simplify.specs.Simple.{numbers, onward, walk, landing, empty_goto, hopped_block, hopped, joined, stays, line, term_of, whole_block, regrouped, simple}
+use Rattle.mir_cfg.specs.Paths.{Closed}
+use Rattle.cfg_simplify.specs.Edges.{retarget}
+use Rattle.cfg_simplify.specs.Simple.{numbers, onward, walk, landing, empty_goto, hopped_block, hopped, joined, stays, term_of, whole_block, regrouped, simple}
 use Rattle.cfg_simplify.specs.Code.{at}
 use Rattle.cfg_simplify.proofs.equal.Lines.{last-on-line, apart}
 use Rattle.cfg_simplify.proofs.refines.Hopped.{hopped_body}

@@ -12,6 +12,7 @@ use Rattle.mir_syntax.specs.Shapes.{Shape, shapes_of}
 use Rattle.mir_syntax.proofs.Lists.{map_back}
 use Rattle.mir_syntax.specs.Parts.{term_operands, term_places}
 use Rattle.mir_syntax.specs.Parts as parts
+use Rattle.mir_rules.specs.Parts.{term_operands, term_places, arm_block, targets}
 use Rattle.mir_rules.specs.BodyRules.{breaks_v05, arm_value, has_twice, has_too_wide}
 use Rattle.mir_rules.specs.Formed.{operand_formed, place_formed, call_formed, block_there, type_formed, stmt_formed, term_formed, block_formed, has_start, body_formed}
 use Rattle.mir_rules.proofs.Lists.{and_true-left, and_true-right, list_all_true, list_any_false}
@@ -19,15 +20,15 @@ use Rattle.mir_rules.proofs.Keeps.{BodyKeeps}
 use Rattle.mir_rules.proofs.Statements.{MovesKept}
 use Rattle.mir_rules.proofs.Terminators.{OwnTyped, TermTyped, term_typed, typed_term}
 use Rattle.mir_rules.proofs.ValidCrates.{stmt_formed_at, term_formed_at}
-use Rattle.cfg_simplify.specs.Edges.{arm_block, targets, retarget, retarget_arm}
+use Rattle.cfg_simplify.specs.Edges.{retarget, retarget_arm}
 
 -- ---- a terminator with its edges led elsewhere
 
-arms_led : (f : ℕ → ℕ) (arms : List Arm) (b : ℕ) → map parts.arm_block (map (retarget_arm f) arms) ++ f b ∷ [] ≡ map f (map arm_block arms ++ b ∷ [])
+arms_led : (f : ℕ → ℕ) (arms : List Arm) (b : ℕ) → map arm_block (map (retarget_arm f) arms) ++ f b ∷ [] ≡ map f (map arm_block arms ++ b ∷ [])
 arms_led f [] b = refl
 arms_led f (a ∷ arms) b = ap (λ xs. f a.block ∷ xs) (arms_led f arms b)
 
-pub targets_led : (f : ℕ → ℕ) (t : Term) → parts.targets (retarget f t) ≡ map f (targets t)
+pub targets_led : (f : ℕ → ℕ) (t : Term) → targets (retarget f t) ≡ map f (targets t)
 targets_led f (Goto b) = refl
 targets_led f (Switch o arms b) = arms_led f arms b
 targets_led f Return = refl
@@ -35,15 +36,6 @@ targets_led f Unreachable = refl
 targets_led f (Drop p b) = refl
 targets_led f (Call p g os b) = refl
 targets_led f (Assert o e x os b) = refl
-
-pub targets_same : (t : Term) → parts.targets t ≡ targets t
-targets_same (Goto b) = refl
-targets_same (Switch o arms b) = refl
-targets_same Return = refl
-targets_same Unreachable = refl
-targets_same (Drop p b) = refl
-targets_same (Call p g os b) = refl
-targets_same (Assert o e x os b) = refl
 
 call_led : (C : Crate) (f : ℕ → ℕ) (t : Term) → call_formed C (retarget f t) ≡ call_formed C t
 call_led C f (Goto b) = refl
@@ -83,7 +75,7 @@ all_at P xs i x h e = subst P (get_or_from_slice_get xs i x x e) (h i x (slice_g
 abbrev pub Inside : ℕ → (ℕ → ℕ) → Term → Type 0
 Inside n f t = All (λ c. (0 < f c) × (f c < n)) (targets t)
 
-each_inside : (n : ℕ) (f : ℕ → ℕ) (t : Term) (i c : ℕ) → Inside n f t → slice_get (parts.targets (retarget f t)) i ≡ Some c → (0 < c) × (c < n)
+each_inside : (n : ℕ) (f : ℕ → ℕ) (t : Term) (i c : ℕ) → Inside n f t → slice_get (targets (retarget f t)) i ≡ Some c → (0 < c) × (c < n)
 each_inside n f t i c h e =
     let (x, at, same) = map_back f (targets t) i c (ap (λ xs. slice_get xs i) (sym (targets_led f t)) ∙ e) in
     let both = all_at (λ x. (0 < f x) × (f x < n)) (targets t) i x h at in
@@ -111,8 +103,8 @@ module _ (C : Crate) (b : TypedBody) (blocks : List TypedBlock) (r : Rearranged 
   stmts_formed : (j : ℕ) (k2 : TypedBlock) → slice_get blocks j ≡ Some k2 → list_all (stmt_formed C b2) k2.stmts ≡ true
   stmts_formed j k2 e = list_all_true (stmt_formed C b2) k2.stmts (λ i s e2. let (j1, i1, k, at, at2) = r.stmts j i k2 s e e2 in stmt_same s ∙ stmt_formed_at C b formed j1 i1 k s at at2)
 
-  targets_there : (f : ℕ → ℕ) (t : Term) → Inside (length blocks) f t → list_all (block_there b2) (parts.targets (retarget f t)) ≡ true
-  targets_there f t h = list_all_true (block_there b2) (parts.targets (retarget f t)) (λ i c e. lt-ltb c (length blocks) (each_inside (length blocks) f t i c h e).1)
+  targets_there : (f : ℕ → ℕ) (t : Term) → Inside (length blocks) f t → list_all (block_there b2) (targets (retarget f t)) ≡ true
+  targets_there f t h = list_all_true (block_there b2) (targets (retarget f t)) (λ i c e. lt-ltb c (length blocks) (each_inside (length blocks) f t i c h e).1)
 
   term_led : (f : ℕ → ℕ) (t : Term) → Inside (length blocks) f t → term_formed C b t ≡ true → term_formed C b2 (retarget f t) ≡ true
   unfolding term_formed
@@ -120,7 +112,7 @@ module _ (C : Crate) (b : TypedBody) (blocks : List TypedBlock) (r : Rearranged 
       let own = call_formed C t in
       let ops = list_all operand_formed (term_operands t) in
       let places = list_all (place_formed b) (term_places t) in
-      let all = list_all (block_there b) (parts.targets t) in
+      let all = list_all (block_there b) (targets t) in
       let e1 = and_true-right own (ops && (places && all)) e in
       let e2 = and_true-right ops (places && all) e1 in
       let own2 : call_formed C (retarget f t) ≡ true = call_led C f t ∙ and_true-left own (ops && (places && all)) e in
@@ -160,7 +152,7 @@ module _ (C : Crate) (b : TypedBody) (blocks : List TypedBlock) (r : Rearranged 
   own_led D f (Assert o e x os n) h = h
 
   not_start : (f : ℕ → ℕ) (t : Term) → Inside (length blocks) f t → breaks_v05 (retarget f t) ≡ false
-  not_start f t h = list_any_false (λ i. i == 0) (parts.targets (retarget f t)) (λ i c e. ne_eqb c 0 (λ z. let l = (each_inside (length blocks) f t i c h e).0 in omega (arith, l, z)))
+  not_start f t h = list_any_false (λ i. i == 0) (targets (retarget f t)) (λ i c e. ne_eqb c 0 (λ z. let l = (each_inside (length blocks) f t i c h e).0 in omega (arith, l, z)))
 
   typed_led : (D : List Shape) (f : ℕ → ℕ) (t : Term) → Inside (length blocks) f t → TermTyped C D b.locals t → TermTyped C D b.locals (retarget f t)
   typed_led D f t h k = record {

@@ -2,9 +2,9 @@ use Rattle.std.proofs.Common.{◌≡◌, ℕ, List, length, map, ap, ◌∙◌, 
 use Rattle.std.specs.Prelude.{IfOk}
 use Rattle.mir_syntax.specs.declared.OutOfMemory.{OutOfMemory}
 use Rattle.mir_syntax.specs.declared.body.Block.{Block}
-use Rattle.cfg_simplify.specs.Edges.{Closed}
+use Rattle.mir_cfg.specs.Paths.{Closed, block_term}
 use Rattle.cfg_simplify.specs.Simple.{numbers, onward, walk, goto_link, settle, landing}
-use Rattle.cfg_simplify.specs.Code.{at, block_term, bare_goto}
+use Rattle.cfg_simplify.specs.Code.{at, bare_goto}
 use Rattle.cfg_simplify.proofs.equal.Lists.{length-numbers}
 use Rattle.cfg_simplify.proofs.equal.Landings.{steps-inside, ends-inside, ends-long, landings-are}
 use Rattle.cfg_simplify.proofs.gotos.landings.Goals as goal

@@ -1,5 +1,5 @@
 use Rattle.std.proofs.Common.{map}
-use Rattle.cfg_simplify.specs.Code.{block_term}
+use Rattle.mir_cfg.specs.Paths.{block_term}
 use Rattle.cfg_simplify.proofs.equal.Counts.{IsCounted}
 use Rattle.cfg_simplify.proofs.joins.incoming_counts.Given as goal
 

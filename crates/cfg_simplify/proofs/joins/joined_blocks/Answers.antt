@@ -1,6 +1,7 @@
 use Rattle.std.proofs.Common.{◌≡◌, ◌<◌, false, map, length, get_or, ap, ◌∙◌, arith}
-use Rattle.cfg_simplify.specs.Simple.{reached, joined}
-use Rattle.cfg_simplify.specs.Code.{at, block_term}
+use Rattle.mir_cfg.specs.Paths.{is_reached, block_term}
+use Rattle.cfg_simplify.specs.Simple.{joined}
+use Rattle.cfg_simplify.specs.Code.{at}
 use Rattle.cfg_simplify.proofs.equal.Lists.{length-numbers, get_from, map_step}
 use Rattle.cfg_simplify.proofs.equal.Terms.{block-closed}
 use Rattle.cfg_simplify.proofs.equal.Counts.{joined-is}
@@ -9,7 +10,7 @@ use Rattle.cfg_simplify.proofs.joins.joined_blocks.Goals as goal
 pub bounds-reached-block : goal.bounds-reached-block
 bounds-reached-block c =
     let blocks = c.args.blocks.now in
-    let long : length c.args.reached.now ≡ length blocks = ap length c.requires.marks ∙ length-numbers (reached (map block_term blocks)) (length blocks) in
+    let long : length c.args.reached.now ≡ length blocks = ap length c.requires.marks ∙ length-numbers (is_reached (map block_term blocks)) (length blocks) in
     omega arith
 
 pub joined_block-requires : goal.joined_block-requires
@@ -25,7 +26,7 @@ loop-block-preserved c =
     let terms = map block_term blocks in
     let i = c.loop-block.block in
     let l : i < length blocks = omega arith in
-    let mark : get_or c.args.reached.now i false ≡ reached terms i = get_from (reached terms) (length blocks) c.args.reached.now i false c.requires.marks l in
+    let mark : get_or c.args.reached.now i false ≡ is_reached terms i = get_from (is_reached terms) (length blocks) c.args.reached.now i false c.requires.marks l in
     map_step (joined terms) i c.loop-block.joins c.push.new.self c.joined_block.result c.loop-block.invariant
     (c.joined_block.ensures ∙ joined-is blocks c.as_slice.result.now i c.index-blocks-block.result c.requires.closed
     (λ b m. ap (λ xs. at xs b) c.as_slice.ensures.value ∙ c.in_ok-counts.ensures.each b m) l (get_or c.args.reached.now i false) mark)

@@ -1,10 +1,7 @@
-use Rattle.std.proofs.Common.{map, length, ◌-◌}
-use Rattle.cfg_simplify.specs.Code.{block_term}
-use Rattle.cfg_simplify.proofs.equal.Paths.{IsSearch}
+use Rattle.std.proofs.Common.{◌≡◌, map}
+use Rattle.mir_cfg.specs.Paths.{terms_of, is_reached}
+use Rattle.cfg_simplify.specs.Simple.{numbers}
 use Rattle.cfg_simplify.proofs.reach.reached_blocks.Given as goal
 
-abbrev pub invariant-loop-at : goal.invariant-loop-at
-invariant-loop-at l = IsSearch (map block_term l.blocks) l.at l.found.is_found.items l.found.order
-
-abbrev pub decreases-loop-at : goal.decreases-loop-at
-decreases-loop-at l = length l.blocks - l.at
+abbrev pub invariant-loop-block : goal.invariant-loop-block
+invariant-loop-block l = l.marks.items ≡ map (is_reached (terms_of l.body)) (numbers l.block)

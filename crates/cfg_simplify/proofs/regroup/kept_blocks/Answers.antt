@@ -5,11 +5,12 @@ use Rattle.std.proofs.lemmas.List.{length-map}
 use Rattle.mir_syntax.specs.declared.body.Stmt.{Stmt}
 use Rattle.mir_syntax.specs.declared.body.Term.{Term}
 use Rattle.mir_syntax.specs.declared.body.Block.{Block}
-use Rattle.cfg_simplify.specs.Edges.{targets, retarget}
+use Rattle.mir_rules.specs.Parts.{targets}
+use Rattle.cfg_simplify.specs.Edges.{retarget}
 use Rattle.cfg_simplify.specs.Simple.{numbers as all_numbers, onward, walk, joined, stays, line, new_number}
-use Rattle.cfg_simplify.specs.Code.{link_at, flag_at, block_term, hollow, bare_whole}
+use Rattle.mir_cfg.specs.Paths.{block_term}
+use Rattle.cfg_simplify.specs.Code.{link_at, flag_at, hollow, bare_whole}
 use Rattle.cfg_simplify.proofs.equal.Lists.{length-numbers, get_from}
-use Rattle.cfg_simplify.proofs.equal.Paths.{edges-within}
 use Rattle.cfg_simplify.proofs.equal.Lines.{fresh, fresh-same}
 use Rattle.cfg_simplify.proofs.equal.Kept.{link-is, joined-below, kept-skip, kept-step, renumbered, line-is, line-stmts, line-term}
 use Rattle.cfg_simplify.proofs.regroup.kept_blocks.Goals as goal
@@ -77,7 +78,7 @@ retargeted-term-requires c =
     let term = line-term blocks c.as_mut_slice.result.now c.args.joins.now i (length c.as_mut_slice.result.now) c.requires.joins view c.in_ok-stmts.field-0.term stay
     (λ b h. left b ∙ c.loop-at.invariant.stand b h) c.in_ok-stmts.ensures.term in
     let long = numbers-long blocks c.args.marks.now c.in_ok-numbers.numbers c.as_slice.result.now c.requires.marks c.in_ok-numbers.ensures c.as_slice.ensures in
-    rw (term, long) (edges-within terms (walk (onward (joined terms)) (length blocks) i) c.requires.closed)
+    rw (term, long) (c.requires.closed (walk (onward (joined terms)) (length blocks) i))
 
 made : List Stmt → Term → Block
 made s t = record { stmts = s; term = t }
@@ -98,7 +99,7 @@ loop-at-preserved c =
           let stmts = line-stmts blocks w.as_mut_slice.result.now c.args.joins.now i m c.requires.joins view w.in_ok-stmts.field-0.stmts stay (λ b h. left b ∙ c.loop-at.invariant.stand b h) w.in_ok-stmts.ensures.stmts in
           let last = line-term blocks w.as_mut_slice.result.now c.args.joins.now i m c.requires.joins view w.in_ok-stmts.field-0.term stay (λ b h. left b ∙ c.loop-at.invariant.stand b h) w.in_ok-stmts.ensures.term in
           let wide : All (λ b. b < length terms) (targets w.in_ok-stmts.field-0.term) =
-          rw last (edges-within terms (walk (onward (joined terms)) (length blocks) i) c.requires.closed) in
+          rw last (c.requires.closed (walk (onward (joined terms)) (length blocks) i)) in
           let all-blocks : length terms ≡ length blocks = length-map blocks block_term in
           let inside : All (λ b. b < length blocks) (targets w.in_ok-stmts.field-0.term) = (λ k d m. let x = wide k d m in omega (arith, x, all-blocks)) in
           let term = w.retargeted-term.ensures ∙ renumbered (length blocks) (stays terms) w.as_slice.result.now w.in_ok-stmts.field-0.term c.args.marks.now c.requires.marks (w.as_slice.ensures ∙ c.in_ok-numbers.ensures) inside

@@ -1,7 +1,8 @@
 use Rattle.std.proofs.Common.{◌≡◌, map, length}
 use Rattle.std.specs.List.{filter}
 use Rattle.cfg_simplify.specs.Simple.{numbers, stays}
-use Rattle.cfg_simplify.specs.Code.{block_term, bare_whole}
+use Rattle.mir_cfg.specs.Paths.{block_term}
+use Rattle.cfg_simplify.specs.Code.{bare_whole}
 use Rattle.cfg_simplify.proofs.equal.Kept.{StandAs}
 use Rattle.cfg_simplify.proofs.regroup.kept_blocks.Given as goal
 

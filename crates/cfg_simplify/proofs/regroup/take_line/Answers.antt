@@ -6,7 +6,8 @@ use Rattle.std.proofs.lemmas.List.Folds.{list_any-append}
 use Rattle.mir_syntax.specs.declared.body.Stmt.{Stmt}
 use Rattle.mir_syntax.specs.declared.body.Block.{Block}
 use Rattle.cfg_simplify.specs.Simple.{onward, walk, line}
-use Rattle.cfg_simplify.specs.Code.{link_at, block_term, hollow, stmts_in}
+use Rattle.mir_cfg.specs.Paths.{block_term}
+use Rattle.cfg_simplify.specs.Code.{link_at, hollow, stmts_in}
 use Rattle.cfg_simplify.proofs.equal.Lines.{line-more, walk-more, walk-ended, line-ended}
 use Rattle.cfg_simplify.proofs.regroup.take_line.Goals as goal
 

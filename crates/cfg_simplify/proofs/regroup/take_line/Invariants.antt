@@ -1,7 +1,8 @@
 use Rattle.std.proofs.Common.{◌≡◌, ℕ, ◌<◌, ◌==◌, length, get_or, false}
 use Rattle.std.specs.List.{list_any, flat_map}
 use Rattle.cfg_simplify.specs.Simple.{onward, walk, line}
-use Rattle.cfg_simplify.specs.Code.{link_at, block_term, hollow, stmts_in}
+use Rattle.mir_cfg.specs.Paths.{block_term}
+use Rattle.cfg_simplify.specs.Code.{link_at, hollow, stmts_in}
 use Rattle.cfg_simplify.proofs.regroup.take_line.Given as goal
 
 abbrev pub invariant-loop : goal.invariant-loop

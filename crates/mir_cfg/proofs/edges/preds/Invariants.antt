@@ -1,7 +1,6 @@
 use Rattle.std.proofs.Common.{◌≡◌, ℕ, ◌<◌, [], length, get_or}
 use Rattle.std.specs.List.{flat_map, range_with_len}
-use Rattle.mir_cfg.specs.Paths.{terms_of, edges_between, block_term}
-use Rattle.mir_cfg.specs.Paths as paths
+use Rattle.mir_cfg.specs.Paths.{edges_between, block_term}
 use Rattle.std.proofs.Common.{map}
 use Rattle.mir_cfg.proofs.edges.preds.Given as goal
 

@@ -1,6 +1,6 @@
-use Rattle.std.proofs.Common.{◌≡◌, ◌+◌, ◌<◌, true, false, ap, ◌∙◌, sym, subst, length, get_or, set, take, arith}
+use Rattle.std.proofs.Common.{◌+◌, ◌<◌, true, ◌∙◌, sym, subst, length, get_or, set, take, arith}
 use Rattle.std.proofs.lemmas.List.{length-set}
-use Rattle.bit_rows.specs.Rows.{row_at, HasSize}
+use Rattle.bit_rows.specs.Rows.{row_at}
 use Rattle.mir_cfg.specs.Search.{Finds}
 use Rattle.mir_cfg.proofs.Searching.{finds_old, finds_new, one_row}
 use Rattle.mir_cfg.proofs.search.find_all.Goals as goal
