@@ -1,8 +1,8 @@
 -- What stays by the rows is what is kept by the definition.
-use Rattle.std.proofs.Common.{◌≡◌, ◌⊎◌, inl, inr, refl, sym, ap, ap₂, ◌∙◌, subst, ℕ, zero, suc, ◌+◌, ◌<◌, ◌≤◌, Bool, true, false, not, ◌&&◌, List, [], ◌∷◌, map, drop, length, get_or, Some, slice_get, IsTrue, ◌↔◌, arith}
+use Rattle.std.proofs.Common.{◌≡◌, inl, inr, refl, sym, ap, ◌∙◌, subst, ℕ, zero, suc, ◌<◌, ◌≤◌, Bool, true, false, not, ◌&&◌, List, [], ◌∷◌, map, drop, length, get_or, Some, slice_get, IsTrue, ◌↔◌, arith}
 use Rattle.std.specs.List.{All, Contains, range_with_len}
 use Rattle.std.proofs.lemmas.Bool.{cases_Bool, both_ways}
-use Rattle.std.proofs.lemmas.List.{length-map, get_or-map, drop-map, get_or_default}
+use Rattle.std.proofs.lemmas.List.{length-map, get_or-map, drop-map}
 use Rattle.std.proofs.lemmas.List.FromFn.{length-map-range_with_len, get_or-map-range_with_len}
 use Rattle.std.proofs.lemmas.List.Elements.{All-contains}
 use Rattle.std.proofs.lemmas.Option.{slice_get-get_or, slice_get_within, get_or_from_slice_get}
@@ -19,8 +19,8 @@ use Rattle.bit_rows.specs.Rows.{row_at, flag, HasSize}
 use Rattle.escape_info.specs.Borrowed.{has_deref, borrowed}
 use Rattle.liveness.specs.Live.{Live}
 use Rattle.liveness.specs.Rows.{before_all, block_at, no_block}
-use Rattle.liveness.specs.Bits.{and_cases, and_is, not_is, not_true, has_first}
-use Rattle.liveness.proofs.Through.{length-before_all, point_live, live_point}
+use Rattle.liveness.specs.Bits.{and_cases, and_is, not_true, has_first}
+use Rattle.liveness.proofs.Through.{point_live, live_point}
 use Rattle.dead_store.specs.Pruned.{IsIdle, IsRead, IsUseless, IsUseful, KeptFrom, IsPrunedOnce}
 use Rattle.dead_store.specs.Rounds.{set_locals, SetsBelow, BlockSetsBelow, is_idle, goes, unless, staying, block_after}
 

@@ -1,10 +1,10 @@
--- What a body without the assignments that nobody reads shows of its frames: the pass, frames that wait, and returns to them.
+-- The frames of the pruned body: how they are related, frames that wait, and returns to them.
 use Rattle.std.proofs.Common.{◌≡◌, ◌⊎◌, inl, inr, refl, sym, ap, ap₂, ◌∙◌, subst, ℕ, ◌<◌, Bool, true, false, nat_eq, ◌&&◌, ◌||◌, if◌then◌else◌, List, [], ◌∷◌, ◌++◌, length, drop, Option, Some, None, slice_get, arith}
 use Rattle.std.proofs.lemmas.Bool.{eqb-true}
 use Rattle.mir_syntax.specs.declared.body.Proj.{Proj}
 use Rattle.mir_syntax.specs.Tree.{Tree}
 use Rattle.mir_syntax.specs.Shapes.{Shape, ◌>>=◌}
-use Rattle.mir_syntax.specs.Crate.{TypedBlock}
+use Rattle.mir_syntax.specs.Crate.{TypedStmt, TypedBlock, TypedBody}
 use Rattle.mir_semantics.specs.Values.{Addr, Value, at_path}
 use Rattle.mir_semantics.specs.Memory.{Memory, local_at, value_at, write, open_frame}
 use Rattle.mir_semantics.specs.Step.{Dest, Dropping, Control, State, Next, new_slots, destroyed, go_on, store, return_to}
@@ -15,9 +15,11 @@ use Rattle.mir_renaming.proofs.Ghosts.{value_mono}
 use Rattle.mir_renaming.proofs.Statements.{Linked, ValuesRel}
 use Rattle.mir_renaming.proofs.Types.{TypeMap, AddrTy}
 use Rattle.mir_renaming.specs.Places.{is_nil}
-use Rattle.prune_control.specs.Reads.{pruned_stmts}
+use Rattle.escape_info.specs.Borrowed.{borrowed}
+use Rattle.liveness.specs.Live.{Live}
+use Rattle.dead_store.specs.Pruned.{is_useless, without, pruned_once}
 use Rattle.mir_renaming.proofs.Stores.{pair_parts, store_split, store_made}
-use Rattle.prune_control.proofs.Paths.{nil_is}
+use Rattle.dead_store.proofs.refines.Reads.{nil_is}
 use Rattle.mir_renaming.proofs.Slots.{slots_rel, value_in}
 use Rattle.mir_relate.specs.Alike.{Same}
 use Rattle.mir_relate.specs.Leaves.{Leaves}
@@ -54,13 +56,22 @@ more_old x ps a y (inr (e, nil)) = go (same_or_not x y)
     go (inl p) = ap₂ (λ b c. (b && c) || a y) (ap is_nil nil) p.0
     go (inr p) = absurd (p.1 (sym e))
 
-module _ (X : Change) (gone : ℕ → ℕ → Bool) (same_locals : X.body2.locals ≡ X.body1.locals) (lent : ℕ → Bool) (Lv : ℕ → ℕ → ℕ → Type 0) where
+module _ (X : Change) (once : X.body2 ≡ pruned_once X.source.shapes X.body1) where
   abbrev D : List Shape
   D = X.source.shapes
 
+  abbrev gone : ℕ → ℕ → TypedStmt → Bool
+  gone = is_useless X.source.shapes X.body1
+
+  abbrev lent : ℕ → Bool
+  lent = borrowed X.source.shapes X.body1
+
+  pub same_locals : X.body2.locals ≡ X.body1.locals
+  same_locals = ap (λ (b : TypedBody). b.locals) once
+
   -- as far in the block, less what goes; the number is of the statements that are left in the source's block
   abbrev pub InBlock : ℕ → Control → Control → Type 0
-  InBlock n c2 c1 = (k : TypedBlock) → slice_get X.body1.blocks c1.block ≡ Some k → (drop c2.at (pruned_stmts (gone c1.block) 0 k.stmts) ≡ pruned_stmts (gone c1.block) c1.at (drop c1.at k.stmts)) × (n ≡ length (drop c1.at k.stmts))
+  InBlock n c2 c1 = (k : TypedBlock) → slice_get X.body1.blocks c1.block ≡ Some k → (drop c2.at (without (gone c1.block) 0 k.stmts) ≡ without (gone c1.block) c1.at (drop c1.at k.stmts)) × (n ≡ length (drop c1.at k.stmts))
 
   length_at : Option TypedBlock → ℕ
   length_at None = 0
@@ -71,7 +82,7 @@ module _ (X : Change) (gone : ℕ → ℕ → Bool) (same_locals : X.body2.local
   begins_at c2 c1 a2 a1 = (
     length_at (slice_get X.body1.blocks c1.block),
     λ k h.
-        (ap (λ i. drop i (pruned_stmts (gone c1.block) 0 k.stmts)) a2 ∙ ap (λ i. pruned_stmts (gone c1.block) i (drop i k.stmts)) (sym a1), ap length_at h ∙ ap (λ i. length (drop i k.stmts)) (sym a1)),
+        (ap (λ i. drop i (without (gone c1.block) 0 k.stmts)) a2 ∙ ap (λ i. without (gone c1.block) i (drop i k.stmts)) (sym a1), ap length_at h ∙ ap (λ i. length (drop i k.stmts)) (sym a1)),
   )
 
   -- a lent local stands for itself
@@ -97,7 +108,7 @@ module _ (X : Change) (gone : ℕ → ℕ → Bool) (same_locals : X.body2.local
   -- what lives is related
   pub record Lives (j : Renaming) (c2 c1 : Control) (m2 m1 : Memory) : Type 0 where
     pub set : ℕ → Bool
-    pub covers : (x : ℕ) → Lv c1.block c1.at x → (lent x ≡ true) ⊎ (set x ≡ true)
+    pub covers : (x : ℕ) → Live D X.body1 c1.block c1.at x → (lent x ≡ true) ⊎ (set x ≡ true)
     pub holds : Holds j c2.frame c1.frame set m2 m1
 
   -- a result goes to a place that isn't lent; its local lives, or is filled by it, or doesn't live after
@@ -108,7 +119,7 @@ module _ (X : Change) (gone : ℕ → ℕ → Bool) (same_locals : X.body2.local
     pub unlent : lent local ≡ false
     pub to1 : d1 ≡ Some (record { addr = record { frame = c1.frame; local = local; path = path }; guard = None })
     pub to2 : d2 ≡ Some (record { addr = record { frame = c2.frame; local = local; path = path }; guard = None })
-    pub covers : (x : ℕ) → Lv c1.block c1.at x → (lent x ≡ true) ⊎ (set x ≡ true) ⊎ ((x ≡ local) × (path ≡ []))
+    pub covers : (x : ℕ) → Live D X.body1 c1.block c1.at x → (lent x ≡ true) ⊎ (set x ≡ true) ⊎ ((x ≡ local) × (path ≡ []))
     pub holds : Holds j c2.frame c1.frame set m2 m1
     pub there : (o : Value) → value_at m1 (record { frame = c1.frame; local = local; path = path }) ≡ Some o → (w : Value) × (value_at m2 (record { frame = c2.frame; local = local; path = path }) ≡ Some w)
 
