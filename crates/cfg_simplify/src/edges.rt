@@ -1,7 +1,7 @@
 ghost use Rattle.std.specs.Prelude.{◌≡◌, ◌<◌, [], map, length, ◌++◌};
 ghost use Rattle.std.specs.List.{All};
 ghost use Rattle.std.specs.Option.{option_to_list};
-ghost use Rattle.mir_rules.specs.Parts.{arm_block, targets};
+ghost use Rattle.mir_syntax.specs.Parts.{arm_block, targets};
 ghost use Rattle.cfg_simplify.specs.Edges.{retarget, retarget_arm};
 ghost use Rattle.cfg_simplify.specs.Code.{at};
 

@@ -1,6 +1,6 @@
 ghost use Rattle.std.specs.Prelude.{◌≡◌, ℕ, ◌<◌, ◌≤◌, ◌^◌, min, cond, replicate, map, length, IfOk, OnOk};
 ghost use Rattle.std.specs.List.{All};
-ghost use Rattle.mir_rules.specs.Parts.{targets};
+ghost use Rattle.mir_syntax.specs.Parts.{targets};
 ghost use Rattle.mir_cfg.specs.Paths.{Closed, is_reached, block_term};
 ghost use Rattle.cfg_simplify.specs.Edges.{goto_block};
 ghost use Rattle.cfg_simplify.specs.Simple.{numbers, incoming, joined, only_if};

@@ -11,7 +11,7 @@ use Rattle.mir_syntax.specs.declared.body.Stmt.{Stmt}
 use Rattle.mir_syntax.specs.declared.body.Block.{Block}
 use Rattle.mir_syntax.specs.declared.body.Term.{Term}
 use Rattle.mir_syntax.specs.declared.body.Term.TheVariants.{Unreachable}
-use Rattle.mir_rules.specs.Parts.{targets}
+use Rattle.mir_syntax.specs.Parts.{targets}
 use Rattle.mir_cfg.specs.Paths.{exits, Closed, is_reached, block_term}
 use Rattle.cfg_simplify.specs.Edges.{retarget, goto_block}
 use Rattle.cfg_simplify.specs.Simple.{numbers, onward, walk, joins_to, only_if, joined, is_at, stays, line, new_number}

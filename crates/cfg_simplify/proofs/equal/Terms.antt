@@ -9,7 +9,7 @@ use Rattle.mir_syntax.specs.declared.body.Operand.{Operand}
 use Rattle.mir_syntax.specs.declared.body.Block.{Block}
 use Rattle.mir_syntax.specs.declared.body.Term.{Term}
 use Rattle.mir_syntax.specs.declared.body.Term.TheVariants.{Goto, Switch, Return, Unreachable, Drop, Call, Assert}
-use Rattle.mir_rules.specs.Parts.{arm_block, targets}
+use Rattle.mir_syntax.specs.Parts.{arm_block, targets}
 use Rattle.mir_cfg.specs.Paths.{Closed, block_term}
 use Rattle.cfg_simplify.specs.Edges.{retarget, retarget_arm, goto_block}
 use Rattle.cfg_simplify.specs.Simple.{is_nil, onward, goto_link}

@@ -11,7 +11,7 @@ use Rattle.mir_syntax.proofs.Lists.{map_there}
 use Rattle.mir_semantics.specs.Step.{take_arm}
 use Rattle.cfg_simplify.proofs.refines.Jumps.{SameTerm}
 use Rattle.cfg_simplify.proofs.refines.Hops.{Chain, Hops}
-use Rattle.mir_rules.specs.Parts.{arm_block, targets}
+use Rattle.mir_syntax.specs.Parts.{arm_block, targets}
 use Rattle.cfg_simplify.specs.Edges.{retarget, retarget_arm, goto_block}
 use Rattle.cfg_simplify.specs.Simple.{onward, walk, is_nil, empty_goto, goto_link, landing, hopped_block, hopped}
 

@@ -11,14 +11,13 @@ use Rattle.mir_syntax.specs.declared.body.Term.TheVariants.{Unreachable}
 use Rattle.mir_syntax.specs.Crate.{TypedStmt, TypedBlock, TypedBody, Crate}
 use Rattle.mir_syntax.specs.Shapes.{shapes_of}
 use Rattle.mir_syntax.proofs.Lists.{map_there, map_back}
-use Rattle.mir_syntax.specs.Parts as parts
 use Rattle.mir_rules.specs.Formed.{call_formed, term_formed, body_formed}
 use Rattle.mir_rules.specs.Valid.{at_function, ValidAt}
 use Rattle.mir_rules.proofs.Lists.{and_true-left}
 use Rattle.mir_rules.proofs.Keeps.{BodyKeeps}
 use Rattle.mir_rules.proofs.Terminators.{slice_get_there, term_typed, not_to_start}
 use Rattle.mir_rules.proofs.ValidCrates.{first_block, term_formed_at, target_there, body_formed_at, keeps, holds_body, valid_again}
-use Rattle.mir_rules.specs.Parts.{targets}
+use Rattle.mir_syntax.specs.Parts.{targets}
 use Rattle.mir_cfg.specs.Paths.{exits, Closed}
 use Rattle.cfg_simplify.specs.Edges.{retarget}
 use Rattle.cfg_simplify.specs.Simple.{numbers, onward, walk, empty_goto, goto_link, landing, hopped_block, hopped, joined, stays, line, new_number, term_of, stmts_at, whole_block, regrouped, simple}

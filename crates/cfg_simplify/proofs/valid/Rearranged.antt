@@ -1,6 +1,5 @@
 -- A body that holds the statements and terminators of another one, with edges to blocks of its own, keeps the rules that the other keeps.
-use Rattle.std.proofs.Common.{◌≡◌, refl, sym, ap, ◌∙◌, subst, ℕ, ◌<◌, true, false, ◌==◌, ◌&&◌, nat_lt, List, [], ◌∷◌, ◌++◌, map, length, Some, slice_get, arith}
-use Rattle.std.proofs.Common.{lt-ltb}
+use Rattle.std.proofs.Common.{◌≡◌, refl, sym, ap, ◌∙◌, subst, ℕ, ◌<◌, true, false, ◌==◌, ◌&&◌, nat_lt, List, [], ◌∷◌, ◌++◌, map, length, Some, slice_get, arith, lt-ltb}
 use Rattle.std.specs.List.{All, list_all}
 use Rattle.std.proofs.lemmas.Bool.{ne_eqb}
 use Rattle.std.proofs.lemmas.Option.{get_or_from_slice_get, slice_get_within}
@@ -10,9 +9,7 @@ use Rattle.mir_syntax.specs.declared.body.Term.TheVariants.{Goto, Switch, Return
 use Rattle.mir_syntax.specs.Crate.{TypedStmt, assign, storage_live, storage_dead, set_discriminant, TypedBlock, TypedBody, Crate}
 use Rattle.mir_syntax.specs.Shapes.{Shape, shapes_of}
 use Rattle.mir_syntax.proofs.Lists.{map_back}
-use Rattle.mir_syntax.specs.Parts.{term_operands, term_places}
-use Rattle.mir_syntax.specs.Parts as parts
-use Rattle.mir_rules.specs.Parts.{term_operands, term_places, arm_block, targets}
+use Rattle.mir_syntax.specs.Parts.{term_operands, term_places, arm_block, targets}
 use Rattle.mir_rules.specs.BodyRules.{breaks_v05, arm_value, has_twice, has_too_wide}
 use Rattle.mir_rules.specs.Formed.{operand_formed, place_formed, call_formed, block_there, type_formed, stmt_formed, term_formed, block_formed, has_start, body_formed}
 use Rattle.mir_rules.proofs.Lists.{and_true-left, and_true-right, list_all_true, list_any_false}

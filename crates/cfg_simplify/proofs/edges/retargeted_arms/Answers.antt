@@ -1,7 +1,7 @@
 use Rattle.std.proofs.Common.{◌≡◌, ◌<◌, length, map, get_or, refl, arith}
 use Rattle.std.proofs.lemmas.List.{get_or-map, length-map}
 use Rattle.mir_syntax.specs.declared.body.Arm.{Arm}
-use Rattle.mir_rules.specs.Parts.{arm_block}
+use Rattle.mir_syntax.specs.Parts.{arm_block}
 use Rattle.cfg_simplify.specs.Edges.{retarget_arm}
 use Rattle.cfg_simplify.specs.Code.{at}
 use Rattle.cfg_simplify.proofs.equal.Lists.{over-length, over-here, over-more}

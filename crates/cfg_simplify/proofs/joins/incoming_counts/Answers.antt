@@ -4,7 +4,7 @@ use Rattle.std.proofs.lemmas.Grind.{common_steps}
 use Rattle.std.proofs.lemmas.List.{length-map, get_or-map}
 use Rattle.mir_syntax.specs.declared.body.Block.{Block}
 use Rattle.mir_syntax.specs.declared.body.Term.TheVariants.{Unreachable}
-use Rattle.mir_rules.specs.Parts.{targets}
+use Rattle.mir_syntax.specs.Parts.{targets}
 use Rattle.mir_cfg.specs.Paths.{exits, is_reached, block_term}
 use Rattle.cfg_simplify.specs.Code.{counted}
 use Rattle.cfg_simplify.proofs.equal.Lists.{length-numbers, get_from}

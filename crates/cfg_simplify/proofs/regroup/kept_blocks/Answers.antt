@@ -5,7 +5,7 @@ use Rattle.std.proofs.lemmas.List.{length-map}
 use Rattle.mir_syntax.specs.declared.body.Stmt.{Stmt}
 use Rattle.mir_syntax.specs.declared.body.Term.{Term}
 use Rattle.mir_syntax.specs.declared.body.Block.{Block}
-use Rattle.mir_rules.specs.Parts.{targets}
+use Rattle.mir_syntax.specs.Parts.{targets}
 use Rattle.cfg_simplify.specs.Edges.{retarget}
 use Rattle.cfg_simplify.specs.Simple.{numbers as all_numbers, onward, walk, joined, stays, line, new_number}
 use Rattle.mir_cfg.specs.Paths.{block_term}
