@@ -7,7 +7,7 @@ use Rattle.mir_semantics.specs.Values.{Addr, Value, put}
 use Rattle.mir_semantics.specs.Memory.{Memory, local_at, write}
 use Rattle.mir_renaming.specs.Renaming.{Renaming, AddrRel, RootOf, ValueRel, SomeRel, Sub}
 use Rattle.mir_renaming.proofs.Memory.{same_or_not, root_or_not, write_same, write_other, write_back, write_source, write_target, fewer, put_rel}
-use Rattle.mir_renaming.proofs.Frames.{if_true, if_false}
+use Rattle.mir_renaming.proofs.Memory.{if_true, if_false}
 use Rattle.mir_renaming.proofs.Ghosts.{value_mono}
 use Rattle.mir_renaming.proofs.Statements.{Linked}
 use Rattle.mir_renaming.proofs.Types.{TypeMap}

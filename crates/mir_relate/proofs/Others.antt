@@ -30,6 +30,7 @@ use Rattle.mir_relate.specs.Alike.{Between, GotMemory, Sides, AllSame, Reads, Al
 use Rattle.mir_relate.specs.Frames.{Change, target, Pass, VisitRel, VisitsRel, DropRel, DropsRel, DestsRel, Agrees, Twin, Below}
 use Rattle.mir_relate.proofs.Alike.{number_read, all_read, integers_read}
 use Rattle.mir_relate.proofs.Kept as kept
+pub use Rattle.mir_relate.proofs.Wholes.{read_at_whole}
 use Rattle.mir_relate.proofs.Near as near
 use Rattle.mir_relate.proofs.Itself as itself
 use Rattle.mir_relate.proofs.Visits as visits
@@ -56,13 +57,6 @@ numbers_same j (v ∷ vs) (w ∷ ws) ns h e =
     some_bind _ (number_rel j v w k h.0 e1) (some_bind _ (numbers_same j vs ws ks h.1 e2) k2)
 numbers_same j [] (w ∷ ws) ns h e = absurd h
 numbers_same j (v ∷ vs) [] ns h e = absurd h
-
-pub read_at_whole : (m : Memory) (a : Addr) (v : Value) → read_at m a ≡ Some v → whole v ≡ true
-unfolding read_at
-read_at_whole m a v e =
-    let (u, e1, e2) = bind_some e in
-    let (t, same) = only_true (whole u) u v e2 in
-    subst (λ y. whole y ≡ true) same t
 
 zero_rel : (j : Renaming) (f g : ℕ) → j f 0 ≡ Some (g, 0) → AddrRel j (local_addr f 0) (local_addr g 0)
 unfolding local_addr

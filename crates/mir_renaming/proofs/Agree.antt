@@ -9,7 +9,7 @@ use Rattle.mir_syntax.specs.Shapes.{Shape, fields_of, field_ty, variant_ty, path
 use Rattle.mir_semantics.specs.Values.{Addr, Value, number, nil, cons, variant, pointer, hole, is_hole, part, payload, at_path, change_part, change_payload, put, whole}
 use Rattle.mir_semantics.specs.Memory.{Memory, local_at, value_at, write}
 use Rattle.mir_renaming.specs.Renaming.{Renaming, ValueRel, MemRel, RootOf}
-use Rattle.mir_renaming.proofs.Memory.{bind_some, root_or_not, write_same, write_other, write_back, write_again}
+use Rattle.mir_renaming.proofs.Memory.{and_both, bind_some, root_or_not, write_same, write_other, write_back, write_again}
 use Rattle.mir_renaming.proofs.Types.{TypeMap, AddrTy, some_eq}
 use Rattle.mir_semantics.specs.Step.{on}
 
@@ -148,11 +148,7 @@ module _ (D : List Shape) where
 pub whole_tight : (j : Renaming) (v w : Value) → ValueRel j v w → whole v ≡ true → Tight v w
 whole_tight j (number n) w r h = tt
 whole_tight j nil w r h = tt
-whole_tight j (cons v vs) (cons w ws) r h = let (a, b) = both (whole v) (whole vs) h in (whole_tight j v w r.0 a, whole_tight j vs ws r.1 b)
-  where
-    both : (a b : Bool) → (a && b) ≡ true → (a ≡ true) × (b ≡ true)
-    both true b e = (refl, e)
-    both false b e = absurd (grind arith)
+whole_tight j (cons v vs) (cons w ws) r h = let (a, b) = and_both (whole v) (whole vs) h in (whole_tight j v w r.0 a, whole_tight j vs ws r.1 b)
 whole_tight j (variant k v) (variant i w) r h = whole_tight j v w r.1 h
 whole_tight j (pointer a) w r h = tt
 whole_tight j hole w r h = absurd (grind arith)

@@ -5,13 +5,7 @@ use Rattle.std.proofs.lemmas.Bool.{eqb-true}
 use Rattle.mir_syntax.specs.Shapes.{◌>>=◌}
 use Rattle.mir_semantics.specs.Values.{Value}
 use Rattle.mir_semantics.specs.Memory.{Memory, slots_of, local_at, open_frame, close_frame}
-use Rattle.mir_renaming.proofs.Memory.{same_or_not}
-
-pub if_true : {A : Type 0} {b : Bool} (x y : A) → b ≡ true → (if b then x else y) ≡ x
-if_true x y e = ap (λ b. if b then x else y) e
-
-pub if_false : {A : Type 0} {b : Bool} (x y : A) → b ≡ false → (if b then x else y) ≡ y
-if_false x y e = ap (λ b. if b then x else y) e
+use Rattle.mir_renaming.proofs.Memory.{same_or_not, if_true, if_false}
 
 pub unequal : (a b : ℕ) → (a ≡ b → ⊥) → nat_eq a b ≡ false
 unequal a b ne = go (same_or_not a b)

@@ -15,7 +15,7 @@ use Rattle.mir_semantics.specs.Values.{Addr, Value, number, cons, variant, point
 use Rattle.mir_semantics.specs.Memory.{Memory, local_at, value_at, write, walk}
 use Rattle.mir_semantics.specs.Step.{Dest, Here, only_if, local_addr, resolve, type_of, guard_of, dest_of, allows, store, const_value, const_ty, read_at, read, read_all, number_in, read_number, operand_ty, scalar_in, scalar_ty_of, variant_in, built_by, built, read_two, pair_of, eval, set_blank, is_variant, write_unless, exec}
 use Rattle.mir_renaming.specs.Renaming.{Renaming, AddrRel, ValueRel, SomeRel, Sub, MemRel, AddrThere, NoClash}
-use Rattle.mir_renaming.proofs.Memory.{bind_some, some_bind, whole_rel, value_at_rel, walk_rel, write_rel, write_back, write_again}
+use Rattle.mir_renaming.proofs.Memory.{and_both, both_and, bind_some, some_bind, whole_rel, value_at_rel, walk_rel, write_rel, write_back, write_again}
 
 -- a value without references is related to itself
 blank_by_rel : (j : Renaming) (of_def : ℕ → Value) → ((d : ℕ) → ValueRel j (of_def d) (of_def d)) → (t : Tree) → ValueRel j (blank_by of_def t) (blank_by of_def t)
@@ -43,21 +43,13 @@ unfolding blank
 blank_rel j D t = blank_by_rel j (blank_def D (length D)) (blank_def_rel j D (length D)) t
 
 -- a full value is related to full values alone
-and_parts : (a b : Bool) → (a && b) ≡ true → (a ≡ true) × (b ≡ true)
-and_parts true b e = (refl, e)
-and_parts false b e = absurd (grind arith)
-
-parts_and : (a b : Bool) → a ≡ true → b ≡ true → (a && b) ≡ true
-parts_and true b e f = f
-parts_and false b e f = e
-
 abbrev FullRel : Renaming → (ℕ → Value → Bool) → Type 0
 FullRel j of_def = (d : ℕ) (v w : Value) → ValueRel j v w → of_def d v ≡ true → of_def d w ≡ true
 
 full_by_rel : (j : Renaming) (of_def : ℕ → Value → Bool) → FullRel j of_def → (t : Tree) (v w : Value) → ValueRel j v w → full_by of_def t v ≡ true → full_by of_def t w ≡ true
 full_by_rel j of_def h (more t ts) (cons v vs) (cons w ws) r e =
-    let (a, b) = and_parts (full_by of_def t v) (full_by of_def ts vs) e in
-    parts_and (full_by of_def t w) (full_by of_def ts ws) (full_by_rel j of_def h t v w r.0 a) (full_by_rel j of_def h ts vs ws r.1 b)
+    let (a, b) = and_both (full_by of_def t v) (full_by of_def ts vs) e in
+    both_and (full_by of_def t w) (full_by of_def ts ws) (full_by_rel j of_def h t v w r.0 a) (full_by_rel j of_def h ts vs ws r.1 b)
 full_by_rel j of_def h (named d) v w r e = h d v w r e
 full_by_rel j of_def h (scalar t) v w r e = refl
 full_by_rel j of_def h empty v w r e = refl
