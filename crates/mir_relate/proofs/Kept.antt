@@ -8,9 +8,9 @@ use Rattle.mir_syntax.specs.Tree.{Tree}
 use Rattle.mir_syntax.specs.Crate.{TypedRvalue, «use», binary, overflow, unary, cast, discriminant, tuple, build, TypedStmt, assign, storage_live, storage_dead, set_discriminant}
 use Rattle.mir_syntax.specs.Crate as rvalue
 use Rattle.mir_syntax.specs.Shapes.{Shape, variant_ty, needs_drop}
-use Rattle.mir_semantics.specs.Values.{Addr, Value, variant, whole, blank, full}
+use Rattle.mir_semantics.specs.Values.{Addr, Value, variant, blank, full}
 use Rattle.mir_semantics.specs.Memory.{Memory, value_at, write, walk}
-use Rattle.mir_semantics.specs.Step.{Dest, local_addr, resolve, type_of, guard_of, dest_of, allows, store, const_value, read_at, read, set_blank, is_variant, write_unless, exec}
+use Rattle.mir_semantics.specs.Step.{Dest, local_addr, resolve, type_of, guard_of, dest_of, allows, store, const_value, read, set_blank, is_variant, write_unless, exec}
 use Rattle.mir_syntax.specs.Parts.{has_deref}
 use Rattle.mir_renaming.specs.Renaming.{Renaming, AddrRel, ValueRel, Sub, MemRel, AddrThere}
 use Rattle.mir_syntax.proofs.Binds.{bind_some, some_bind}
@@ -22,6 +22,7 @@ use Rattle.mir_renaming.proofs.Agree.{whole_tight, tight_self}
 use Rattle.mir_relate.specs.Pass.{MoveOk}
 use Rattle.mir_renaming.proofs.Walks.{walk_plain, walk_deref_rel}
 use Rattle.mir_relate.specs.Alike.{Between, Got, GotMemory, Sides, Same, Reads, AllRead, Refers, Shows, Likewise, Evals, Execs}
+use Rattle.mir_relate.proofs.Wholes.{read_at_whole}
 use Rattle.mir_relate.proofs.Alike.{got_at, got_memory, likewise}
 
 module _ (D : List Shape) (ts1 ts2 : List Tree) (f1 f2 : ℕ) (j K : Renaming) (low : Sub j K) (G : TypeMap) (blank_ok : (t : Tree) → HasTy D G t (blank D t)) (locals_ok : (x : ℕ) (t : Tree) → slice_get ts1 x ≡ Some t → G f1 x ≡ Some t) where
@@ -68,13 +69,6 @@ module _ (D : List Shape) (ts1 ts2 : List Tree) (f1 f2 : ℕ) (j K : Renaming) (
         go : (b : Bool) → has_deref p.proj ≡ b → Fair a t old
         go true h = inr (inl (ok h t et))
         go false h = inl (plain_frame m p a h e)
-
-    read_at_whole : (m : Memory) (a : Addr) (v : Value) → read_at m a ≡ Some v → whole v ≡ true
-    unfolding read_at
-    read_at_whole m a v e =
-        let (u, e1, e2) = bind_some e in
-        let (t, same) = only_true (whole u) u v e2 in
-        subst (λ y. whole y ≡ true) same t
 
     read_as : (o p : Operand) → OperandAs o p → MoveOk sides.source o → (m2 m1 : Memory) (r : Value × Memory) → Q m2 m1 → read sides.source m1 o ≡ Some r → Got (Same j) Q r (read sides.target m2 p)
     unfolding read

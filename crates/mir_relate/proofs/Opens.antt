@@ -5,9 +5,9 @@ use Rattle.mir_semantics.specs.Values.{Value}
 use Rattle.mir_semantics.specs.Memory.{Memory, local_at, open_frame, close_frame}
 use Rattle.mir_renaming.specs.Renaming.{Renaming, SomeRel, Sub}
 use Rattle.mir_renaming.proofs.Memory.{same_or_not}
+use Rattle.mir_syntax.proofs.Bools.{if_true, if_false}
 use Rattle.mir_renaming.proofs.Statements.{Linked}
 use Rattle.mir_renaming.proofs.Types.{TypeMap}
-use Rattle.mir_syntax.proofs.Bools.{if_true, if_false}
 use Rattle.mir_renaming.proofs.Frames.{open_same, open_other, close_same, close_other}
 use Rattle.mir_renaming.proofs.Ghosts.{value_mono}
 use Rattle.mir_renaming.proofs.Stores.{pair_parts}

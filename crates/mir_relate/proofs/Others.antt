@@ -10,13 +10,13 @@ use Rattle.mir_syntax.specs.Tree.{Tree, scalar}
 use Rattle.mir_syntax.specs.Shapes.{Shape}
 use Rattle.mir_syntax.specs.Crate.{TypedStmt, TypedBody}
 use Rattle.mir_num.specs.Numbers.{wrap, flag}
-use Rattle.mir_semantics.specs.Values.{Addr, Value, number, nil, whole, blank}
+use Rattle.mir_semantics.specs.Values.{Value, number, nil, blank}
 use Rattle.mir_semantics.specs.Memory.{Memory, local_at}
-use Rattle.mir_semantics.specs.Step.{Here, Dest, Dropping, Control, Called, State, aborted, no_answer, Next, on, stop, fail, local_addr, read_at, read_all, numbers_in, go_on, to_block, take_arm, calling, answered, ask, call, work_off, begun, check, finish, perform, step}
+use Rattle.mir_semantics.specs.Step.{Here, Dest, Dropping, Control, Called, State, aborted, no_answer, Next, on, stop, fail, local_addr, read_all, numbers_in, go_on, to_block, take_arm, calling, answered, ask, call, work_off, begun, check, finish, perform, step}
 use Rattle.mir_renaming.specs.Renaming.{Renaming, AddrRel}
 use Rattle.mir_syntax.proofs.Binds.{bind_some, some_bind}
 use Rattle.mir_renaming.proofs.Statements as text
-use Rattle.mir_renaming.proofs.Statements.{DestRel, only_true, ValuesRel, number_rel}
+use Rattle.mir_renaming.proofs.Statements.{DestRel, ValuesRel, number_rel}
 use Rattle.mir_renaming.proofs.Types.{TypeMap, AddrTy, HasTy, resolve_ty, value_at_ty, blank_fits, dest_ty, StmtTy}
 use Rattle.mir_renaming.proofs.Typed.{MaybeDrop, VisitsTy, TermTy}
 use Rattle.mir_renaming.proofs.Ghosts.{Flat}
@@ -37,6 +37,7 @@ use Rattle.mir_relate.proofs.Enter.{goes_at, goes_by, enter_goes}
 use Rattle.mir_relate.proofs.Returns.{closed2, closed1, return_goes}
 use Rattle.mir_relate.proofs.Drops as drops
 use Rattle.mir_relate.proofs.Drops.{left_same, left_store, agrees_left, below_left, twin_at, core_on, goes_on, agrees_all, dropping_goes, dropped_goes}
+pub use Rattle.mir_relate.proofs.Wholes.{read_at_whole}
 
 pub read_long : (h : Here) (os : List Operand) (m : Memory) (r : List Value × Memory) → read_all h m os ≡ Some r → length r.0 ≡ length os
 unfolding read_all
@@ -54,13 +55,6 @@ numbers_same j (v ∷ vs) (w ∷ ws) ns h e =
     some_bind _ (number_rel j v w k h.0 e1) (some_bind _ (numbers_same j vs ws ks h.1 e2) k2)
 numbers_same j [] (w ∷ ws) ns h e = absurd h
 numbers_same j (v ∷ vs) [] ns h e = absurd h
-
-pub read_at_whole : (m : Memory) (a : Addr) (v : Value) → read_at m a ≡ Some v → whole v ≡ true
-unfolding read_at
-read_at_whole m a v e =
-    let (u, e1, e2) = bind_some e in
-    let (t, same) = only_true (whole u) u v e2 in
-    subst (λ y. whole y ≡ true) same t
 
 zero_rel : (j : Renaming) (f g : ℕ) → j f 0 ≡ Some (g, 0) → AddrRel j (local_addr f 0) (local_addr g 0)
 unfolding local_addr

@@ -1,6 +1,5 @@
 -- Text that is the same but for the numbers of locals has the same types and keeps the same rules, where the locals' types are the same.
-use Rattle.std.proofs.Common.{◌≡◌, refl, sym, ap, ap₂, ◌∙◌, subst, ℕ, zero, suc, Bool, true, false, nat_lt, ◌==◌, not, ◌&&◌, ◌||◌, List, [], ◌∷◌, length, Some, is_some, slice_get, arith}
-use Rattle.std.proofs.Common.{ltb-true, lt-ltb}
+use Rattle.std.proofs.Common.{◌≡◌, refl, sym, ap, ap₂, ◌∙◌, subst, ℕ, zero, suc, Bool, true, false, nat_lt, ◌==◌, not, ◌&&◌, ◌||◌, List, [], ◌∷◌, length, Some, is_some, slice_get, arith, ltb-true, lt-ltb}
 use Rattle.std.proofs.lemmas.Bool.{ltb-false, le-ltb}
 use Rattle.std.specs.List.{list_any, list_all, flat_map}
 use Rattle.mir_syntax.specs.declared.body.Place.{Place}
@@ -8,7 +7,7 @@ use Rattle.mir_syntax.specs.declared.body.Operand.{Operand}
 use Rattle.mir_syntax.specs.declared.body.Operand.TheVariants as operand
 use Rattle.mir_syntax.specs.declared.body.Term.{Term}
 use Rattle.mir_syntax.specs.declared.body.Term.TheVariants.{Goto, Switch, Return, Unreachable, Drop, Call, Assert}
-use Rattle.mir_syntax.specs.Tree.{Tree, scalar, more}
+use Rattle.mir_syntax.specs.Tree.{Tree, more}
 use Rattle.mir_syntax.specs.Tree as tree
 use Rattle.mir_syntax.specs.Crate.{TypedRvalue, «use», binary, overflow, unary, cast, discriminant, tuple, build, TypedStmt, assign, storage_live, storage_dead, set_discriminant, TypedBody, Crate}
 use Rattle.mir_syntax.specs.Crate as rvalue

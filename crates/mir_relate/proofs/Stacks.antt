@@ -4,7 +4,7 @@ use Rattle.mir_syntax.specs.Shapes.{Shape}
 use Rattle.mir_semantics.specs.Memory.{Memory}
 use Rattle.mir_semantics.specs.Step.{Dest, Visit, Dropping, Control}
 use Rattle.mir_renaming.specs.Renaming.{Renaming, Sub}
-use Rattle.mir_renaming.proofs.Ghosts.{addr_mono}
+use Rattle.mir_renaming.proofs.Memory.{sub_addr}
 use Rattle.mir_renaming.proofs.Types.{TypeMap}
 use Rattle.mir_renaming.proofs.Typed.{FramesTy}
 use Rattle.mir_relate.specs.Leaves.{Leaves}
@@ -13,7 +13,7 @@ use Rattle.mir_relate.specs.Pass.{Knows, KnowsAll, KeptLaw, Valids}
 use Rattle.mir_relate.proofs.Leaves.{leaves_less}
 
 pub visit_up : (j k : Renaming) → Sub j k → (i i' : Visit) → VisitRel j i i' → VisitRel k i i'
-visit_up j k up i i' h = record { addr = addr_mono j k up i.addr i'.addr h.addr; ty = h.ty }
+visit_up j k up i i' h = record { addr = sub_addr j k up i.addr i'.addr h.addr; ty = h.ty }
 
 pub visits_up : (j k : Renaming) → Sub j k → (is ks : List Visit) → VisitsRel j is ks → VisitsRel k is ks
 visits_up j k up [] [] h = tt
@@ -29,7 +29,7 @@ drops_up j k up (Some d) None h = absurd h
 
 pub dests_up : (j k : Renaming) → Sub j k → (d e : Option Dest) → DestsRel j d e → DestsRel k d e
 dests_up j k up None None h = tt
-dests_up j k up (Some d) (Some e) h = record { addr = addr_mono j k up d.addr e.addr h.addr; guard = h.guard }
+dests_up j k up (Some d) (Some e) h = record { addr = sub_addr j k up d.addr e.addr h.addr; guard = h.guard }
 dests_up j k up None (Some e) h = absurd h
 dests_up j k up (Some d) None h = absurd h
 

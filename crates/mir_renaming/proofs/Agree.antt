@@ -1,6 +1,6 @@
 -- Where a type needs drop, the target has a hole exactly where the source has one.
-use Rattle.std.proofs.Common.{◌≡◌, ◌⊎◌, inl, inr, refl, sym, ap, ap₂, ◌∙◌, subst, ℕ, zero, suc, Bool, true, false, nat_eq, ◌&&◌, if◌then◌else◌, List, [], ◌∷◌, Some, None, option_map, arith}
-use Rattle.std.proofs.lemmas.Bool.{eqb-true}
+use Rattle.std.proofs.Common.{◌≡◌, ◌⊎◌, inl, inr, refl, sym, ap, ap₂, ◌∙◌, subst, ℕ, zero, suc, Bool, true, false, nat_eq, if◌then◌else◌, List, [], ◌∷◌, Some, None, option_map, arith}
+use Rattle.std.proofs.lemmas.Bool.{eqb-true, and_parts}
 use Rattle.mir_syntax.specs.declared.body.Proj.{Proj}
 use Rattle.mir_syntax.specs.declared.body.Proj.TheVariants.{Field, Downcast, Deref}
 use Rattle.mir_syntax.specs.Tree.{Tree, scalar, empty, more, named}
@@ -149,11 +149,7 @@ module _ (D : List Shape) where
 pub whole_tight : (j : Renaming) (v w : Value) → ValueRel j v w → whole v ≡ true → Tight v w
 whole_tight j (number n) w r h = tt
 whole_tight j nil w r h = tt
-whole_tight j (cons v vs) (cons w ws) r h = let (a, b) = both (whole v) (whole vs) h in (whole_tight j v w r.0 a, whole_tight j vs ws r.1 b)
-  where
-    both : (a b : Bool) → (a && b) ≡ true → (a ≡ true) × (b ≡ true)
-    both true b e = (refl, e)
-    both false b e = absurd (grind arith)
+whole_tight j (cons v vs) (cons w ws) r h = let (a, b) = and_parts (whole v) (whole vs) h in (whole_tight j v w r.0 a, whole_tight j vs ws r.1 b)
 whole_tight j (variant k v) (variant i w) r h = whole_tight j v w r.1 h
 whole_tight j (pointer a) w r h = tt
 whole_tight j hole w r h = absurd (grind arith)

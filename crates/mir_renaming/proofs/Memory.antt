@@ -110,13 +110,13 @@ value_at_rel j L m2 m1 r a b h v e =
 pub further_rel : (j : Renaming) (a b : Addr) (p : Proj) → AddrRel j a b → AddrRel j (further a p) (further b p)
 further_rel j a b p h = record { root = h.root; path = ap (λ q. q ++ p ∷ []) h.path }
 
-referent_rel : (j : Renaming) (v w : Value) (a : Addr) → ValueRel j v w → referent v ≡ Some a → AddrThere j a (referent w)
+pub referent_rel : (j : Renaming) (v w : Value) (a : Addr) → ValueRel j v w → referent v ≡ Some a → AddrThere j a (referent w)
 referent_rel j (pointer a') (pointer b) a h e = (b, refl, subst (λ x. AddrRel j x b) (grind arith) h)
 referent_rel j v w a h e = absurd (grind arith)
 
 -- places: K is between what references stand for and what is related now
 module _ (j K L : Renaming) (low : Sub j K) (high : Sub K L) (m2 m1 : Memory) (r : MemRel j L m2 m1) where
-  there_rel : (a b c : Addr) → AddrRel K a b → there (value_at m1 a) a ≡ Some c → AddrThere K c (there (value_at m2 b) b)
+  pub there_rel : (a b c : Addr) → AddrRel K a b → there (value_at m1 a) a ≡ Some c → AddrThere K c (there (value_at m2 b) b)
   there_rel a b c h e = go (value_at m1 a) refl e
     where
       go : (o : Option Value) → value_at m1 a ≡ o → there o a ≡ Some c → AddrThere K c (there (value_at m2 b) b)
@@ -215,7 +215,7 @@ write_back m a v f x u e = go (root_or_not a f x)
     go (inl h) = mapped (put a.path v) (local_at m f x) refl (sym (write_same m a v f x h) ∙ e)
     go (inr n) = (u, sym (write_other m a v f x n) ∙ e)
 
-same_pair : (g y g' y' : ℕ) → ◌≡◌ {A = Option (ℕ × ℕ)} (Some (g, y)) (Some (g', y')) → (g ≡ g') × (y ≡ y')
+pub same_pair : (g y g' y' : ℕ) → ◌≡◌ {A = Option (ℕ × ℕ)} (Some (g, y)) (Some (g', y')) → (g ≡ g') × (y ≡ y')
 same_pair g y g' y' e = (ap first e, ap second e)
   where
     first : Option (ℕ × ℕ) → ℕ

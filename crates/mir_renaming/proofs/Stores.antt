@@ -6,19 +6,11 @@ use Rattle.mir_semantics.specs.Memory.{Memory, local_at, value_at, write}
 use Rattle.mir_semantics.specs.Step.{Dest, only_if, allows, store}
 use Rattle.mir_renaming.specs.Renaming.{RootOf}
 use Rattle.mir_syntax.proofs.Binds.{bind_some, some_bind}
-use Rattle.mir_renaming.proofs.Memory.{root_or_not, write_same, write_other}
+use Rattle.mir_renaming.proofs.Memory.{same_pair, root_or_not, write_same, write_other}
 use Rattle.mir_renaming.proofs.Statements.{only_true}
 
 pub pair_parts : (a b c d : ℕ) → ◌≡◌ {A = Option (ℕ × ℕ)} (Some (a, b)) (Some (c, d)) → (c ≡ a) × (d ≡ b)
-pair_parts a b c d e = (sym (ap first e), sym (ap second e))
-  where
-    first : Option (ℕ × ℕ) → ℕ
-    first None = 0
-    first (Some p) = p.0
-
-    second : Option (ℕ × ℕ) → ℕ
-    second None = 0
-    second (Some p) = p.1
+pair_parts a b c d e = let (p, q) = same_pair a b c d e in (sym p, sym q)
 
 pub write_there : (m : Memory) (a : Addr) (v : Value) (f x : ℕ) (o : Value) → local_at m f x ≡ Some o → (u : Value) × (local_at (write m a v) f x ≡ Some u)
 write_there m a v f x o e = go (root_or_not a f x)

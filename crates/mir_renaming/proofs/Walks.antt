@@ -6,11 +6,11 @@ use Rattle.mir_syntax.specs.Tree.{Tree, scalar, empty, more, named}
 use Rattle.mir_syntax.specs.Tree as tree
 use Rattle.mir_syntax.specs.Shapes.{Shape, struct_fields, fields_of_struct, fields_of, field_ty, variant_ty, pointee, proj_ty, path_ty, destructor_of}
 use Rattle.mir_semantics.specs.Values.{Addr, Value, number, nil, cons, variant, pointer, hole, part, inner, at_path}
-use Rattle.mir_semantics.specs.Memory.{Memory, local_at, value_at, further, there, referent, project, walk}
+use Rattle.mir_semantics.specs.Memory.{Memory, local_at, value_at, further, there, project, walk}
 use Rattle.mir_syntax.specs.Parts.{has_deref}
-use Rattle.mir_renaming.specs.Renaming.{Renaming, AddrRel, ValueRel, Sub, MemRel, AddrThere}
+use Rattle.mir_renaming.specs.Renaming.{Renaming, AddrRel, Sub, MemRel, AddrThere}
 use Rattle.mir_syntax.proofs.Binds.{bind_some, some_bind}
-use Rattle.mir_renaming.proofs.Memory.{sub_addr, value_at_rel, further_rel, walk_rel}
+use Rattle.mir_renaming.proofs.Memory.{there_rel, referent_rel, value_at_rel, further_rel, walk_rel}
 use Rattle.mir_renaming.proofs.Types.{TypeMap, HasTy, is_scalar, can_hole, holds_by, some_eq, more_eq, as_rows, at_path_ty}
 use Rattle.mir_renaming.specs.Places.{solid, is_nil}
 use Rattle.mir_renaming.proofs.Stores.{root_of}
@@ -42,20 +42,6 @@ walk_plain (Downcast k ∷ ps) m a b h e =
     (p ∙ ap (λ a. a.frame) same, q ∙ ap (λ a. a.local) same, r ∙ ap (λ a. a.path ++ ps) same ∙ append_assoc a.path (Downcast k ∷ []) ps)
 walk_plain (Deref ∷ ps) m a b h e = absurd (grind arith)
 
--- an address that is there stands where the related one is
-there_rel : (j K L : Renaming) (low : Sub j L) (up : Sub K L) (m2 m1 : Memory) → MemRel j L m2 m1 → (a b c : Addr) → AddrRel K a b → there (value_at m1 a) a ≡ Some c → AddrThere K c (there (value_at m2 b) b)
-there_rel j K L low up m2 m1 r a b c h e = go (value_at m1 a) refl e
-  where
-    go : (o : Option Value) → value_at m1 a ≡ o → there o a ≡ Some c → AddrThere K c (there (value_at m2 b) b)
-    go None q e = absurd (grind arith)
-    go (Some v) q e =
-        let (w, g, k) = value_at_rel j L m2 m1 r a b (sub_addr K L up a b h) v q in
-        (b, ap (λ o. there o b) g, subst (λ c. AddrRel K c b) (let z : a ≡ c = grind arith in z) h)
-
-referent_rel : (j : Renaming) (v w : Value) (a : Addr) → ValueRel j v w → referent v ≡ Some a → AddrThere j a (referent w)
-referent_rel j (pointer x) (pointer y) a h e = (y, refl, subst (λ c. AddrRel j c y) (let z : x ≡ a = grind arith in z) h)
-referent_rel j v w a h e = absurd (grind arith)
-
 -- a place with one refers to what references stand for
 pub walk_deref_rel : (j L : Renaming) (low : Sub j L) (m2 m1 : Memory) → MemRel j L m2 m1 → (ps : List Proj) (a b c : Addr) → has_deref ps ≡ true → AddrRel L a b → walk m1 a ps ≡ Some c → AddrThere j c (walk m2 b ps)
 unfolding walk project
@@ -76,7 +62,7 @@ walk_deref_rel j L low m2 m1 r (Deref ∷ ps) a b c h ha e =
     let (v, e2, e3) = bind_some e1 in
     let (w, f1, h1) = value_at_rel j L m2 m1 r a b ha v e2 in
     let (b', f3, h3) = referent_rel j v w a' h1 e3 in
-    let (c', f4, h4) = there_rel j j L low low m2 m1 r a' b' a3 h3 e4 in
+    let (c', f4, h4) = there_rel j j L (λ f x r e. e) low m2 m1 r a' b' a3 h3 e4 in
     let (c'', f5, h5) = walk_rel j j L (λ f x r e. e) low m2 m1 r ps a3 c' c h4 e5 in
     (c'', some_bind _ (some_bind _ (some_bind _ f1 f3) f4) f5, h5)
 

@@ -10,8 +10,8 @@ use Rattle.mir_semantics.specs.Step.{Code, new_slots}
 use Rattle.mir_semantics.specs.Run.{Entry, start, slots_at}
 use Rattle.mir_semantics.specs.Entry.{IsEntry, is_by, is_fields, is_variant_of, is_of, is_def, has_type, arg_types}
 use Rattle.mir_syntax.proofs.Binds.{some_bind}
-use Rattle.mir_syntax.proofs.Bools.{if_false}
 use Rattle.mir_renaming.proofs.Frames.{unequal}
+use Rattle.mir_syntax.proofs.Bools.{if_false}
 use Rattle.mir_renaming.proofs.Ghosts.{is_plain, AllPlain}
 use Rattle.mir_renaming.proofs.Types.{TypeMap, HasTy}
 use Rattle.mir_renaming.proofs.Typed.{TysOf, args_of, ValidCode, Typed, with_locals, with_new, open_ty, slots_ty}
