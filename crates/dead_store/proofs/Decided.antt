@@ -1,21 +1,21 @@
 -- The test tells which statements are useless.
 use Rattle.std.proofs.Common.{◌≡◌, inl, inr, refl, ap, ℕ, suc, ◌≤◌, Bool, true, false, not, ◌&&◌, List, length, Some, slice_get, arith}
-use Rattle.std.proofs.lemmas.Bool.{cases_Bool, both_ways}
+use Rattle.std.proofs.lemmas.Bool.{cases_Bool, both_ways, and_parts, and_from}
 use Rattle.mir_syntax.specs.declared.body.Place.{Place}
 use Rattle.mir_syntax.specs.Crate.{TypedStmt, assign, storage_live, storage_dead, set_discriminant, TypedBlock, TypedBody}
 use Rattle.mir_syntax.specs.Shapes.{Shape}
 use Rattle.mir_syntax.specs.Parts.{has_deref}
 use Rattle.escape_info.specs.Borrowed.{borrowed}
 use Rattle.liveness.specs.Decided.{is_live}
-use Rattle.liveness.specs.Bits.{and_cases, and_is, not_is, not_true}
+use Rattle.liveness.specs.Bits.{not_is, not_true}
 use Rattle.liveness.proofs.Decided.{live_told, told_live}
 use Rattle.dead_store.specs.Pruned.{IsIdle, IsRead, IsUseless, IsUseful, nobody_reads, is_useless}
 
 module _ (D : List Shape) (b : TypedBody) (i n : ℕ) (k : TypedBlock) (at : slice_get b.blocks i ≡ Some k) (within : suc n ≤ length k.stmts) where
   idle_of : (p : Place) → nobody_reads D b i n p ≡ true → IsIdle D b i n p
   idle_of p e =
-      let a = and_cases (not (has_deref p.proj)) (not (borrowed D b p.local) && not (is_live D b i (suc n) p.local)) e in
-      let c = and_cases (not (borrowed D b p.local)) (not (is_live D b i (suc n) p.local)) a.1 in
+      let a = and_parts (not (has_deref p.proj)) (not (borrowed D b p.local) && not (is_live D b i (suc n) p.local)) e in
+      let c = and_parts (not (borrowed D b p.local)) (not (is_live D b i (suc n) p.local)) a.1 in
       (is_false (has_deref p.proj) a.0, is_false (borrowed D b p.local) c.0, λ h. not_true (is_live D b i (suc n) p.local) c.1 (live_told D b p.local i (suc n) k at within h))
     where
       is_false : (c : Bool) → not c ≡ true → c ≡ false
@@ -29,7 +29,7 @@ module _ (D : List Shape) (b : TypedBody) (i n : ℕ) (k : TypedBlock) (at : sli
       | inl t ↦ inr (inl t)
       | inr free ↦ elim (cases_Bool (is_live D b i (suc n) p.local)) [
         | inl t ↦ inr (inr (told_live D b p.local i (suc n) t))
-        | inr dead ↦ absurd (both_ways (nobody_reads D b i n p) e (and_is (not (has_deref p.proj)) (not (borrowed D b p.local) && not (is_live D b i (suc n) p.local)) (ap not direct) (and_is (not (borrowed D b p.local)) (not (is_live D b i (suc n) p.local)) (ap not free) (ap not dead))))
+        | inr dead ↦ absurd (both_ways (nobody_reads D b i n p) e (and_from (not (has_deref p.proj)) (not (borrowed D b p.local) && not (is_live D b i (suc n) p.local)) (ap not direct) (and_from (not (borrowed D b p.local)) (not (is_live D b i (suc n) p.local)) (ap not free) (ap not dead))))
       ]
     ]
   ]

@@ -1,11 +1,3 @@
-//! Laws of the pass `pruned`: taking away what nobody reads keeps the meaning and the rules.
-//!
-//! `IsPruned` is `dead_store`'s (`specs/Pruned.antt`): three rounds, each of which takes away the assignments and the settings of
-//! discriminants that nobody reads. `Refines` is `mir_semantics`' (`specs/Refines.antt`), and `Valid`, `ValidAt` and `at_function` are
-//! `mir_rules`' (`specs/Valid.antt`). The body that is pruned holds no `drop` (`NoDrops`, of `mir_rules` too); other bodies may. The functions
-//! here run nothing; their contracts are the laws: `pruned_refines`, and `pruned_stays_valid` for what comes after the pass.
-#![tactic(auto)]
-ghost use Rattle.std.specs.Prelude.{◌≡◌, ℕ, Some, slice_get};
 //! The laws of the pass. The functions here run nothing; their contracts are the laws.
 ghost use Rattle.std.specs.Prelude.{◌≡◌, ◌↔◌, ℕ, List, Some, slice_get};
 ghost use Rattle.mir_syntax.specs.Crate.{TypedBody, TypedFunction, Crate};

@@ -8,7 +8,8 @@ use Rattle.mir_syntax.specs.Shapes.{Shape}
 use Rattle.mir_syntax.specs.Parts.{targets}
 use Rattle.liveness.specs.Live.{stmt_reads, term_reads, stmt_fills, term_fills, LiveIn, LiveBy, Live}
 use Rattle.mir_syntax.proofs.Members.{has_first, has_later, has_cases, has_none}
-use Rattle.liveness.specs.Bits.{or_cases, or_left_is, or_right_is, and_cases, and_is, not_is, not_true, stands_has, has_stands}
+use Rattle.liveness.specs.Bits.{not_is, not_true, stands_has, has_stands}
+use Rattle.std.proofs.lemmas.Bool.{and_parts, and_from, or_cases, or_left, or_right}
 use Rattle.liveness.specs.Decided.{live_in, live_at, live_by, points_of, is_live}
 use Rattle.liveness.proofs.Growing.{Each, enough}
 
@@ -19,8 +20,8 @@ list_any_is p (u ∷ us) h = elim (or_cases (p u) (list_any p us) h) [ inl a ↦
 list_any_of : (p : ℕ → Bool) (us : List ℕ) (u : ℕ) → Contains us u → p u ≡ true → list_any p us ≡ true
 list_any_of p [] u c h = absurd (has_none u c)
 list_any_of p (x ∷ us) u c h = elim (has_cases x u us c) [
-  | inl e ↦ or_left_is (p x) (list_any p us) (subst (λ (v : ℕ). p v ≡ true) (sym e) h)
-  | inr r ↦ or_right_is (p x) (list_any p us) (list_any_of p us u r h)
+  | inl e ↦ or_left (p x) (list_any p us) (subst (λ (v : ℕ). p v ≡ true) (sym e) h)
+  | inr r ↦ or_right (p x) (list_any p us) (list_any_of p us u r h)
 ]
 
 list_any_more : (p q : ℕ → Bool) → ((u : ℕ) → p u ≡ true → q u ≡ true) → (us : List ℕ) → list_any p us ≡ true → list_any q us ≡ true
@@ -36,22 +37,22 @@ module _ (D : List Shape) (locals : List Tree) (k : TypedBlock) (S : ℕ → Boo
   live_in_is : (o : Option TypedStmt) → ((u : ℕ) → S u ≡ true → P u) → (next ≡ true → Next) → live_in D locals k S next x o ≡ true → LiveIn D locals k P Next x o
   live_in_is None a c h = elim (or_cases (stands x (term_reads D locals k.term)) (not (stands x (term_fills k.term)) && list_any S (targets k.term)) h) [
     | inl r ↦ inl (stands_has x (term_reads D locals k.term) r)
-    | inr r ↦ (let t = and_cases (not (stands x (term_fills k.term))) (list_any S (targets k.term)) r in
+    | inr r ↦ (let t = and_parts (not (stands x (term_fills k.term))) (list_any S (targets k.term)) r in
         let u = list_any_is S (targets k.term) t.1 in
         inr (u.0, u.1, (λ f. not_true (stands x (term_fills k.term)) t.0 (has_stands x (term_fills k.term) f)), a u.0 u.2))
   ]
   live_in_is (Some s) a c h = elim (or_cases (stands x (stmt_reads s)) (not (stands x (stmt_fills s)) && next) h) [
     | inl r ↦ inl (stands_has x (stmt_reads s) r)
-    | inr r ↦ (let t = and_cases (not (stands x (stmt_fills s))) next r in inr ((λ f. not_true (stands x (stmt_fills s)) t.0 (has_stands x (stmt_fills s) f)), c t.1))
+    | inr r ↦ (let t = and_parts (not (stands x (stmt_fills s))) next r in inr ((λ f. not_true (stands x (stmt_fills s)) t.0 (has_stands x (stmt_fills s) f)), c t.1))
   ]
 
   live_in_of : (o : Option TypedStmt) → ((u : ℕ) → P u → S u ≡ true) → (Next → next ≡ true) → LiveIn D locals k P Next x o → live_in D locals k S next x o ≡ true
-  live_in_of None a c (inl r) = or_left_is (stands x (term_reads D locals k.term)) (not (stands x (term_fills k.term)) && list_any S (targets k.term)) (has_stands x (term_reads D locals k.term) r)
-  live_in_of None a c (inr r) = or_right_is (stands x (term_reads D locals k.term)) (not (stands x (term_fills k.term)) && list_any S (targets k.term))
-      (and_is (not (stands x (term_fills k.term))) (list_any S (targets k.term)) (not_is (stands x (term_fills k.term)) (λ f. r.2 (stands_has x (term_fills k.term) f))) (list_any_of S (targets k.term) r.0 r.1 (a r.0 r.3)))
-  live_in_of (Some s) a c (inl r) = or_left_is (stands x (stmt_reads s)) (not (stands x (stmt_fills s)) && next) (has_stands x (stmt_reads s) r)
-  live_in_of (Some s) a c (inr r) = or_right_is (stands x (stmt_reads s)) (not (stands x (stmt_fills s)) && next)
-      (and_is (not (stands x (stmt_fills s))) next (not_is (stands x (stmt_fills s)) (λ f. r.0 (stands_has x (stmt_fills s) f))) (c r.1))
+  live_in_of None a c (inl r) = or_left (stands x (term_reads D locals k.term)) (not (stands x (term_fills k.term)) && list_any S (targets k.term)) (has_stands x (term_reads D locals k.term) r)
+  live_in_of None a c (inr r) = or_right (stands x (term_reads D locals k.term)) (not (stands x (term_fills k.term)) && list_any S (targets k.term))
+      (and_from (not (stands x (term_fills k.term))) (list_any S (targets k.term)) (not_is (stands x (term_fills k.term)) (λ f. r.2 (stands_has x (term_fills k.term) f))) (list_any_of S (targets k.term) r.0 r.1 (a r.0 r.3)))
+  live_in_of (Some s) a c (inl r) = or_left (stands x (stmt_reads s)) (not (stands x (stmt_fills s)) && next) (has_stands x (stmt_reads s) r)
+  live_in_of (Some s) a c (inr r) = or_right (stands x (stmt_reads s)) (not (stands x (stmt_fills s)) && next)
+      (and_from (not (stands x (stmt_fills s))) next (not_is (stands x (stmt_fills s)) (λ f. r.0 (stands_has x (stmt_fills s) f))) (c r.1))
 
 module _ (D : List Shape) (b : TypedBody) (x : ℕ) where
   by_is : (m i n : ℕ) → live_by D b m x i n ≡ true → LiveBy D b m i n x
@@ -79,15 +80,15 @@ module _ (D : List Shape) (b : TypedBody) (x : ℕ) where
         where
           stmt : (o : Option TypedStmt) → live_in D b.locals k (λ u. live_by D b m x u 0) (live_by D b m x i (suc n)) x o ≡ true → live_in D b.locals k (λ u. live_by D b (suc m) x u 0) (live_by D b (suc m) x i (suc n)) x o ≡ true
           stmt None h = elim (or_cases (stands x (term_reads D b.locals k.term)) (not (stands x (term_fills k.term)) && list_any (λ u. live_by D b m x u 0) (targets k.term)) h) [
-            | inl a ↦ or_left_is (stands x (term_reads D b.locals k.term)) (not (stands x (term_fills k.term)) && list_any (λ u. live_by D b (suc m) x u 0) (targets k.term)) a
-            | inr a ↦ (let t = and_cases (not (stands x (term_fills k.term))) (list_any (λ u. live_by D b m x u 0) (targets k.term)) a in
-                or_right_is (stands x (term_reads D b.locals k.term)) (not (stands x (term_fills k.term)) && list_any (λ u. live_by D b (suc m) x u 0) (targets k.term))
-                (and_is (not (stands x (term_fills k.term))) (list_any (λ u. live_by D b (suc m) x u 0) (targets k.term)) t.0 (list_any_more (λ u. live_by D b m x u 0) (λ u. live_by D b (suc m) x u 0) (λ u c. r u 0 c) (targets k.term) t.1)))
+            | inl a ↦ or_left (stands x (term_reads D b.locals k.term)) (not (stands x (term_fills k.term)) && list_any (λ u. live_by D b (suc m) x u 0) (targets k.term)) a
+            | inr a ↦ (let t = and_parts (not (stands x (term_fills k.term))) (list_any (λ u. live_by D b m x u 0) (targets k.term)) a in
+                or_right (stands x (term_reads D b.locals k.term)) (not (stands x (term_fills k.term)) && list_any (λ u. live_by D b (suc m) x u 0) (targets k.term))
+                (and_from (not (stands x (term_fills k.term))) (list_any (λ u. live_by D b (suc m) x u 0) (targets k.term)) t.0 (list_any_more (λ u. live_by D b m x u 0) (λ u. live_by D b (suc m) x u 0) (λ u c. r u 0 c) (targets k.term) t.1)))
           ]
           stmt (Some s) h = elim (or_cases (stands x (stmt_reads s)) (not (stands x (stmt_fills s)) && live_by D b m x i (suc n)) h) [
-            | inl a ↦ or_left_is (stands x (stmt_reads s)) (not (stands x (stmt_fills s)) && live_by D b (suc m) x i (suc n)) a
-            | inr a ↦ (let t = and_cases (not (stands x (stmt_fills s))) (live_by D b m x i (suc n)) a in
-                or_right_is (stands x (stmt_reads s)) (not (stands x (stmt_fills s)) && live_by D b (suc m) x i (suc n)) (and_is (not (stands x (stmt_fills s))) (live_by D b (suc m) x i (suc n)) t.0 (r i (suc n) t.1)))
+            | inl a ↦ or_left (stands x (stmt_reads s)) (not (stands x (stmt_fills s)) && live_by D b (suc m) x i (suc n)) a
+            | inr a ↦ (let t = and_parts (not (stands x (stmt_fills s))) (live_by D b m x i (suc n)) a in
+                or_right (stands x (stmt_reads s)) (not (stands x (stmt_fills s)) && live_by D b (suc m) x i (suc n)) (and_from (not (stands x (stmt_fills s))) (live_by D b (suc m) x i (suc n)) t.0 (r i (suc n) t.1)))
           ]
 
 -- ---- the points of a body

@@ -1,5 +1,5 @@
 -- Tables whose rows are made one after another, and edges that are found block by block.
-use Rattle.std.proofs.Common.{◌≡◌, ◌≢◌, ◌⊎◌, inl, inr, refl, sym, ap, ap₂, ◌∙◌, subst, ℕ, zero, suc, ◌+◌, ◌<◌, ◌≤◌, Bool, false, ◌||◌, List, [], ◌∷◌, ◌++◌, map, take, length, get_or, set, replicate, Some, slice_get, arith}
+use Rattle.std.proofs.Common.{◌≡◌, ◌⊎◌, inl, inr, refl, sym, ap, ◌∙◌, subst, ℕ, zero, suc, ◌+◌, ◌<◌, ◌≤◌, Bool, ◌||◌, List, [], ◌∷◌, ◌++◌, map, take, length, get_or, set, replicate, arith}
 use Rattle.std.specs.List.{Contains}
 use Rattle.std.proofs.lemmas.Bool.{cases_eq}
 use Rattle.std.proofs.lemmas.List.{length-set, length-replicate, get_or-replicate, get_or-set_same, get_or-set_other, take_more, set-set, ext_get_or, length-map, get_or-map}
@@ -10,7 +10,7 @@ use Rattle.mir_syntax.specs.Crate.{TypedBlock}
 use Rattle.mir_syntax.specs.Parts.{targets}
 use Rattle.bit_rows.specs.Rows.{row_at, HasSize}
 use Rattle.flow_engine.specs.declared.edges.Edge.{Edge}
-use Rattle.liveness.specs.Rows.{blank, or_rows, edge_back, block_at, IsRows, IsTurned}
+use Rattle.liveness.specs.Rows.{or_rows, edge_back, block_at, IsRows, IsTurned}
 
 -- the first rows are those that a function names, the others are still as they were
 pub record Filled (n at : ℕ) (f : ℕ → List Bool) (d : List Bool) (rows : List (List Bool)) : Type 0 where

@@ -1,10 +1,9 @@
 -- The least solution of the flow of live locals is exactly the live locals.
-use Rattle.std.proofs.Common.{◌≡◌, ◌⊎◌, inl, inr, refl, sym, ap, ap₂, ◌∙◌, subst, ℕ, zero, suc, ◌+◌, ◌<◌, Bool, true, false, not, ◌&&◌, ◌||◌, if◌then◌else◌, nat_lt, List, [], ◌∷◌, ◌++◌, drop, length, get_or, replicate, Option, Some, None, slice_get, IsTrue, ◌↔◌, arith}
+use Rattle.std.proofs.Common.{◌≡◌, ◌⊎◌, inl, inr, refl, sym, ap, ◌∙◌, subst, ℕ, zero, suc, ◌<◌, Bool, true, false, not, ◌&&◌, if◌then◌else◌, nat_lt, List, [], ◌∷◌, drop, length, get_or, Option, Some, None, slice_get, IsTrue, ◌↔◌, arith}
 use Rattle.std.specs.List.{Contains, flat_map}
 use Rattle.std.proofs.lemmas.Option.{slice_get_within, slice_get-get_or, get_or_from_slice_get}
 use Rattle.std.proofs.lemmas.List.Elements.{Contains-append_left, Contains-append_right, Contains-append_cases}
 use Rattle.std.proofs.lemmas.Bool.{or_cases, and_parts, and_from, or_left}
-use Rattle.mir_syntax.specs.Tree.{Tree}
 use Rattle.mir_syntax.specs.Crate.{TypedStmt, TypedBlock, TypedBody}
 use Rattle.mir_syntax.specs.Shapes.{Shape}
 use Rattle.mir_syntax.specs.Parts.{targets}
@@ -12,13 +11,13 @@ use Rattle.bit_rows.specs.Rows.{row_at, flag, HasSize}
 use Rattle.flow_engine.specs.declared.edges.Edge.{Edge}
 use Rattle.flow_engine.specs.Flow.{Least, Lawful, problem}
 use Rattle.flow_engine.proofs.Least.{least_long, least_edge, least_start, least_holds}
-use Rattle.liveness.specs.Live.{stmt_reads, stmt_fills, term_reads, term_fills, LiveIn, Live}
+use Rattle.liveness.specs.Live.{stmt_fills, term_reads, term_fills, LiveIn, Live}
 use Rattle.liveness.specs.Rows.{block_fills, blank, gen_row, kill_row, edge_back, block_at, no_block, IsRows, IsTurned}
 use Rattle.liveness.specs.Facts.{IsSized, IsBelow, count_ones, begun, joined, after, along, sent}
 use Rattle.liveness.specs.Bits.{not_is, not_true, bit_within, blank_bit}
 use Rattle.liveness.specs.Lattice.{live_lawful, row_long, joined_bit, after_long, after_bit}
 use Rattle.liveness.proofs.Paths.{live_least}
-use Rattle.liveness.proofs.Through.{Through, through_map, through_split, through_unfilled, gen_through, through_gen, blank_has, has_blank, block_live, live_block, end_live, live_end}
+use Rattle.liveness.proofs.Through.{Through, through_map, through_split, through_unfilled, gen_through, through_gen, blank_has, has_blank, block_live, end_live}
 
 pub contains_at : {A : Type 0} (xs : List A) (i : ℕ) (x : A) → slice_get xs i ≡ Some x → Contains xs x
 contains_at xs i x e = (i, slice_get_within xs i x e, get_or_from_slice_get xs i x x e)

@@ -1,5 +1,5 @@
 -- Liveness over the statements of a block.
-use Rattle.std.proofs.Common.{◌≡◌, ◌⊎◌, inl, inr, refl, sym, ap, ap₂, ◌∙◌, subst, ℕ, zero, suc, ◌+◌, ◌<◌, ◌≤◌, Bool, true, false, not, ◌&&◌, ◌||◌, List, [], ◌∷◌, ◌++◌, drop, length, get_or, replicate, Option, Some, None, slice_get, arith}
+use Rattle.std.proofs.Common.{◌≡◌, ◌⊎◌, inl, inr, refl, sym, ap, ◌∙◌, subst, ℕ, zero, suc, ◌+◌, ◌<◌, ◌≤◌, Bool, true, false, not, ◌&&◌, ◌||◌, List, [], ◌∷◌, drop, length, get_or, Some, None, slice_get, arith}
 use Rattle.std.specs.List.{Contains, flat_map}
 use Rattle.std.proofs.lemmas.List.{length-replicate, length-drop}
 use Rattle.std.proofs.lemmas.List.Elements.{Contains-append_left, Contains-append_right, Contains-append_cases}
@@ -11,8 +11,8 @@ use Rattle.mir_syntax.specs.Parts.{targets}
 use Rattle.bit_rows.specs.Rows.{marked, stands}
 use Rattle.bit_rows.proofs.Marks.{length-marked, marked-at}
 use Rattle.liveness.specs.Live.{stmt_reads, stmt_fills, term_reads, term_fills, LiveIn, Live}
-use Rattle.liveness.specs.Rows.{cleared, before_stmt, before_all, blank, gen_row, kill_row, block_fills}
-use Rattle.liveness.specs.Bits.{not_is, not_true, stands_has, has_stands, length-cleared, cleared-at, bit_within, blank_bit}
+use Rattle.liveness.specs.Rows.{cleared, before_all, blank, gen_row, kill_row, block_fills}
+use Rattle.liveness.specs.Bits.{not_is, not_true, stands_has, has_stands, length-cleared, cleared-at, blank_bit}
 use Rattle.liveness.proofs.Paths.{live_stmt, live_next, live_splits, live_solves}
 
 -- what holds of a local before statements, where E holds of it behind them: read, or not filled and so on

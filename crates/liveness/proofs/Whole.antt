@@ -1,9 +1,9 @@
 -- From the tables that the code makes to the live locals of the body.
-use Rattle.std.proofs.Common.{◌≡◌, refl, sym, ap, ◌∙◌, subst, ℕ, ◌<◌, Bool, false, List, [], ◌∷◌, map, length, get_or, Some, slice_get, IsTrue, ◌↔◌, arith}
+use Rattle.std.proofs.Common.{◌≡◌, sym, ap, ◌∙◌, subst, ℕ, ◌<◌, Bool, false, List, [], map, length, get_or, IsTrue, ◌↔◌, arith}
 use Rattle.std.specs.List.{All, Contains}
 use Rattle.std.proofs.lemmas.List.{length-map, get_or-map}
 use Rattle.std.proofs.lemmas.List.Elements.{All-contains}
-use Rattle.std.proofs.lemmas.Option.{slice_get-get_or, slice_get_within}
+use Rattle.std.proofs.lemmas.Option.{slice_get-get_or}
 use Rattle.mir_syntax.specs.Tree.{Tree, at_id}
 use Rattle.mir_syntax.specs.Crate.{TypedBlock, TypedBody, body_of, block_of}
 use Rattle.mir_syntax.specs.Shapes.{Shape}
@@ -19,8 +19,6 @@ use Rattle.liveness.specs.Live.{Live}
 use Rattle.liveness.specs.Rows.{gen_row, kill_row, end_row, block_at, no_block, IsRows, IsTurned}
 use Rattle.liveness.specs.Facts.{IsSized, IsBelow, count_ones, begun, joined, sent}
 use Rattle.liveness.specs.Lattice.{live_lawful}
-use Rattle.liveness.specs.Bits.{length-cleared}
-use Rattle.bit_rows.proofs.Marks.{length-marked}
 use Rattle.flow_engine.proofs.Least.{least_long}
 use Rattle.liveness.proofs.Filling.{rows_sized}
 use Rattle.liveness.proofs.Through.{gen_long, kill_long}

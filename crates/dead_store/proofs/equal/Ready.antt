@@ -17,7 +17,6 @@ use Rattle.mir_cfg.specs.Paths.{block_term, Closed}
 use Rattle.bit_rows.specs.Rows.{row_at}
 use Rattle.liveness.specs.Rows.{before_all}
 use Rattle.dead_store.specs.Rounds.{BlockSetsBelow, IsReady, set_locals, goes, unless, staying, block_after}
-use Rattle.dead_store.proofs.Judged.{no_bare_block}
 use Rattle.dead_store.proofs.equal.Judged.{no_bare_block}
 
 all_true : {A : Type 0} (p : A → Bool) (xs : List A) → ((k : ℕ) (d : A) → k < length xs → p (get_or xs k d) ≡ true) → list_all p xs ≡ true

@@ -11,9 +11,8 @@ use Rattle.mir_syntax.specs.declared.body.Arm.{Arm}
 use Rattle.mir_syntax.specs.Tree.{Tree}
 use Rattle.mir_syntax.specs.Crate.{TypedRvalue, «use», binary, overflow, unary, cast, discriminant, tuple, build}
 use Rattle.mir_syntax.specs.Crate as rvalue
-use Rattle.mir_syntax.specs.Shapes.{Shape, destructor_of, proj_ty, path_ty, place_ty}
+use Rattle.mir_syntax.specs.Shapes.{Shape, destructor_of, proj_ty, path_ty, place_ty, path_through, goes_through_destructor}
 use Rattle.mir_syntax.specs.Parts.{is_direct, operand_places, rvalue_places, arm_block, has_deref}
-use Rattle.mir_rules.specs.BodyRules.{path_through, goes_through_destructor}
 use Rattle.mir_semantics.specs.Step.{take_arm}
 use Rattle.mir_renaming.specs.Places.{solid, is_nil}
 use Rattle.mir_syntax.proofs.Binds.{bind_some}

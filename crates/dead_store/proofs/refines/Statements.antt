@@ -36,7 +36,7 @@ use Rattle.mir_syntax.proofs.Members.{has_first, has_none}
 use Rattle.liveness.specs.Bits.{stands_has, has_stands}
 use Rattle.liveness.proofs.Paths.{live_stmt, live_next}
 use Rattle.dead_store.specs.Pruned.{IsRead, IsUseless, IsUseful, pruned_once}
-use Rattle.dead_store.proofs.refines.Lent.{same_deref, lends}
+use Rattle.dead_store.proofs.refines.Lent.{lends}
 use Rattle.dead_store.proofs.refines.Reads.{ok_rvalue, only_one, whole_is, is_nil_or, written_deref}
 use Rattle.dead_store.proofs.refines.Frames.{more, more_new, more_old, Lives}
 use Rattle.dead_store.proofs.refines.Frames as frames
@@ -203,7 +203,7 @@ module _ {X : Change} {once : X.body2 ≡ pruned_once X.source.shapes X.body1} {
         part (inr nn) lv = alive (next p.local lv (λ c. let z : true ≡ false = sym (ap is_nil (whole_is p p.local (subst (λ s. Contains (stmt_fills s) p.local) est c)).1) ∙ nn in absurd (grind arith)))
 
         go : IsRead D X.body1 s1.top.block s1.top.at p → Done m1'
-        go (inl d) = alive (reads_stmt p.local (subst (λ s. Contains (stmt_reads s) p.local) (sym est) (Contains-append_right (map place_local (rvalue_places q)) (written_reads p) p.local (written_deref p (sym (same_deref p.proj) ∙ d)))))
+        go (inl d) = alive (reads_stmt p.local (subst (λ s. Contains (stmt_reads s) p.local) (sym est) (Contains-append_right (map place_local (rvalue_places q)) (written_reads p) p.local (written_deref p (d)))))
         go (inr (inl l)) = alive (inl l)
         go (inr (inr lv)) = part (is_nil_or p.proj) lv
     stays (storage_live x) est u mo ty m1' e = go (lent x) refl
@@ -268,7 +268,7 @@ module _ {X : Change} {once : X.body2 ≡ pruned_once X.source.shapes X.body1} {
         let mo' : RvalueMoves H1 q = subst (λ s. StmtMoves H1 s) est mo in
         let spent = moment.rvalue_alone now q (rvalue_reads p q est) (lends_ok p q est) mo' in
         let q1 : Q s2.memory v.1 = eval_alone S Q q spent s2.memory s1.memory v (moment.first now) e1 in
-        let is : d ≡ plain_at H1 p = dest_plain H1 v.1 p d (sym (same_deref p.proj) ∙ nd) e2 in
+        let is : d ≡ plain_at H1 p = dest_plain H1 v.1 p d (nd) e2 in
         let (old, e3, same) = store_split D v.1 m1' (plain_at H1 p) v.0 (subst (λ d. store D v.1 d v.0 ≡ Some m1') is k2) in
         subst GoneDone same (write_gone p.local p.proj nl dead (λ y lv ne. next y lv (λ c. ne (whole_is p y (subst (λ s. Contains (stmt_fills s) y) est c)).0)) v.1 v.0 q1)
     goes (set_discriminant p i) est (nd, nl, dead) mo m1' e =
@@ -276,7 +276,7 @@ module _ {X : Change} {once : X.body2 ≡ pruned_once X.source.shapes X.body1} {
         let (v, e2, k2) = bind_some k1 in
         let (t, e3, k3) = bind_some k2 in
         let (us, e4, k4) = bind_some k3 in
-        let (c1, c2, c3) = walk_plain p.proj s1.memory (record { frame = f1; local = p.local; path = [] }) b (sym (same_deref p.proj) ∙ nd) e1 in
+        let (c1, c2, c3) = walk_plain p.proj s1.memory (record { frame = f1; local = p.local; path = [] }) b (nd) e1 in
         subst GoneDone (some_val k4) (subst (λ b. GoneDone (write_unless (is_variant i v) s1.memory b (variant i (blank D us)))) (sym (addr_is b (record { frame = f1; local = p.local; path = p.proj }) c1 c2 c3)) (either (is_variant i v) (variant i (blank D us))))
       where
         stay : (y : ℕ) → Live D X.body1 s1.top.block (suc s1.top.at) y → Alive y
