@@ -1,6 +1,7 @@
 -- A local to a part of which a statement makes a reference is borrowed.
 use Rattle.std.proofs.Common.{◌≡◌, ◌⊎◌, inl, inr, refl, sym, ap, ◌∙◌, subst, ℕ, zero, suc, Bool, true, false, ◌||◌, if◌then◌else◌, List, [], ◌∷◌, ◌++◌, Some, slice_get, arith}
 use Rattle.std.proofs.Common.{eq-eqb}
+use Rattle.std.proofs.lemmas.List.Folds.{list_any-append}
 use Rattle.std.specs.List.{list_any, flat_map}
 use Rattle.mir_syntax.specs.declared.body.Proj.{Proj}
 use Rattle.mir_syntax.specs.declared.body.Proj.TheVariants.{Field, Downcast, Deref}
@@ -9,6 +10,7 @@ use Rattle.mir_syntax.specs.Crate.{TypedStmt, assign, TypedBlock, TypedBody}
 use Rattle.mir_syntax.specs.Crate as rvalue
 use Rattle.mir_syntax.specs.Shapes.{Shape}
 use Rattle.mir_semantics.specs.Step as semantics
+use Rattle.liveness.specs.Bits.{or_left_is, or_right_is}
 use Rattle.escape_info.specs.Borrowed.{has_deref, lent, lent_in, dropped, is, borrowed}
 
 pub same_deref : (ps : List Proj) → has_deref ps ≡ semantics.has_deref ps
@@ -18,20 +20,10 @@ same_deref (Downcast k ∷ ps) = same_deref ps
 same_deref (Deref ∷ ps) = refl
 
 any_left : (p : ℕ → Bool) (xs ys : List ℕ) → list_any p xs ≡ true → list_any p (xs ++ ys) ≡ true
-any_left p [] ys h = absurd (grind arith)
-any_left p (x ∷ xs) ys h = go (p x) refl h (any_left p xs ys)
-  where
-    go : (b : Bool) → p x ≡ b → (b || list_any p xs) ≡ true → (list_any p xs ≡ true → list_any p (xs ++ ys) ≡ true) → (p x || list_any p (xs ++ ys)) ≡ true
-    go true e h ih = ap (λ b. b || list_any p (xs ++ ys)) e
-    go false e h ih = ap (λ b. b || list_any p (xs ++ ys)) e ∙ ih h
+any_left p xs ys h = list_any-append p xs ys ∙ or_left_is (list_any p xs) (list_any p ys) h
 
 any_right : (p : ℕ → Bool) (xs ys : List ℕ) → list_any p ys ≡ true → list_any p (xs ++ ys) ≡ true
-any_right p [] ys h = h
-any_right p (x ∷ xs) ys h = go (p x) refl (any_right p xs ys h)
-  where
-    go : (b : Bool) → p x ≡ b → list_any p (xs ++ ys) ≡ true → (p x || list_any p (xs ++ ys)) ≡ true
-    go true e h = ap (λ b. b || list_any p (xs ++ ys)) e
-    go false e h = ap (λ b. b || list_any p (xs ++ ys)) e ∙ h
+any_right p xs ys h = list_any-append p xs ys ∙ or_right_is (list_any p xs) (list_any p ys) h
 
 any_flat : {A : Type 0} (p : ℕ → Bool) (f : A → List ℕ) (xs : List A) (i : ℕ) (x : A) → slice_get xs i ≡ Some x → list_any p (f x) ≡ true → list_any p (flat_map f xs) ≡ true
 any_flat p f [] i x e h = absurd (grind arith)
