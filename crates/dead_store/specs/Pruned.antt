@@ -48,6 +48,7 @@ IsPruned D b b4 = (b2 : TypedBody) × ((b3 : TypedBody) × IsPrunedOnce D b b2 �
 
 -- ---- the same as a function
 
+-- whether to write a place at a statement changes nothing that is read, by the test of liveness
 abbrev pub nobody_reads : List Shape → TypedBody → ℕ → ℕ → Place → Bool
 nobody_reads D b i n p = not (has_deref p.proj) && (not (borrowed D b p.local) && not (is_live D b i (suc n) p.local))
 
@@ -66,8 +67,10 @@ abbrev pub blocks_without : (ℕ → ℕ → TypedStmt → Bool) → ℕ → Lis
 blocks_without gone i [] = []
 blocks_without gone i (k ∷ ks) = record { stmts = without (gone i) 0 k.stmts; term = k.term } ∷ blocks_without gone (suc i) ks
 
+-- one round
 abbrev pub pruned_once : List Shape → TypedBody → TypedBody
 pruned_once D b = record b { blocks = blocks_without (is_useless D b) 0 b.blocks }
 
+-- three rounds
 unfoldable pub pruned : List Shape → TypedBody → TypedBody
 pruned D b = pruned_once D (pruned_once D (pruned_once D b))

@@ -1,28 +1,23 @@
 -- What the test tells is what is live by paths: paths of as many points as the body has are enough.
 use Rattle.std.proofs.Common.{◌≡◌, refl, sym, ap, ap₂, ◌∙◌, subst, ℕ, zero, suc, ◌+◌, ◌≤◌, Bool, true, false, not, ◌&&◌, ◌||◌, List, [], ◌∷◌, ◌++◌, length, length-append, Option, Some, None, slice_get, ◌⊎◌, inl, inr, arith}
 use Rattle.std.specs.List.{Contains, list_any}
+use Rattle.std.proofs.lemmas.List.Folds.{Any-from_list_any, list_any_at}
 use Rattle.bit_rows.specs.Rows.{stands}
 use Rattle.mir_syntax.specs.Tree.{Tree}
 use Rattle.mir_syntax.specs.Crate.{TypedStmt, TypedBlock, TypedBody}
 use Rattle.mir_syntax.specs.Shapes.{Shape}
 use Rattle.mir_syntax.specs.Parts.{targets}
 use Rattle.liveness.specs.Live.{stmt_reads, term_reads, stmt_fills, term_fills, LiveIn, LiveBy, Live}
-use Rattle.mir_syntax.proofs.Members.{has_first, has_later, has_cases, has_none}
 use Rattle.liveness.specs.Bits.{not_is, not_true, stands_has, has_stands}
 use Rattle.std.proofs.lemmas.Bool.{and_parts, and_from, or_cases, or_left, or_right}
 use Rattle.liveness.specs.Decided.{live_in, live_at, live_by, points_of, is_live}
 use Rattle.liveness.proofs.Growing.{Each, enough}
 
 list_any_is : (p : ℕ → Bool) (us : List ℕ) → list_any p us ≡ true → (u : ℕ) × Contains us u × (p u ≡ true)
-list_any_is p [] h = absurd (cc)
-list_any_is p (u ∷ us) h = elim (or_cases (p u) (list_any p us) h) [ inl a ↦ (u, has_first u us, a) | inr a ↦ (let r = list_any_is p us a in (r.0, has_later u r.0 us r.1, r.2)) ]
+list_any_is p us h = let m = Any-from_list_any p us h in (m.1, (m.0, m.2, m.3), m.4)
 
 list_any_of : (p : ℕ → Bool) (us : List ℕ) (u : ℕ) → Contains us u → p u ≡ true → list_any p us ≡ true
-list_any_of p [] u c h = absurd (has_none u c)
-list_any_of p (x ∷ us) u c h = elim (has_cases x u us c) [
-  | inl e ↦ or_left (p x) (list_any p us) (subst (λ (v : ℕ). p v ≡ true) (sym e) h)
-  | inr r ↦ or_right (p x) (list_any p us) (list_any_of p us u r h)
-]
+list_any_of p us u c h = list_any_at p us c.0 u c.1 (ap p c.2 ∙ h)
 
 list_any_more : (p q : ℕ → Bool) → ((u : ℕ) → p u ≡ true → q u ≡ true) → (us : List ℕ) → list_any p us ≡ true → list_any q us ≡ true
 list_any_more p q h us k = let r = list_any_is p us k in list_any_of q us r.0 r.1 (h r.0 r.2)

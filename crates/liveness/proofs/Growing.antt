@@ -1,18 +1,7 @@
 -- A set of finitely many items that grows by rounds stops growing.
 use Rattle.std.proofs.Common.{◌≡◌, refl, sym, ap, ◌∙◌, subst, ℕ, zero, suc, ◌+◌, ◌-◌, ◌<◌, ◌≤◌, Bool, true, false, List, [], ◌∷◌, length, ◌⊎◌, inl, inr, arith}
-use Rattle.std.specs.Prelude.{if◌then◌else◌}
-
-one_less : (a b : Bool) → (a ≡ true → b ≡ true) → (if a then 1 else 0) ≤ (if b then 1 else 0)
-one_less true true k = omega arith
-one_less true false k = absurd (let e = k refl in cc)
-one_less false true k = omega arith
-one_less false false k = omega arith
-
-one_same : (a b : Bool) → (a ≡ true → b ≡ true) → (if b then 1 else 0) ≤ (if a then 1 else 0) → a ≡ b
-one_same true true k l = refl
-one_same true false k l = absurd (let e = k refl in cc)
-one_same false true k l = absurd (omega arith)
-one_same false false k l = refl
+use Rattle.liveness.specs.Facts.{one_if}
+use Rattle.liveness.specs.Bits.{one_low, one_same}
 
 module _ {A : Type 0} where
   abbrev pub Each : (A → Type 0) → List A → Type 0
@@ -31,40 +20,37 @@ module _ {A : Type 0} where
   each_two P Q R h [] a c = tt
   each_two P Q R h (x ∷ xs) a c = (h x a.0 c.0, each_two P Q R h xs a.1 c.1)
 
-  abbrev pub ones : (A → Bool) → List A → ℕ
-  ones p [] = 0
-  ones p (x ∷ xs) = (if p x then 1 else 0) + ones p xs
+  -- how many pass the test
+  abbrev pub count : (A → Bool) → List A → ℕ
+  count p [] = 0
+  count p (x ∷ xs) = one_if (p x) + count p xs
 
-  ones_few : (p : A → Bool) (xs : List A) → ones p xs ≤ length xs
-  ones_few p [] = omega arith
-  ones_few p (x ∷ xs) = let r = ones_few p xs in let a = one (p x) in omega (arith, r, a)
-    where
-      one : (b : Bool) → (if b then 1 else 0) ≤ 1
-      one true = omega arith
-      one false = omega arith
+  count_few : (p : A → Bool) (xs : List A) → count p xs ≤ length xs
+  count_few p [] = omega arith
+  count_few p (x ∷ xs) = let r = count_few p xs in let a : one_if (p x) ≤ 1 = one_low (p x) true (λ e. refl) in omega (arith, r, a)
 
   module _ (p q : A → Bool) (h : (x : A) → p x ≡ true → q x ≡ true) where
-    ones_grow : (xs : List A) → ones p xs ≤ ones q xs
-    ones_grow [] = omega arith
-    ones_grow (x ∷ xs) = let r = ones_grow xs in let a = one_less (p x) (q x) (h x) in omega (arith, r, a)
+    count_grows : (xs : List A) → count p xs ≤ count q xs
+    count_grows [] = omega arith
+    count_grows (x ∷ xs) = let r = count_grows xs in let a = one_low (p x) (q x) (h x) in omega (arith, r, a)
 
     -- as many: the same
-    ones_same : (xs : List A) → ones q xs ≤ ones p xs → Each (λ x. p x ≡ q x) xs
-    ones_same [] l = tt
-    ones_same (x ∷ xs) l =
-        let r = ones_grow xs in
-        let a = one_less (p x) (q x) (h x) in
-        (one_same (p x) (q x) (h x) (omega (arith, l, r, a)), ones_same xs (omega (arith, l, r, a)))
+    count_same : (xs : List A) → count q xs ≤ count p xs → Each (λ x. p x ≡ q x) xs
+    count_same [] l = tt
+    count_same (x ∷ xs) l =
+        let r = count_grows xs in
+        let a = one_low (p x) (q x) (h x) in
+        (one_same (p x) (q x) (omega (arith, l, r, a)), count_same xs (omega (arith, l, r, a)))
 
-  all_ones : (p : A → Bool) (xs : List A) → length xs ≤ ones p xs → Each (λ x. p x ≡ true) xs
-  all_ones p [] l = tt
-  all_ones p (x ∷ xs) l = let r = ones_few p xs in (here (p x) (ones p xs) (length xs) r l, all_ones p xs (rest (p x) (ones p xs) (length xs) r l))
+  all_pass : (p : A → Bool) (xs : List A) → length xs ≤ count p xs → Each (λ x. p x ≡ true) xs
+  all_pass p [] l = tt
+  all_pass p (x ∷ xs) l = let r = count_few p xs in (here (p x) (count p xs) (length xs) r l, all_pass p xs (rest (p x) (count p xs) (length xs) r l))
     where
-      here : (b : Bool) (n m : ℕ) → n ≤ m → suc m ≤ (if b then 1 else 0) + n → b ≡ true
+      here : (b : Bool) (n m : ℕ) → n ≤ m → suc m ≤ one_if b + n → b ≡ true
       here true n m a c = refl
       here false n m a c = absurd (omega arith)
 
-      rest : (b : Bool) (n m : ℕ) → n ≤ m → suc m ≤ (if b then 1 else 0) + n → m ≤ n
+      rest : (b : Bool) (n m : ℕ) → n ≤ m → suc m ≤ one_if b + n → m ≤ n
       rest true n m a c = omega arith
       rest false n m a c = omega arith
 
@@ -83,13 +69,13 @@ module _ {A : Type 0} where
     still_on (suc k) j s = subst (λ (n : ℕ). Each (λ x. S n x ≡ S (suc n) x) xs) (let e : suc (k + j) ≡ suc k + j = omega arith in e) (step (k + j) (still_on k j s))
 
     -- by round k either k items are in, or the set has stood still before
-    by_round : (k : ℕ) → (k ≤ ones (S k) xs) ⊎ ((j : ℕ) × (j ≤ k) × Still j)
+    by_round : (k : ℕ) → (k ≤ count (S k) xs) ⊎ ((j : ℕ) × (j ≤ k) × Still j)
     unfolding Still
     by_round zero = inl (omega arith)
     by_round (suc k) = elim (by_round k) [
       | inr s ↦ inr (s.0, (let l = s.1 in omega arith), s.2)
-      | inl l ↦ elim (let c : (ones (S (suc k)) xs ≤ ones (S k) xs) ⊎ (ones (S k) xs < ones (S (suc k)) xs) = grind arith in c) [
-        | inl e ↦ inr (k, omega arith, ones_same (S k) (S (suc k)) (grows k) xs e)
+      | inl l ↦ elim (let c : (count (S (suc k)) xs ≤ count (S k) xs) ⊎ (count (S k) xs < count (S (suc k)) xs) = grind arith in c) [
+        | inl e ↦ inr (k, omega arith, count_same (S k) (S (suc k)) (grows k) xs e)
         | inr m ↦ inl (omega (arith, l, m))
       ]
     ]
@@ -107,7 +93,7 @@ module _ {A : Type 0} where
     pub enough : (m : ℕ) → Each (λ x. S m x ≡ true → S (length xs) x ≡ true) xs
     unfolding Still
     enough m = elim (by_round (length xs)) [
-      | inl l ↦ each_one (λ x. S (length xs) x ≡ true) (λ x. S m x ≡ true → S (length xs) x ≡ true) (λ x h g. h) xs (all_ones (S (length xs)) xs l)
+      | inl l ↦ each_one (λ x. S (length xs) x ≡ true) (λ x. S m x ≡ true → S (length xs) x ≡ true) (λ x h g. h) xs (all_pass (S (length xs)) xs l)
       | inr s ↦ elim (let c : (m ≤ s.0) ⊎ (s.0 < m) = grind arith in c) [
         | inl l ↦ each_all (λ x. S m x ≡ true → S (length xs) x ≡ true) (λ x h. up m (length xs) (let low = s.1 in omega (arith, l, low)) x h) xs
         | inr l ↦ each_one (λ x. S ((m - s.0) + s.0) x ≡ S s.0 x) (λ x. S m x ≡ true → S (length xs) x ≡ true)

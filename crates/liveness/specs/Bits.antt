@@ -77,13 +77,13 @@ Lower xs ys = (k : ℕ) → get_or xs k false ≡ true → get_or ys k false ≡
 lower_tail : (x y : Bool) (xs ys : List Bool) → Lower (x ∷ xs) (y ∷ ys) → Lower xs ys
 lower_tail x y xs ys h k e = h (suc k) e
 
-one_low : (x y : Bool) → (x ≡ true → y ≡ true) → one_if x ≤ one_if y
+pub one_low : (x y : Bool) → (x ≡ true → y ≡ true) → one_if x ≤ one_if y
 one_low true true h = omega arith
 one_low true false h = absurd (let z = h refl in grind arith)
 one_low false true h = omega arith
 one_low false false h = omega arith
 
-one_same : (x y : Bool) → one_if x ≡ one_if y → x ≡ y
+pub one_same : (x y : Bool) → one_if x ≡ one_if y → x ≡ y
 one_same true true e = refl
 one_same true false e = absurd (omega arith)
 one_same false true e = absurd (omega arith)

@@ -213,7 +213,32 @@ module _ (X : Change) (once : X.body2 ≡ pruned_once X.source.shapes X.body1) w
   -- ---- another function returns
 
   module _ (V : Valids X) (Inv : State → Type 0) where
-    module _ (n : ℕ) (s2 s1 : State) (r : Related X pass V Inv n s2 s1) (m2 m1 : Memory) (c2 c1 : Control) (ds cs2 : List Control) (v w : Value) (x : Next) (q : s1.callers ≡ c1 ∷ ds) (l : Linked r.core.lent r.core.lent m2 m1) (i : ℕ) (st : Standing i r.core.lent c2 c1) (be : Below X pass r.core.lent c2.dest c1.dest c2.frame c1.frame cs2 ds m2 m1) (l1 : c1.frame < s1.top.frame) (l2 : c2.frame < s2.top.frame) (hv : Same r.core.lent v w) where
+    -- a frame of another function gives back values to a frame that waits
+    record Return : Type 1 where
+      pub n : ℕ
+      pub s2 : State
+      pub s1 : State
+      pub r : Related X pass V Inv n s2 s1
+      pub m2 : Memory
+      pub m1 : Memory
+      pub c2 : Control
+      pub c1 : Control
+      pub ds : List Control
+      pub cs2 : List Control
+      pub v : Value
+      pub w : Value
+      pub callers : s1.callers ≡ c1 ∷ ds
+      pub linked : Linked r.core.lent r.core.lent m2 m1
+      pub i : ℕ
+      pub st : Standing i r.core.lent c2 c1
+      pub below : Below X pass r.core.lent c2.dest c1.dest c2.frame c1.frame cs2 ds m2 m1
+      pub older1 : c1.frame < s1.top.frame
+      pub older2 : c2.frame < s2.top.frame
+      pub same : Same r.core.lent v w
+
+    module _ (now : Return) (x : Next) where
+      open now use {n, s2, s1, r, m2, m1, c2, c1, ds, cs2, v, w, callers as q, linked as l, i, st, below as be, older1 as l1, older2 as l2, same as hv}
+
       abbrev j : Renaming
       j = r.core.lent
 
@@ -244,8 +269,14 @@ module _ (X : Change) (once : X.body2 ≡ pruned_once X.source.shapes X.body1) w
           subst (λ d. Goes X pass (return_to D s2 m2 d (c2 ∷ cs2) w) x) (sym ec) (goes_back m2' m1' c l' lv lives g1 k1)
 
     resumed : (n : ℕ) (s2 s1 : State) (r : Related X pass V Inv n s2 s1) (m2 m1 : Memory) (c2 c1 : Control) (gs ds cs2 : List Control) (v w : Value) (x : Next) → s1.callers ≡ c1 ∷ (gs ++ ds) → Linked r.core.lent r.core.lent m2 m1 → pass.waits r.core.lent s2.top.dest s1.top.dest c2 c1 gs m2 m1 → Below X pass r.core.lent c2.dest (lowest c1 gs).dest c2.frame (lowest c1 gs).frame cs2 ds m2 m1 → c1.frame < s1.top.frame → c2.frame < s2.top.frame → ((d : Dest) → s1.top.dest ≡ Some d → (t : Tree) × AddrTy D r.typed1.types d.addr t) → Same r.core.lent v w → return_to D s1 m1 s1.top.dest (c1 ∷ (gs ++ ds)) v ≡ Some x → Goes X pass (return_to D s2 m2 s2.top.dest (c2 ∷ cs2) w) x
-    resumed n s2 s1 r m2 m1 c2 c1 [] ds cs2 v w x q l (e, (i, st), inl (dr, lives)) be l1 l2 dt hv k = far_back n s2 s1 r m2 m1 c2 c1 ds cs2 v w x q l i st be l1 l2 hv s2.top.dest s1.top.dest dr lives dt k
-    resumed n s2 s1 r m2 m1 c2 c1 [] ds cs2 v w x q l (e, (i, st), inr h) be l1 l2 dt hv k = own_back n s2 s1 r m2 m1 c2 c1 ds cs2 v w x q l i st be l1 l2 hv s2.top.dest s1.top.dest h k
+    resumed n s2 s1 r m2 m1 c2 c1 [] ds cs2 v w x q l (e, (i, st), h) be l1 l2 dt hv k = go h
+      where
+        now : Return
+        now = record { n = n; s2 = s2; s1 = s1; r = r; m2 = m2; m1 = m1; c2 = c2; c1 = c1; ds = ds; cs2 = cs2; v = v; w = w; callers = q; linked = l; i = i; st = st; below = be; older1 = l1; older2 = l2; same = hv }
+
+        go : DestsRel r.core.lent s1.top.dest s2.top.dest × Lives r.core.lent c2 c1 m2 m1 ⊎ Awaits r.core.lent s2.top.dest s1.top.dest c2 c1 m2 m1 → Goes X pass (return_to D s2 m2 s2.top.dest (c2 ∷ cs2) w) x
+        go (inl (dr, lives)) = far_back now x s2.top.dest s1.top.dest dr lives dt k
+        go (inr h) = own_back now x s2.top.dest s1.top.dest h k
     resumed n s2 s1 r m2 m1 c2 c1 (g ∷ gs) ds cs2 v w x q l (e, st, h) be l1 l2 dt hv k = absurd (grind arith)
 
     pub frames : FrameLaws X pass V Inv

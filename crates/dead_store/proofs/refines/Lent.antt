@@ -1,5 +1,6 @@
 -- A local to a part of which a statement makes a reference is borrowed.
 use Rattle.std.proofs.Common.{◌≡◌, ◌⊎◌, inl, inr, refl, sym, ap, ◌∙◌, subst, ℕ, zero, suc, Bool, true, false, ◌||◌, if◌then◌else◌, List, [], ◌∷◌, ◌++◌, Some, slice_get, arith, eq-eqb}
+use Rattle.std.proofs.lemmas.List.Folds.{list_any-append}
 use Rattle.std.specs.List.{list_any, flat_map}
 use Rattle.mir_syntax.specs.declared.body.Place.{Place}
 use Rattle.mir_syntax.specs.Crate.{TypedStmt, assign, TypedBlock, TypedBody}
@@ -7,22 +8,13 @@ use Rattle.mir_syntax.specs.Crate as rvalue
 use Rattle.mir_syntax.specs.Shapes.{Shape}
 use Rattle.mir_syntax.specs.Parts.{has_deref}
 use Rattle.escape_info.specs.Borrowed.{lent, lent_in, dropped, is, borrowed}
+use Rattle.std.proofs.lemmas.Bool.{or_left, or_right}
 
 any_left : (p : ℕ → Bool) (xs ys : List ℕ) → list_any p xs ≡ true → list_any p (xs ++ ys) ≡ true
-any_left p [] ys h = absurd (grind arith)
-any_left p (x ∷ xs) ys h = go (p x) refl h (any_left p xs ys)
-  where
-    go : (b : Bool) → p x ≡ b → (b || list_any p xs) ≡ true → (list_any p xs ≡ true → list_any p (xs ++ ys) ≡ true) → (p x || list_any p (xs ++ ys)) ≡ true
-    go true e h ih = ap (λ b. b || list_any p (xs ++ ys)) e
-    go false e h ih = ap (λ b. b || list_any p (xs ++ ys)) e ∙ ih h
+any_left p xs ys h = list_any-append p xs ys ∙ or_left (list_any p xs) (list_any p ys) h
 
 any_right : (p : ℕ → Bool) (xs ys : List ℕ) → list_any p ys ≡ true → list_any p (xs ++ ys) ≡ true
-any_right p [] ys h = h
-any_right p (x ∷ xs) ys h = go (p x) refl (any_right p xs ys h)
-  where
-    go : (b : Bool) → p x ≡ b → list_any p (xs ++ ys) ≡ true → (p x || list_any p (xs ++ ys)) ≡ true
-    go true e h = ap (λ b. b || list_any p (xs ++ ys)) e
-    go false e h = ap (λ b. b || list_any p (xs ++ ys)) e ∙ h
+any_right p xs ys h = list_any-append p xs ys ∙ or_right (list_any p xs) (list_any p ys) h
 
 any_flat : {A : Type 0} (p : ℕ → Bool) (f : A → List ℕ) (xs : List A) (i : ℕ) (x : A) → slice_get xs i ≡ Some x → list_any p (f x) ≡ true → list_any p (flat_map f xs) ≡ true
 any_flat p f [] i x e h = absurd (grind arith)
