@@ -26,7 +26,7 @@ use Rattle.mir_renaming.proofs.Items.{step_parts, DropPlain, Own, Owns, Drops, b
 use Rattle.mir_relate.specs.Alike.{Between, Sides}
 use Rattle.mir_relate.specs.Mild.{Gentle, FairDest, FairDests}
 use Rattle.mir_relate.specs.Frames.{Change}
-use Rattle.mir_relate.specs.Pass.{MoveOk, AllMoves, RvalueMoves, StmtMoves, TermMoves, Valids}
+use Rattle.mir_relate.specs.Pass.{MoveOk, AllMoves, RvalueMoves, StmtMoves, TermMoves, Valids, GentleTo}
 use Rattle.mir_relate.proofs.Leaves.{some_val}
 use Rattle.mir_relate.proofs.Mild.{gentle_none, gentle_then, gentle_less, gentle_same, gentle_above, gentle_write}
 use Rattle.mir_relate.proofs.Wholes.{read_at_whole, eval_whole}
@@ -320,8 +320,10 @@ module _ (X : Change) (V : Valids X) where
         (λ st es. (V.stmts F s.top.function bo s.top.block k s.top.at st eb ek es, V.valid1.stmts G F s.top.function bo s.top.block k s.top.at st eb ek es (lokF bo eb))) q
 
     -- a step is gentle to the frames below the running one and below the one that runs next
-    pub step_gentle : (s' : State) → step C s ≡ Some (on s') → (n : ℕ) → n ≤ F → n ≤ s'.top.frame → Gentle E G n s'.memory s.memory
-    step_gentle s' e = (step_good (on s') e).0
+    pub step_gentle : (x : Next) → step C s ≡ Some x → GentleTo X G F s.memory x
+    step_gentle (on s') e = (step_good (on s') e).0
+    step_gentle (stop o) e = tt
+    step_gentle (fail t) e = tt
 
     -- and destinations stay fair
     pub step_fair : (s' : State) → step C s ≡ Some (on s') → FairDests C s'.top.function s'.top.dest s'.callers

@@ -27,6 +27,13 @@ gentle_less D G n1 k1 m1' m1 le a = record { mild = λ h x t v l ty e. a.mild h 
 pub gentle_same : (D : List Shape) (G : TypeMap) (n1 : ℕ) (m1' m1 : Memory) → ((h x : ℕ) (t : Tree) → h < n1 → G h x ≡ Some t → local_at m1' h x ≡ local_at m1 h x) → Gentle D G n1 m1' m1
 gentle_same D G n1 m1' m1 is = record { mild = λ h x t v l ty e. (v, is h x t l ty ∙ e, same v) }
 
+-- what is gentle to a memory is so to one that is the same below, and leads to what is the same below
+pub gentle_from : (D : List Shape) (G : TypeMap) (n1 : ℕ) (m1' m1 m0 : Memory) → ((h x : ℕ) (t : Tree) → h < n1 → G h x ≡ Some t → local_at m0 h x ≡ local_at m1 h x) → Gentle D G n1 m1' m1 → Gentle D G n1 m1' m0
+gentle_from D G n1 m1' m1 m0 is a = record { mild = λ h x t v l ty e. a.mild h x t v l ty (sym (is h x t l ty) ∙ e) }
+
+pub gentle_to : (D : List Shape) (G : TypeMap) (n1 : ℕ) (m1'' m1' m1 : Memory) → ((h x : ℕ) (t : Tree) → h < n1 → G h x ≡ Some t → local_at m1'' h x ≡ local_at m1' h x) → Gentle D G n1 m1' m1 → Gentle D G n1 m1'' m1
+gentle_to D G n1 m1'' m1' m1 is a = gentle_then D G n1 m1 m1' m1'' a (gentle_same D G n1 m1'' m1' is)
+
 -- a write in a frame above
 pub gentle_above : (D : List Shape) (G : TypeMap) (n1 : ℕ) (m1 : Memory) (a : Addr) (v : Value) → n1 ≤ a.frame → Gentle D G n1 (write m1 a v) m1
 gentle_above D G n1 m1 a v le = gentle_same D G n1 (write m1 a v) m1 (λ h x t l ty. write_other m1 a v h x (λ p q. absurd (omega (arith, l, le, p))))
