@@ -14,7 +14,7 @@ use Rattle.mir_syntax.specs.Crate as rvalue
 use Rattle.mir_num.specs.Numbers.{wrap, flag}
 use Rattle.mir_semantics.specs.Values.{Addr, Value, number, nil, pointer, is_hole, whole, blank}
 use Rattle.mir_semantics.specs.Memory.{Memory, local_at}
-use Rattle.mir_semantics.specs.Step.{Here, Dest, Visit, Dropping, Control, Called, State, aborted, no_answer, Next, on, stop, fail, local_addr, read_at, read_all, numbers_in, go_on, to_block, take_arm, calling, answered, ask, call, visits_of, visit, visit_unless, visit_if, work_off, begun, check, finish, perform, step}
+use Rattle.mir_semantics.specs.Step.{Here, Dest, Visit, Dropping, Control, Called, State, aborted, no_answer, Next, on, stop, fail, local_addr, read_at, read_all, numbers_in, go_on, to_block, next_stmt, take_arm, calling, answered, ask, call, visits_of, visit, visit_unless, visit_if, work_off, begun, check, finish, perform, step}
 use Rattle.mir_renaming.specs.Renaming.{Renaming, AddrRel, ValueRel}
 use Rattle.mir_renaming.proofs.Memory.{bind_some, some_bind}
 use Rattle.mir_renaming.proofs.Statements as text
@@ -32,7 +32,7 @@ use Rattle.mir_relate.specs.Frames.{Change, target, Pass, VisitRel, VisitsRel, D
 use Rattle.mir_relate.proofs.Alike.{number_read, all_read, integers_read}
 use Rattle.mir_relate.proofs.Kept as kept
 pub use Rattle.mir_relate.proofs.Wholes.{read_at_whole}
-use Rattle.mir_relate.proofs.Mild.{gentle_none}
+use Rattle.mir_relate.proofs.Mild.{gentle_none, gentle_on}
 use Rattle.mir_relate.proofs.Near as near
 use Rattle.mir_relate.proofs.Itself as itself
 use Rattle.mir_relate.proofs.Visits as visits
@@ -104,17 +104,13 @@ module _ (X : Change) (P : Pass) (V : Valids X) (Inv : State → Type 0) (laws :
             (below_left X P V Inv laws G j s2 s1 s2.top s1.top r.core.base r.core.linked al ag be ks m2 m1 h ge)))),
       )
 
-  -- where the step leads is gentle
-  gentle_at : (m1 : Memory) (i a : ℕ) (o : Option Dropping) (x : Next) → GentleTo X G s1.top.frame s1.memory x → Some (on (record s1 { memory = m1; top = record s1.top { block = i; at = a; dropping = o } })) ≡ Some x → Gentle D G s1.top.frame m1 s1.memory
-  gentle_at m1 i a o x ge k = subst (GentleTo X G s1.top.frame s1.memory) (sym (some_val k)) ge s1.top.frame (omega arith) (omega arith)
-
   -- ---- calls of outside functions
 
   answered_goes : (t2 t1 : List Called) (r2 r1 : List ℕ) (u : ℕ) (o2 o1 : Option Memory) (x : Next) → GentleTo X G s1.top.frame s1.memory x → t2 ≡ t1 → r2 ≡ r1 → ((m : Memory) → o1 ≡ Some m → GotMemory Left m o2) → answered (calling s1 t1 r1) (to_block u s1.top) o1 ≡ Some x → Goes X P (answered (calling s2 t2 r2) (to_block u s2.top) o2) x
   answered_goes t2 t1 r2 r1 u o2 None x ge ts rs hm e = goes_at X P _ x (fail t1) e tt
   answered_goes t2 t1 r2 r1 u o2 (Some m1) x ge ts rs hm e =
       let (m2, g, h) = hm m1 refl in
-      let k = core_on X P V Inv laws G j s2 s1 s2.top s1.top r.core.base r.core.linked al ag be ks m2 m1 u 0 None None h (subst (GentleTo X G s1.top.frame s1.memory) (sym (some_val e)) ge s1.top.frame (omega arith) (omega arith)) tt in
+      let k = core_on X P V Inv laws G j s2 s1 s2.top s1.top r.core.base r.core.linked al ag be ks m2 m1 u 0 None None h (gentle_on X G s1.top.frame s1.memory (record s1 { memory = m1; top = to_block u s1.top; answers = r1; trace = t1 }) x ge e (omega arith)) tt in
       goes_by X P _ _ x (ap (answered (calling s2 t2 r2) (to_block u s2.top)) g) (goes_at X P _ x _ e
       (0, _, refl, record { lent = k.lent; base = record { fresh1 = k.base.fresh1; fresh2 = k.base.fresh2; top1 = k.base.top1; top2 = k.base.top2; answers = rs; trace = ts }; linked = k.linked; runs = k.runs }))
 
@@ -219,7 +215,7 @@ module _ (X : Change) (P : Pass) (V : Valids X) (Inv : State → Type 0) (laws :
     S = kept.sides D bo.locals bo.locals s1.top.frame s2.top.frame j j low G bok lok
 
     to_block_goes : (m2 m1 : Memory) (u : ℕ) (x : Next) → GentleTo X G s1.top.frame s1.memory x → Left m2 m1 → go_on s1 m1 (to_block u s1.top) ≡ Some x → Goes X P (go_on s2 m2 (to_block u s2.top)) x
-    to_block_goes m2 m1 u x ge h e = goes_at X P _ x _ e (to_goes m2 m1 u h (gentle_at m1 u 0 None x ge e))
+    to_block_goes m2 m1 u x ge h e = goes_at X P _ x _ e (to_goes m2 m1 u h (gentle_on X G s1.top.frame s1.memory (record s1 { memory = m1; top = to_block u s1.top }) x ge e (omega arith)))
 
     check_goes : (m2 m1 : Memory) (c : Bool) (words : List ℕ) (os : List Operand) (u : ℕ) (x : Next) → GentleTo X G s1.top.frame s1.memory x → Q m2 m1 → AllMoves H1 os → check H1 s1 m1 c words os u ≡ Some x → Goes X P (check H2 s2 m2 c words os u) x
     unfolding check
@@ -286,7 +282,7 @@ module _ (X : Change) (P : Pass) (V : Valids X) (Inv : State → Type 0) (laws :
         let (so, sty) = sk st refl in
         let (m1', e1, k1) = bind_some e in
         let (m2', g1, h) = kept.exec_as D bo.locals bo.locals s1.top.frame s2.top.frame j j low G bok lok Q keeps st st (stmt_as st so sty) s2.memory s1.memory m1' (λ z. payloads) first e1 in
-        goes_by X P _ _ x (some_bind _ g1 (ap₂ (λ i a. go_on s2 m2' (record s2.top { block = i; at = suc a })) al.block al.at)) (goes_at X P _ x _ k1 (goes_on X P V Inv laws G j s2 s1 s2.top s1.top r.core.base r.core.linked al ag be ks m2' m1' s1.top.block (suc s1.top.at) s2.top.dropping s1.top.dropping (left m2' m1' h) (gentle_at m1' s1.top.block (suc s1.top.at) s1.top.dropping x ge k1) al.drops))
+        goes_by X P _ _ x (some_bind _ g1 (ap₂ (λ i a. go_on s2 m2' (record s2.top { block = i; at = suc a })) al.block al.at)) (goes_at X P _ x _ k1 (goes_on X P V Inv laws G j s2 s1 s2.top s1.top r.core.base r.core.linked al ag be ks m2' m1' s1.top.block (suc s1.top.at) s2.top.dropping s1.top.dropping (left m2' m1' h) (gentle_on X G s1.top.frame s1.memory (record s1 { memory = m1'; top = next_stmt s1.top }) x ge k1 (omega arith)) al.drops))
 
   -- one step
   pub other_step : (x : Next) → step X.source s1 ≡ Some x → Flat x → GentleTo X G s1.top.frame s1.memory x → Goes X P (step (target X) s2) x

@@ -25,8 +25,7 @@ use Rattle.mir_relate.specs.Pass.{KnowsAll, Valids, FewArgs, FewTerm, GentleTo, 
 use Rattle.mir_relate.proofs.Alike.{number_read, all_read, integers_read}
 use Rattle.mir_relate.proofs.Stacks.{knows_all, knows_later, below_kept}
 use Rattle.mir_relate.proofs.Enter.{goes_at, goes_by, enter_goes, enter_gentle}
-use Rattle.mir_relate.proofs.Leaves.{some_val}
-use Rattle.mir_relate.proofs.Mild.{gentle_less}
+use Rattle.mir_relate.proofs.Mild.{gentle_less, gentle_on}
 use Rattle.mir_relate.proofs.Returns.{return_goes, closed1, closed2}
 use Rattle.mir_relate.proofs.Others.{read_long, numbers_same}
 
@@ -138,7 +137,7 @@ module _ (X : Change) (P : Pass) (V : Valids X) (Inv : State → Type 0) (laws :
 
     -- the frame goes on at the start of a block
     there_goes : (m2 m1 : Memory) (u2 u1 : ℕ) (x : Next) → GentleTo X G s1.top.frame s1.memory x → Q m2 m1 → To m2 m1 u2 u1 → go_on s1 m1 (to_block u1 s1.top) ≡ Some x → Goes X P (go_on s2 m2 (to_block u2 s2.top)) x
-    there_goes m2 m1 u2 u1 x ge q (n', o) k = goes_at X P _ x _ k (n', _, refl, own_core n' m2 m1 (to_block u2 s2.top) (to_block u1 s1.top) refl refl refl refl (left m2 m1 q) (subst (GentleTo X G s1.top.frame s1.memory) (sym (some_val k)) ge s1.top.frame (omega arith) (omega arith)) o)
+    there_goes m2 m1 u2 u1 x ge q (n', o) k = goes_at X P _ x _ k (n', _, refl, own_core n' m2 m1 (to_block u2 s2.top) (to_block u1 s1.top) refl refl refl refl (left m2 m1 q) (gentle_on X G s1.top.frame s1.memory (record s1 { memory = m1; top = to_block u1 s1.top }) x ge k (omega arith)) o)
 
     pub to_goes : (m2 m1 : Memory) (u2 u1 : ℕ) (x : Next) → GentleTo X G s1.top.frame s1.memory x → Q m2 m1 → Edge u2 u1 → go_on s1 m1 (to_block u1 s1.top) ≡ Some x → Goes X P (go_on s2 m2 (to_block u2 s2.top)) x
     to_goes m2 m1 u2 u1 x ge q e k = there_goes m2 m1 u2 u1 x ge q (e m2 m1 q) k
@@ -147,7 +146,7 @@ module _ (X : Change) (P : Pass) (V : Valids X) (Inv : State → Type 0) (laws :
     answered_goes t2 t1 r2 r1 u2 u1 o2 None x ge ts rs hm e = goes_at X P _ x (fail t1) e tt
     answered_goes t2 t1 r2 r1 u2 u1 o2 (Some m1) x ge ts rs hm e =
         let (m2, g, h, (n', o)) = hm m1 refl in
-        let k = own_core n' m2 m1 (to_block u2 s2.top) (to_block u1 s1.top) refl refl refl refl h (subst (GentleTo X G s1.top.frame s1.memory) (sym (some_val e)) ge s1.top.frame (omega arith) (omega arith)) o in
+        let k = own_core n' m2 m1 (to_block u2 s2.top) (to_block u1 s1.top) refl refl refl refl h (gentle_on X G s1.top.frame s1.memory (record s1 { memory = m1; top = to_block u1 s1.top; answers = r1; trace = t1 }) x ge e (omega arith)) o in
         goes_by X P _ _ x (ap (answered (calling s2 t2 r2) (to_block u2 s2.top)) g) (goes_at X P _ x _ e
         (n', _, refl, record { lent = k.lent; base = record { fresh1 = k.base.fresh1; fresh2 = k.base.fresh2; top1 = k.base.top1; top2 = k.base.top2; answers = rs; trace = ts }; linked = k.linked; runs = k.runs }))
 
