@@ -1,10 +1,4 @@
-pub mod Facts
-pub mod Typed
-pub mod Kept
-pub mod Lines
-pub mod Counts
-pub mod Paths
-pub mod Lists
-pub mod Terms
-pub mod Landings
-mod InTable
+pub mod equal
+pub mod refines
+pub mod valid
+pub mod PassLaws

@@ -19,8 +19,11 @@ ghost use Rattle.cfg_simplify.specs.Simple.{simple as simple_body};
 mod edges;
 mod gotos;
 mod joins;
+mod laws;
 mod reach;
 mod regroup;
+
+pub use laws::{simple_refines, simple_stays_valid};
 
 use mir_syntax::{Body, OutOfMemory, Program};
 use std::alloc::Global;

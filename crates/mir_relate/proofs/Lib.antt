@@ -1,10 +1,6 @@
 pub mod Traces
 pub mod Law
 pub mod Refine
-pub mod Jumps
-pub mod Hops
-pub mod OneBody
-pub mod Lines
 pub mod Alike
 pub mod Kept
 pub mod Leaves
@@ -30,3 +26,4 @@ pub mod Needs
 pub mod Rules
 pub mod Replaced
 pub mod Rest
+pub mod Renumbered

@@ -1,11 +1,8 @@
 pub mod Simulation
-pub mod Jumps
-pub mod Hops
-pub mod OneBody
-pub mod Lines
 pub mod Alike
 pub mod Leaves
 pub mod Mild
 pub mod Frames
 pub mod Pass
 pub mod Passes
+pub mod Renumbered

@@ -1,3 +1,6 @@
-pub mod Kept
-pub mod Same
-mod InTable
+pub mod equal
+pub mod Numbers
+pub mod Renumbered
+pub mod refines
+pub mod valid
+pub mod PassLaws

@@ -1,9 +1,9 @@
 use Rattle.std.proofs.Common.{ℕ, List, map, length, ap}
 use Rattle.mir_syntax.specs.Tree.{Tree, at_id, trees_of}
 use Rattle.mir_syntax.specs.Crate.{TypedBlock, TypedBody}
-use Rattle.cfg_simplify.proofs.Landings.{hopped-closed}
-use Rattle.cfg_simplify.proofs.Typed.{simple-same}
-use Rattle.cfg_simplify.proofs.InTable.{simple_below}
+use Rattle.cfg_simplify.proofs.equal.Landings.{hopped-closed}
+use Rattle.cfg_simplify.proofs.equal.Typed.{simple-same}
+use Rattle.cfg_simplify.proofs.equal.InTable.{simple_below}
 use Rattle.cfg_simplify.proofs.simple.Goals as goal
 
 abbrev with_blocks : ℕ → List Tree → List TypedBlock → TypedBody

@@ -1,5 +1,5 @@
 use Rattle.std.proofs.Common.{◌<◌, length}
-use Rattle.cfg_simplify.proofs.Terms.{switch_arms, switch_last}
+use Rattle.cfg_simplify.proofs.equal.Terms.{switch_arms, switch_last}
 use Rattle.cfg_simplify.proofs.edges.retargeted.Goals as goal
 
 pub retargeted_arms-arms-requires : goal.retargeted_arms-arms-requires

@@ -3,7 +3,7 @@ use Rattle.std.proofs.lemmas.List.{get_or-map, length-map}
 use Rattle.mir_syntax.specs.declared.body.Arm.{Arm}
 use Rattle.cfg_simplify.specs.Edges.{arm_block, retarget_arm}
 use Rattle.cfg_simplify.specs.Code.{at}
-use Rattle.cfg_simplify.proofs.Lists.{over-length, over-here, over-more}
+use Rattle.cfg_simplify.proofs.equal.Lists.{over-length, over-here, over-more}
 use Rattle.cfg_simplify.proofs.edges.retargeted_arms.Goals as goal
 
 -- src/edges.rt:51:21

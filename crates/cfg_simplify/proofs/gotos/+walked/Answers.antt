@@ -5,7 +5,7 @@ use Rattle.std.proofs.lemmas.List.Elements.{All-get_or}
 use Rattle.std.specs.Prelude.{IfOk}
 use Rattle.cfg_simplify.specs.Simple.{numbers, walk}
 use Rattle.cfg_simplify.specs.Code.{at}
-use Rattle.cfg_simplify.proofs.Lists.{length-numbers, all-numbers, walk-below, walk_twice, walk_more}
+use Rattle.cfg_simplify.proofs.equal.Lists.{length-numbers, all-numbers, walk-below, walk_twice, walk_more}
 use Rattle.cfg_simplify.proofs.gotos.+walked.Goals as goal
 
 step-inside : (steps : List ℕ) → All (λ b. b < length steps) steps → (b : ℕ) → b < length steps → at steps b < length steps

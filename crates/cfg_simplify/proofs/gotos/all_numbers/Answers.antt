@@ -1,4 +1,4 @@
-use Rattle.cfg_simplify.proofs.Lists.{numbers_step}
+use Rattle.cfg_simplify.proofs.equal.Lists.{numbers_step}
 use Rattle.cfg_simplify.proofs.gotos.all_numbers.Goals as goal
 
 pub loop-number-preserved : goal.loop-number-preserved

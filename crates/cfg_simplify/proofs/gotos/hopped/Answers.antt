@@ -5,9 +5,9 @@ use Rattle.mir_syntax.specs.declared.body.Term.{Term}
 use Rattle.cfg_simplify.specs.Edges.{retarget}
 use Rattle.cfg_simplify.specs.Simple.{numbers, landing}
 use Rattle.cfg_simplify.specs.Code.{at, bare_goto, bare_hopped_block}
-use Rattle.cfg_simplify.proofs.Lists.{length-numbers, over-length, over-here, over-more}
-use Rattle.cfg_simplify.proofs.Terms.{block-closed}
-use Rattle.cfg_simplify.proofs.Landings.{hopped-is}
+use Rattle.cfg_simplify.proofs.equal.Lists.{length-numbers, over-length, over-here, over-more}
+use Rattle.cfg_simplify.proofs.equal.Terms.{block-closed}
+use Rattle.cfg_simplify.proofs.equal.Landings.{hopped-is}
 use Rattle.cfg_simplify.proofs.gotos.hopped.Goals as goal
 
 pub retarget_in_place-requires : goal.retarget_in_place-requires

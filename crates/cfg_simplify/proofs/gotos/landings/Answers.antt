@@ -5,8 +5,8 @@ use Rattle.mir_syntax.specs.declared.body.Block.{Block}
 use Rattle.cfg_simplify.specs.Edges.{Closed}
 use Rattle.cfg_simplify.specs.Simple.{numbers, onward, walk, goto_link, settle, landing}
 use Rattle.cfg_simplify.specs.Code.{at, block_term, bare_goto}
-use Rattle.cfg_simplify.proofs.Lists.{length-numbers}
-use Rattle.cfg_simplify.proofs.Landings.{steps-inside, ends-inside, ends-long, landings-are}
+use Rattle.cfg_simplify.proofs.equal.Lists.{length-numbers}
+use Rattle.cfg_simplify.proofs.equal.Landings.{steps-inside, ends-inside, ends-long, landings-are}
 use Rattle.cfg_simplify.proofs.gotos.landings.Goals as goal
 
 pub walked-requires-clause-inside : goal.walked-requires-clause-inside

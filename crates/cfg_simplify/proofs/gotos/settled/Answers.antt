@@ -1,7 +1,7 @@
 use Rattle.std.proofs.Common.{map}
 use Rattle.cfg_simplify.specs.Simple.{settle}
 use Rattle.cfg_simplify.specs.Code.{at, bare_goto}
-use Rattle.cfg_simplify.proofs.Lists.{map_step}
+use Rattle.cfg_simplify.proofs.equal.Lists.{map_step}
 use Rattle.cfg_simplify.proofs.gotos.settled.Goals as goal
 
 pub loop-block-preserved : goal.loop-block-preserved

@@ -2,7 +2,7 @@ use Rattle.std.proofs.Common.{map, ap, ◌∙◌}
 use Rattle.std.specs.Option.{unwrap_or}
 use Rattle.cfg_simplify.specs.Simple.{onward, goto_link}
 use Rattle.cfg_simplify.specs.Code.{bare_goto}
-use Rattle.cfg_simplify.proofs.Lists.{map_step}
+use Rattle.cfg_simplify.proofs.equal.Lists.{map_step}
 use Rattle.cfg_simplify.proofs.gotos.steps.Goals as goal
 
 pub loop-at-preserved : goal.loop-at-preserved

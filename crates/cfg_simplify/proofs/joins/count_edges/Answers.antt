@@ -4,8 +4,8 @@ use Rattle.std.specs.Option.{option_to_list}
 use Rattle.mir_syntax.specs.declared.body.Arm.{Arm}
 use Rattle.cfg_simplify.specs.Edges.{arm_block, targets}
 use Rattle.cfg_simplify.specs.Code.{counted}
-use Rattle.cfg_simplify.proofs.Paths.{arm-inside, last-inside}
-use Rattle.cfg_simplify.proofs.Counts.{length-counted, capped-counted, counts_more, counts_last}
+use Rattle.cfg_simplify.proofs.equal.Paths.{arm-inside, last-inside}
+use Rattle.cfg_simplify.proofs.equal.Counts.{length-counted, capped-counted, counts_more, counts_last}
 use Rattle.cfg_simplify.proofs.joins.count_edges.Goals as goal
 
 no-arm : Arm

@@ -6,9 +6,9 @@ use Rattle.mir_syntax.specs.declared.body.Term.TheVariants.{Unreachable}
 use Rattle.cfg_simplify.specs.Edges.{targets, edges}
 use Rattle.cfg_simplify.specs.Simple.{reached}
 use Rattle.cfg_simplify.specs.Code.{block_term, counted}
-use Rattle.cfg_simplify.proofs.Lists.{length-numbers, get_from}
-use Rattle.cfg_simplify.proofs.Terms.{block-closed}
-use Rattle.cfg_simplify.proofs.Counts.{ends_of, counted-skip, counted-step}
+use Rattle.cfg_simplify.proofs.equal.Lists.{length-numbers, get_from}
+use Rattle.cfg_simplify.proofs.equal.Terms.{block-closed}
+use Rattle.cfg_simplify.proofs.equal.Counts.{ends_of, counted-skip, counted-step}
 use Rattle.cfg_simplify.proofs.joins.incoming_counts.Goals as goal
 use Rattle.cfg_simplify.proofs.joins.incoming_counts.Goals.{then-reached-block, else-reached-block}
 

@@ -1,9 +1,9 @@
 use Rattle.std.proofs.Common.{◌≡◌, ◌<◌, false, map, length, get_or, ap, ◌∙◌, arith}
 use Rattle.cfg_simplify.specs.Simple.{reached, joined}
 use Rattle.cfg_simplify.specs.Code.{at, block_term}
-use Rattle.cfg_simplify.proofs.Lists.{length-numbers, get_from, map_step}
-use Rattle.cfg_simplify.proofs.Terms.{block-closed}
-use Rattle.cfg_simplify.proofs.Counts.{joined-is}
+use Rattle.cfg_simplify.proofs.equal.Lists.{length-numbers, get_from, map_step}
+use Rattle.cfg_simplify.proofs.equal.Terms.{block-closed}
+use Rattle.cfg_simplify.proofs.equal.Counts.{joined-is}
 use Rattle.cfg_simplify.proofs.joins.joined_blocks.Goals as goal
 
 pub bounds-reached-block : goal.bounds-reached-block

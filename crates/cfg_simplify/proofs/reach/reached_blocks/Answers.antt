@@ -4,8 +4,8 @@ use Rattle.mir_syntax.specs.declared.body.Term.TheVariants.{Unreachable}
 use Rattle.cfg_simplify.specs.Edges.{targets, edges}
 use Rattle.cfg_simplify.specs.Simple.{numbers, reached}
 use Rattle.cfg_simplify.specs.Code.{at, block_term, found_order, flags_after, order_after}
-use Rattle.cfg_simplify.proofs.Terms.{block-closed}
-use Rattle.cfg_simplify.proofs.Paths.{search-few, order-below, search-begins, search-step, search-ends}
+use Rattle.cfg_simplify.proofs.equal.Terms.{block-closed}
+use Rattle.cfg_simplify.proofs.equal.Paths.{search-few, order-below, search-begins, search-step, search-ends}
 use Rattle.cfg_simplify.proofs.reach.reached_blocks.Goals as goal
 
 pub loop-at-init : goal.loop-at-init

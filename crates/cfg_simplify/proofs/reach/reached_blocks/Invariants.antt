@@ -1,6 +1,6 @@
 use Rattle.std.proofs.Common.{map, length, ◌-◌}
 use Rattle.cfg_simplify.specs.Code.{block_term}
-use Rattle.cfg_simplify.proofs.Paths.{IsSearch}
+use Rattle.cfg_simplify.proofs.equal.Paths.{IsSearch}
 use Rattle.cfg_simplify.proofs.reach.reached_blocks.Given as goal
 
 abbrev pub invariant-loop-at : goal.invariant-loop-at

@@ -8,10 +8,10 @@ use Rattle.mir_syntax.specs.declared.body.Block.{Block}
 use Rattle.cfg_simplify.specs.Edges.{targets, retarget}
 use Rattle.cfg_simplify.specs.Simple.{numbers as all_numbers, onward, walk, joined, stays, line, new_number}
 use Rattle.cfg_simplify.specs.Code.{link_at, flag_at, block_term, hollow, bare_whole}
-use Rattle.cfg_simplify.proofs.Lists.{length-numbers, get_from}
-use Rattle.cfg_simplify.proofs.Paths.{edges-within}
-use Rattle.cfg_simplify.proofs.Lines.{fresh, fresh-same}
-use Rattle.cfg_simplify.proofs.Kept.{link-is, joined-below, kept-skip, kept-step, renumbered, line-is, line-stmts, line-term}
+use Rattle.cfg_simplify.proofs.equal.Lists.{length-numbers, get_from}
+use Rattle.cfg_simplify.proofs.equal.Paths.{edges-within}
+use Rattle.cfg_simplify.proofs.equal.Lines.{fresh, fresh-same}
+use Rattle.cfg_simplify.proofs.equal.Kept.{link-is, joined-below, kept-skip, kept-step, renumbered, line-is, line-stmts, line-term}
 use Rattle.cfg_simplify.proofs.regroup.kept_blocks.Goals as goal
 use Rattle.cfg_simplify.proofs.regroup.kept_blocks.Goals.{then-marks-at+in_ok-stmts+in_ok-push, else-marks-at}
 

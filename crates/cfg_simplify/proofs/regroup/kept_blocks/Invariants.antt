@@ -2,7 +2,7 @@ use Rattle.std.proofs.Common.{◌≡◌, map, length}
 use Rattle.std.specs.List.{filter}
 use Rattle.cfg_simplify.specs.Simple.{numbers, stays}
 use Rattle.cfg_simplify.specs.Code.{block_term, bare_whole}
-use Rattle.cfg_simplify.proofs.Kept.{StandAs}
+use Rattle.cfg_simplify.proofs.equal.Kept.{StandAs}
 use Rattle.cfg_simplify.proofs.regroup.kept_blocks.Given as goal
 
 abbrev pub invariant-loop-at : goal.invariant-loop-at

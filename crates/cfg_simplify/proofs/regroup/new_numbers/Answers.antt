@@ -3,8 +3,8 @@ use Rattle.std.proofs.lemmas.List.Sums.{count_by-le-length}
 use Rattle.std.proofs.lemmas.List.FromFn.{length-range_with_len}
 use Rattle.cfg_simplify.specs.Simple.{numbers as all_numbers, new_number}
 use Rattle.cfg_simplify.specs.Code.{flag_at}
-use Rattle.cfg_simplify.proofs.Lists.{map_step}
-use Rattle.cfg_simplify.proofs.Kept.{number-step}
+use Rattle.cfg_simplify.proofs.equal.Lists.{map_step}
+use Rattle.cfg_simplify.proofs.equal.Kept.{number-step}
 use Rattle.cfg_simplify.proofs.regroup.new_numbers.Goals as goal
 use Rattle.cfg_simplify.proofs.regroup.new_numbers.Goals.{then-mark, else-mark}
 

@@ -2,8 +2,8 @@ use Rattle.std.proofs.Common.{◌≡◌, map, length, sym, ap, ◌∙◌, arith}
 use Rattle.std.proofs.lemmas.List.{length-map}
 use Rattle.cfg_simplify.specs.Simple.{numbers, reached, joined}
 use Rattle.cfg_simplify.specs.Code.{block_term}
-use Rattle.cfg_simplify.proofs.Lists.{length-numbers}
-use Rattle.cfg_simplify.proofs.Kept.{link-is, joined-below, marks-are}
+use Rattle.cfg_simplify.proofs.equal.Lists.{length-numbers}
+use Rattle.cfg_simplify.proofs.equal.Kept.{link-is, joined-below, marks-are}
 use Rattle.cfg_simplify.proofs.regroup.regrouped.Goals as goal
 
 pub stay_marks-marks-requires : goal.stay_marks-marks-requires

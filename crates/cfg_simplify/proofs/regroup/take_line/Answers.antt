@@ -7,7 +7,7 @@ use Rattle.mir_syntax.specs.declared.body.Stmt.{Stmt}
 use Rattle.mir_syntax.specs.declared.body.Block.{Block}
 use Rattle.cfg_simplify.specs.Simple.{onward, walk, line}
 use Rattle.cfg_simplify.specs.Code.{link_at, block_term, hollow, stmts_in}
-use Rattle.cfg_simplify.proofs.Lines.{line-more, walk-more, walk-ended, line-ended}
+use Rattle.cfg_simplify.proofs.equal.Lines.{line-more, walk-more, walk-ended, line-ended}
 use Rattle.cfg_simplify.proofs.regroup.take_line.Goals as goal
 
 pub returns-in_default-clause-stmts : goal.returns-in_default-clause-stmts

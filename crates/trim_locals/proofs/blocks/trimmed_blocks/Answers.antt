@@ -1,7 +1,7 @@
 use Rattle.std.proofs.Common.{arith}
 use Rattle.bit_rows.specs.Rows.{row_at}
 use Rattle.trim_locals.specs.Code.{bare_trimmed_block}
-use Rattle.trim_locals.proofs.Same.{over_more}
+use Rattle.trim_locals.proofs.equal.Same.{over_more}
 use Rattle.trim_locals.proofs.blocks.trimmed_blocks.Goals as goal
 
 pub loop-block-preserved : goal.loop-block-preserved

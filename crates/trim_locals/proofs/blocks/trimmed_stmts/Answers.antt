@@ -3,7 +3,7 @@ use Rattle.mir_syntax.specs.declared.body.Stmt.{Stmt}
 use Rattle.mir_syntax.proofs.Taken.{taken_next, taken_more}
 use Rattle.bit_rows.specs.Rows.{row_at}
 use Rattle.trim_locals.specs.Code.{bare_trimmed_stmts}
-use Rattle.trim_locals.proofs.Kept.{kept_more}
+use Rattle.trim_locals.proofs.equal.Kept.{kept_more}
 use Rattle.trim_locals.proofs.blocks.trimmed_stmts.Goals as goal
 
 pub loop-stmt-preserved : goal.loop-stmt-preserved

@@ -1,4 +1,4 @@
-use Rattle.std.proofs.Common.{◌≡◌, ◌<◌, ◌+◌, ◌++◌, [], ◌∷◌, List, false, replicate, ap, ◌∙◌, set, length, arith}
+use Rattle.std.proofs.Common.{◌<◌, ◌+◌, ◌++◌, [], ◌∷◌, List, false, replicate, ap, ◌∙◌, set, length, arith}
 use Rattle.std.specs.List.{flat_map, range_with_len}
 use Rattle.bit_rows.specs.Rows.{row_at, marked}
 use Rattle.bit_rows.proofs.Marks.{marks_then}

@@ -1,6 +1,6 @@
 use Rattle.std.proofs.Common.{arith}
 use Rattle.trim_locals.specs.Trimmed.{number_in, renamed_operand}
-use Rattle.trim_locals.proofs.Same.{over_more}
+use Rattle.trim_locals.proofs.equal.Same.{over_more}
 use Rattle.trim_locals.proofs.renaming.renamed_operands.Goals as goal
 
 pub loop-operand-preserved : goal.loop-operand-preserved

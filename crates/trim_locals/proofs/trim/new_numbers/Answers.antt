@@ -1,9 +1,9 @@
-use Rattle.std.proofs.Common.{◌≡◌, ℕ, ◌+◌, ◌<◌, ◌++◌, ◌∷◌, [], true, false, cond, sym, ap, ◌∙◌, map, take, length, get_or, arith}
+use Rattle.std.proofs.Common.{◌≡◌, ℕ, ◌+◌, ◌<◌, ◌++◌, ◌∷◌, [], true, false, cond, sym, ap, ◌∙◌, map, length, get_or, arith}
 use Rattle.std.specs.List.{range_with_len}
 use Rattle.std.proofs.lemmas.List.FromFn.{map-range_with_len_more}
 use Rattle.bit_rows.specs.Rows.{row_at}
-use Rattle.trim_locals.specs.Trimmed.{self, new_number}
-use Rattle.trim_locals.proofs.Same.{number_next}
+use Rattle.trim_locals.specs.Trimmed.{new_number}
+use Rattle.trim_locals.proofs.equal.Same.{number_next}
 use Rattle.trim_locals.proofs.trim.new_numbers.Goals as goal
 use Rattle.trim_locals.proofs.trim.new_numbers.Goals.{then-get, else-get}
 

@@ -5,8 +5,8 @@ use Rattle.mir_syntax.specs.declared.types.TyId.{TyId}
 use Rattle.bit_rows.specs.Rows.{row_at, HasSize}
 use Rattle.trim_locals.specs.Trimmed.{marked_items}
 use Rattle.trim_locals.specs.Code.{bare_block_uses, bare_trimmed_block}
-use Rattle.trim_locals.proofs.Same.{marks_are, used_size, is_trimmed}
-use Rattle.trim_locals.proofs.InTable.{trimmed_below}
+use Rattle.trim_locals.proofs.equal.Same.{marks_are, used_size, is_trimmed}
+use Rattle.trim_locals.proofs.equal.InTable.{trimmed_below}
 use Rattle.trim_locals.proofs.trim.trimmed.Goals as goal
 
 pub new_numbers-requires-clause-size : goal.new_numbers-requires-clause-size

@@ -2,7 +2,7 @@ use Rattle.std.proofs.Common.{◌≡◌, ◌<◌, ◌++◌, ◌∷◌, [], true,
 use Rattle.mir_syntax.specs.declared.types.TyId.{TyId}
 use Rattle.bit_rows.specs.Rows.{row_at}
 use Rattle.trim_locals.specs.Trimmed.{marked_items}
-use Rattle.trim_locals.proofs.Same.{items_more}
+use Rattle.trim_locals.proofs.equal.Same.{items_more}
 use Rattle.trim_locals.proofs.trim.used_types.Goals as goal
 use Rattle.trim_locals.proofs.trim.used_types.Goals.{then-get+in_ok-push, else-get}
 

@@ -4,7 +4,7 @@ use Rattle.std.specs.Option.{option_to_list}
 use Rattle.mir_syntax.specs.declared.body.Arm.{Arm}
 use Rattle.cfg_simplify.specs.Edges.{arm_block, targets}
 use Rattle.cfg_simplify.specs.Code.{flags_after}
-use Rattle.cfg_simplify.proofs.Paths.{length-flags_after, arm-inside, last-inside, flags_more, order_more, flags_last, order_last}
+use Rattle.cfg_simplify.proofs.equal.Paths.{length-flags_after, arm-inside, last-inside, flags_more, order_more, flags_last, order_last}
 use Rattle.cfg_simplify.proofs.reach.Found.find_targets.Goals as goal
 
 no-arm : Arm

@@ -1,0 +1,11 @@
+pub mod Jumps
+pub mod Frames
+pub mod Jumped
+pub mod Hops
+pub mod Hopped
+pub mod Reached
+pub mod Ends
+pub mod Numbers
+pub mod Lines
+pub mod Regrouped
+pub mod Refined

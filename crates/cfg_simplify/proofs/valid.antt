@@ -1,0 +1,4 @@
+pub mod Rearranged
+pub mod Kept
+pub mod Limits
+pub mod Calls
