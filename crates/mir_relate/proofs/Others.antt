@@ -1,21 +1,19 @@
 -- A step of a function that is left alone.
-use Rattle.std.proofs.Common.{◌≡◌, ◌⊎◌, inl, refl, sym, ap, ap₂, ◌∙◌, subst, ℕ, suc, ◌≤◌, Bool, true, false, nat_eq, List, [], ◌∷◌, ◌++◌, length, Option, Some, None, slice_get, arith}
+use Rattle.std.proofs.Common.{◌≡◌, ◌⊎◌, inl, refl, sym, ap, ap₂, ◌∙◌, subst, ℕ, suc, ◌≤◌, Bool, true, false, nat_eq, List, [], ◌∷◌, length, Option, Some, None, slice_get, arith}
 use Rattle.mir_syntax.specs.declared.body.Place.{Place}
 use Rattle.mir_syntax.specs.declared.body.Operand.{Operand}
-use Rattle.mir_syntax.specs.declared.body.Operand.TheVariants as operand
 use Rattle.mir_syntax.specs.declared.body.Callee.{Callee}
 use Rattle.mir_syntax.specs.declared.body.Callee.TheVariants as callee
 use Rattle.mir_syntax.specs.declared.body.Term.{Term}
 use Rattle.mir_syntax.specs.declared.body.Term.TheVariants.{Goto, Switch, Return, Unreachable, Drop, Call, Assert}
 use Rattle.mir_syntax.specs.Tree.{Tree, scalar}
-use Rattle.mir_syntax.specs.Shapes.{Shape, needs_drop, destructor_of}
-use Rattle.mir_syntax.specs.Crate.{TypedRvalue, «use», binary, overflow, unary, cast, discriminant, tuple, build, TypedStmt, assign, storage_live, storage_dead, set_discriminant, TypedBody}
-use Rattle.mir_syntax.specs.Crate as rvalue
+use Rattle.mir_syntax.specs.Shapes.{Shape}
+use Rattle.mir_syntax.specs.Crate.{TypedStmt, TypedBody}
 use Rattle.mir_num.specs.Numbers.{wrap, flag}
-use Rattle.mir_semantics.specs.Values.{Addr, Value, number, nil, pointer, is_hole, whole, blank}
+use Rattle.mir_semantics.specs.Values.{Value, number, nil, blank}
 use Rattle.mir_semantics.specs.Memory.{Memory, local_at}
-use Rattle.mir_semantics.specs.Step.{Here, Dest, Visit, Dropping, Control, Called, State, aborted, no_answer, Next, on, stop, fail, local_addr, read_at, read_all, numbers_in, go_on, to_block, take_arm, calling, answered, ask, call, visits_of, visit, visit_unless, visit_if, work_off, begun, check, finish, perform, step}
-use Rattle.mir_renaming.specs.Renaming.{Renaming, AddrRel, ValueRel}
+use Rattle.mir_semantics.specs.Step.{Here, Dest, Dropping, Control, Called, State, aborted, no_answer, Next, on, stop, fail, local_addr, read_all, numbers_in, go_on, to_block, take_arm, calling, answered, ask, call, work_off, begun, check, finish, perform, step}
+use Rattle.mir_renaming.specs.Renaming.{Renaming, AddrRel}
 use Rattle.mir_renaming.proofs.Memory.{bind_some, some_bind}
 use Rattle.mir_renaming.proofs.Statements as text
 use Rattle.mir_renaming.proofs.Statements.{DestRel, only_true, ValuesRel, number_rel}
@@ -24,10 +22,10 @@ use Rattle.mir_renaming.proofs.Typed.{MaybeDrop, VisitsTy, TermTy}
 use Rattle.mir_renaming.proofs.Ghosts.{Flat}
 use Rattle.mir_renaming.proofs.Agree.{whole_tight}
 use Rattle.mir_renaming.proofs.Among.{all_operand, all_operands}
-use Rattle.mir_relate.specs.Pass.{MoveOk, KnowsAll, Valids, FewArgs, FewTerm, AllMoves, RvalueMoves, StmtMoves, TermMoves, FrameLaws, Goes, Related}
+use Rattle.mir_relate.specs.Pass.{MoveOk, KnowsAll, Valids, FewArgs, FewTerm, AllMoves, StmtMoves, TermMoves, FrameLaws, Goes, Related}
 use Rattle.mir_renaming.proofs.Items.{OwnDrop, begun_own, DropPlain, step_parts}
 use Rattle.mir_relate.specs.Alike.{Between, GotMemory, Sides, AllSame, Reads, AllRead}
-use Rattle.mir_relate.specs.Frames.{Change, target, Pass, VisitRel, VisitsRel, DropRel, DropsRel, DestsRel, Agrees, Twin, Below}
+use Rattle.mir_relate.specs.Frames.{Change, target, Pass, VisitRel, DropRel, DropsRel, DestsRel, Agrees, Twin, Below}
 use Rattle.mir_relate.proofs.Alike.{number_read, all_read, integers_read}
 use Rattle.mir_relate.proofs.Kept as kept
 pub use Rattle.mir_relate.proofs.Wholes.{read_at_whole}
