@@ -1,8 +1,7 @@
 -- A frame of a function that is left alone, about to run: it goes on, gets a value, or goes on with its drop.
-use Rattle.std.proofs.Common.{◌≡◌, inl, refl, sym, ap, ap₂, ◌∙◌, ℕ, suc, List, [], ◌∷◌, Option, Some, None, slice_get, arith}
+use Rattle.std.proofs.Common.{◌≡◌, inl, refl, sym, ap, ap₂, ◌∙◌, ℕ, suc, List, ◌∷◌, Option, Some, None, arith}
 use Rattle.mir_syntax.specs.Tree.{Tree}
 use Rattle.mir_syntax.specs.Shapes.{Shape}
-use Rattle.mir_syntax.specs.Crate.{TypedBody}
 use Rattle.mir_semantics.specs.Values.{Addr, Value, blank}
 use Rattle.mir_semantics.specs.Memory.{Memory, local_at, value_at, write}
 use Rattle.mir_semantics.specs.Step.{Dest, Dropping, Control, State, Next, on, go_on, to_block, store, destroyed}

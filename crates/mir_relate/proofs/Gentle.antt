@@ -1,5 +1,5 @@
 -- A step of the source is gentle to the frames below, and results of calls go to fair places: invariants of the source alone.
-use Rattle.std.proofs.Common.{◌≡◌, ◌⊎◌, inl, inr, refl, sym, ap, ◌∙◌, subst, ℕ, ◌<◌, ◌≤◌, Bool, true, false, nat_eq, ◌&&◌, if◌then◌else◌, List, [], ◌∷◌, ◌++◌, Option, Some, None, slice_get, arith}
+use Rattle.std.proofs.Common.{◌≡◌, ◌⊎◌, inl, inr, refl, sym, ap, ◌∙◌, subst, ℕ, ◌≤◌, Bool, true, false, nat_eq, ◌&&◌, if◌then◌else◌, List, [], ◌∷◌, ◌++◌, Option, Some, None, slice_get, arith}
 use Rattle.mir_syntax.specs.declared.body.Place.{Place}
 use Rattle.mir_syntax.specs.declared.body.Operand.{Operand}
 use Rattle.mir_syntax.specs.declared.body.Operand.TheVariants as operand
@@ -13,12 +13,12 @@ use Rattle.mir_syntax.specs.Crate.{TypedRvalue, «use», binary, overflow, unary
 use Rattle.mir_syntax.specs.Crate as rvalue
 use Rattle.mir_num.specs.Numbers.{wrap, flag}
 use Rattle.mir_semantics.specs.Values.{Addr, Value, number, nil, variant, pointer, is_hole, whole, blank, full}
-use Rattle.mir_semantics.specs.Memory.{Memory, local_at, value_at, write, open_frame, close_frame}
-use Rattle.mir_semantics.specs.Step.{Code, Here, Dest, Visit, Dropping, Control, Called, State, returned, aborted, no_answer, Next, on, stop, fail, local_addr, resolve, type_of, has_deref, guard_of, dest_of, allows, store, read_at, read_all, read_number, is_variant, write_unless, exec, go_on, to_block, next_stmt, take_arm, new_slots, entered, enter, calling, answered, ask, call, return_to, visits_of, work_on, visit, visit_unless, visit_if, work_off, destroyed_at, destroyed, check, finish, perform, step}
+use Rattle.mir_semantics.specs.Memory.{Memory, value_at, write, open_frame, close_frame}
+use Rattle.mir_semantics.specs.Step.{Code, Here, Dest, Visit, Dropping, Control, Called, State, returned, aborted, no_answer, Next, on, stop, fail, local_addr, resolve, type_of, has_deref, guard_of, dest_of, allows, store, read_all, read_number, is_variant, write_unless, exec, go_on, to_block, next_stmt, take_arm, new_slots, entered, enter, calling, answered, ask, call, return_to, visits_of, work_on, visit, visit_unless, visit_if, work_off, destroyed_at, destroyed, check, finish, perform, step}
 use Rattle.mir_renaming.specs.Renaming.{Renaming}
 use Rattle.mir_renaming.proofs.Memory.{bind_some}
 use Rattle.mir_renaming.proofs.Statements.{only_true}
-use Rattle.mir_renaming.proofs.Types.{TypeMap, AddrTy, HasTy, MemTy, some_eq, write_ty, resolve_ty, eval_ty, dest_ty, read_at_ty, StmtTy, is_scalar}
+use Rattle.mir_renaming.proofs.Types.{TypeMap, AddrTy, HasTy, MemTy, write_ty, resolve_ty, eval_ty, dest_ty, read_at_ty, StmtTy, is_scalar}
 use Rattle.mir_renaming.proofs.Typed.{Typed, TermTy, CalleeTy, AskTy}
 use Rattle.mir_renaming.proofs.Frames.{open_other, close_other}
 use Rattle.mir_renaming.proofs.Walks.{walk_plain}
@@ -30,7 +30,6 @@ use Rattle.mir_relate.specs.Pass.{MoveOk, AllMoves, RvalueMoves, StmtMoves, Term
 use Rattle.mir_relate.proofs.Leaves.{some_val}
 use Rattle.mir_relate.proofs.Mild.{gentle_none, gentle_then, gentle_less, gentle_same, gentle_above, gentle_write}
 use Rattle.mir_relate.proofs.Wholes.{read_at_whole, eval_whole}
-use Rattle.mir_relate.proofs.Operands.{Clears}
 use Rattle.mir_relate.proofs.Alone.{Spends, AllSpend, RvalueSpends, all_alone, number_alone, eval_alone}
 use Rattle.mir_relate.proofs.Single.{set_blank_is}
 
@@ -271,10 +270,10 @@ module _ (X : Change) (V : Valids X) where
       unfolding call
       call_good m u d (callee.Local g) os vs t x (b, eg, rt, ho) ge f at e =
           enter_good m (to_block u s.top) g.0 vs (Some d) x ge fd (λ d' z b' t' eb' rt'. (
-            let same : d ≡ d' = some_val z in
-            let bodies : b' ≡ b = some_val (sym eb' ∙ eg) in
-            let types : t ≡ t' = some_val (sym rt ∙ ap (λ (b : TypedBody). slice_get b.locals 0) (sym bodies) ∙ rt') in
-            subst (λ t. FairDest E F t d') types (subst (FairDest E F t) same f))) e
+          let same : d ≡ d' = some_val z in
+          let bodies : b' ≡ b = some_val (sym eb' ∙ eg) in
+          let types : t ≡ t' = some_val (sym rt ∙ ap (λ (b : TypedBody). slice_get b.locals 0) (sym bodies) ∙ rt') in
+          subst (λ t. FairDest E F t d') types (subst (FairDest E F t) same f))) e
       call_good m u d (callee.Outside o) os vs t x (out, eo, rt, ho) ge f at e =
           let (out', e1, k1) = bind_some e in
           let (ns, e2, k2) = bind_some k1 in

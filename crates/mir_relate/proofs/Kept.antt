@@ -8,9 +8,9 @@ use Rattle.mir_syntax.specs.Tree.{Tree}
 use Rattle.mir_syntax.specs.Crate.{TypedRvalue, «use», binary, overflow, unary, cast, discriminant, tuple, build, TypedStmt, assign, storage_live, storage_dead, set_discriminant}
 use Rattle.mir_syntax.specs.Crate as rvalue
 use Rattle.mir_syntax.specs.Shapes.{Shape, variant_ty, needs_drop}
-use Rattle.mir_semantics.specs.Values.{Addr, Value, variant, whole, blank, full}
+use Rattle.mir_semantics.specs.Values.{Addr, Value, variant, blank, full}
 use Rattle.mir_semantics.specs.Memory.{Memory, value_at, write, walk}
-use Rattle.mir_semantics.specs.Step.{Dest, local_addr, resolve, type_of, has_deref, guard_of, dest_of, allows, store, const_value, read_at, read, set_blank, is_variant, write_unless, exec}
+use Rattle.mir_semantics.specs.Step.{Dest, local_addr, resolve, type_of, has_deref, guard_of, dest_of, allows, store, const_value, read, set_blank, is_variant, write_unless, exec}
 use Rattle.mir_renaming.specs.Renaming.{Renaming, AddrRel, ValueRel, Sub, MemRel, AddrThere}
 use Rattle.mir_renaming.proofs.Memory.{bind_some, some_bind, value_at_rel}
 use Rattle.mir_renaming.proofs.Statements as text

@@ -1,18 +1,16 @@
 -- A step of a function that is left alone.
-use Rattle.std.proofs.Common.{◌≡◌, ◌⊎◌, inl, refl, sym, ap, ap₂, ◌∙◌, subst, ℕ, suc, ◌≤◌, Bool, true, false, nat_eq, List, [], ◌∷◌, ◌++◌, length, Option, Some, None, slice_get, arith}
+use Rattle.std.proofs.Common.{◌≡◌, ◌⊎◌, inl, refl, sym, ap, ap₂, ◌∙◌, subst, ℕ, suc, ◌≤◌, Bool, true, false, nat_eq, List, [], ◌∷◌, length, Option, Some, None, slice_get, arith}
 use Rattle.mir_syntax.specs.declared.body.Place.{Place}
 use Rattle.mir_syntax.specs.declared.body.Operand.{Operand}
-use Rattle.mir_syntax.specs.declared.body.Operand.TheVariants as operand
 use Rattle.mir_syntax.specs.declared.body.Callee.{Callee}
 use Rattle.mir_syntax.specs.declared.body.Callee.TheVariants as callee
 use Rattle.mir_syntax.specs.declared.body.Term.{Term}
 use Rattle.mir_syntax.specs.declared.body.Term.TheVariants.{Goto, Switch, Return, Unreachable, Drop, Call, Assert}
 use Rattle.mir_syntax.specs.Tree.{Tree, scalar}
-use Rattle.mir_syntax.specs.Shapes.{Shape, needs_drop, destructor_of}
-use Rattle.mir_syntax.specs.Crate.{TypedRvalue, «use», binary, overflow, unary, cast, discriminant, tuple, build, TypedStmt, assign, storage_live, storage_dead, set_discriminant, TypedBody}
-use Rattle.mir_syntax.specs.Crate as rvalue
+use Rattle.mir_syntax.specs.Shapes.{Shape}
+use Rattle.mir_syntax.specs.Crate.{TypedStmt, TypedBody}
 use Rattle.mir_num.specs.Numbers.{wrap, flag}
-use Rattle.mir_semantics.specs.Values.{Addr, Value, number, nil, pointer, is_hole, whole, blank}
+use Rattle.mir_semantics.specs.Values.{Value, number, nil, blank}
 use Rattle.mir_semantics.specs.Memory.{Memory, local_at}
 use Rattle.mir_semantics.specs.Step.{Here, Dest, Visit, Dropping, Control, Called, State, aborted, no_answer, Next, on, stop, fail, local_addr, read_at, read_all, numbers_in, go_on, to_block, next_stmt, take_arm, calling, answered, ask, call, visits_of, visit, visit_unless, visit_if, work_off, begun, check, finish, perform, step}
 use Rattle.mir_renaming.specs.Renaming.{Renaming, AddrRel, ValueRel}

@@ -5,7 +5,7 @@ use Rattle.mir_syntax.specs.Shapes.{Shape}
 use Rattle.mir_syntax.specs.Crate.{TypedBody}
 use Rattle.mir_semantics.specs.Values.{Value}
 use Rattle.mir_semantics.specs.Memory.{Memory, local_at, close_frame}
-use Rattle.mir_semantics.specs.Step.{Dest, Visit, Control, State, returned, Next, stop, return_to}
+use Rattle.mir_semantics.specs.Step.{Dest, Control, State, returned, Next, stop, return_to}
 use Rattle.mir_renaming.specs.Renaming.{Renaming}
 use Rattle.mir_renaming.proofs.Memory.{bind_some, some_bind}
 use Rattle.mir_renaming.proofs.Statements.{Linked}

@@ -1,5 +1,5 @@
 -- Where a type needs drop, the target has a hole exactly where the source has one.
-use Rattle.std.proofs.Common.{◌≡◌, ◌⊎◌, inl, inr, refl, sym, ap, ap₂, ◌∙◌, subst, ℕ, zero, suc, Bool, true, false, nat_eq, ◌&&◌, if◌then◌else◌, List, [], ◌∷◌, Some, None, option_map, arith}
+use Rattle.std.proofs.Common.{◌≡◌, ◌⊎◌, inl, inr, refl, sym, ap, ap₂, ◌∙◌, subst, ℕ, zero, suc, Bool, true, false, nat_eq, if◌then◌else◌, List, [], ◌∷◌, Some, None, option_map, arith}
 use Rattle.std.proofs.lemmas.Bool.{eqb-true}
 use Rattle.mir_syntax.specs.declared.body.Proj.{Proj}
 use Rattle.mir_syntax.specs.declared.body.Proj.TheVariants.{Field, Downcast, Deref}
@@ -11,7 +11,6 @@ use Rattle.mir_semantics.specs.Memory.{Memory, local_at, value_at, write}
 use Rattle.mir_renaming.specs.Renaming.{Renaming, ValueRel, MemRel, RootOf}
 use Rattle.mir_renaming.proofs.Memory.{and_both, bind_some, root_or_not, write_same, write_other, write_back, write_again}
 use Rattle.mir_renaming.proofs.Types.{TypeMap, AddrTy, some_eq}
-use Rattle.mir_semantics.specs.Step.{on}
 
 some_same : {a b : Value} → Some a ≡ Some b → a ≡ b
 some_same e = grind arith

@@ -6,10 +6,10 @@ use Rattle.mir_syntax.specs.Tree.{Tree, scalar, empty, more, named}
 use Rattle.mir_syntax.specs.Tree as tree
 use Rattle.mir_syntax.specs.Shapes.{Shape, struct_fields, fields_of_struct, fields_of, field_ty, variant_ty, pointee, proj_ty, path_ty, destructor_of}
 use Rattle.mir_semantics.specs.Values.{Addr, Value, number, nil, cons, variant, pointer, hole, part, inner, at_path}
-use Rattle.mir_semantics.specs.Memory.{Memory, local_at, value_at, further, there, referent, project, walk}
+use Rattle.mir_semantics.specs.Memory.{Memory, local_at, value_at, further, there, project, walk}
 use Rattle.mir_semantics.specs.Step.{has_deref}
-use Rattle.mir_renaming.specs.Renaming.{Renaming, AddrRel, ValueRel, Sub, MemRel, AddrThere}
-use Rattle.mir_renaming.proofs.Memory.{bind_some, some_bind, there_rel, referent_rel, sub_addr, value_at_rel, further_rel, walk_rel}
+use Rattle.mir_renaming.specs.Renaming.{Renaming, AddrRel, Sub, MemRel, AddrThere}
+use Rattle.mir_renaming.proofs.Memory.{bind_some, some_bind, there_rel, referent_rel, value_at_rel, further_rel, walk_rel}
 use Rattle.mir_renaming.proofs.Types.{TypeMap, HasTy, is_scalar, can_hole, holds_by, some_eq, more_eq, as_rows, at_path_ty}
 use Rattle.mir_renaming.specs.Places.{solid, is_nil}
 use Rattle.mir_renaming.proofs.Stores.{root_of}
