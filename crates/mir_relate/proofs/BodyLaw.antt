@@ -22,10 +22,11 @@ use Rattle.mir_renaming.proofs.Tight.{Tights, slots_tight, tight_in, tights_self
 use Rattle.mir_renaming.proofs.Items.{step_drops}
 use Rattle.mir_relate.specs.Alike.{AllSame}
 use Rattle.mir_relate.specs.Frames.{Change, target, Pass, lowest, opened, Agrees, Twin, Below, Base, Core}
-use Rattle.mir_relate.specs.Pass.{Valids, Laws, Goes, Answers, Related}
+use Rattle.mir_relate.specs.Pass.{Valids, GentleTo, Laws, Goes, Answers, Related}
 use Rattle.mir_relate.proofs.Leaves.{some_val}
 use Rattle.mir_relate.proofs.Opens.{opened_at, opened_parts, opened_old, linked_open}
 use Rattle.mir_relate.proofs.Others.{other_step}
+use Rattle.mir_relate.proofs.Gentle.{step_gentle, step_fair}
 
 pub goes_answer : (X : Change) (P : Pass) (n : ℕ) (s2 : State) (x : Next) → Goes X P (step (target X) s2) x → Answers X P n s2 x
 goes_answer X P n s2 (stop o) h = (0, s2, refl, h, refl)
@@ -55,7 +56,7 @@ module _ (X : Change) (P : Pass) (V : Valids X) (Inv : State → Type 0) (laws :
   answers_owe n s2 s1 (stop o) r e h = h
   answers_owe n s2 s1 (fail t) r e h = tt
   answers_owe n s2 s1 (on s1') r e (k, n', s, m, c, less) =
-      (k, n', s, m, record { core = c; typed1 = step_typed X.source V.valid1 s1 (on s1') r.typed1 e; typed2 = typed_moves k s2 s r.typed2 m; drops = step_drops X.source V.plain s1 s1' r.drops e; inv = laws.inv_kept s1 s1' r.inv e }, less)
+      (k, n', s, m, record { core = c; typed1 = step_typed X.source V.valid1 s1 (on s1') r.typed1 e; typed2 = typed_moves k s2 s r.typed2 m; drops = step_drops X.source V.plain s1 s1' r.drops e; dests = step_fair X V s1 r.typed1 r.drops r.dests s1' e; inv = laws.inv_kept s1 s1' r.inv e }, less)
 
   pub simulation : Simulation (target X) X.source Rel
   simulation = record { same_trace = λ n s2 s1 r. r.core.base.trace; follows = λ n s2 s1 r. go n s2 s1 r (step X.source s1) refl }
@@ -66,9 +67,12 @@ module _ (X : Change) (P : Pass) (V : Valids X) (Inv : State → Type 0) (laws :
           fl : Flat x
           fl = laws.flat s1 x r.inv e
 
+          ge : GentleTo X r.typed1.types s1.top.frame s1.memory x
+          ge = step_gentle X V s1 r.typed1 r.drops r.dests x e
+
           pick : (Twin X r.core.lent s2.top s1.top × Agrees X s2.top s1.top s2.memory s1.memory × Below X P r.core.lent s2.top.dest s1.top.dest s2.top.frame s1.top.frame s2.callers s1.callers s2.memory s1.memory) ⊎ ((gs ds : List Control) × (s1.callers ≡ gs ++ ds) × ((lowest s1.top gs).frame ≤ s1.top.frame) × P.own n r.core.lent s2.top s1.top gs s2.memory s1.memory × Below X P r.core.lent s2.top.dest (lowest s1.top gs).dest s2.top.frame (lowest s1.top gs).frame s2.callers ds s2.memory s1.memory) → Answers X P n s2 x
-          pick (inl (al, ag, be)) = goes_answer X P n s2 x (other_step X P V Inv laws.frames n s2 s1 r al ag be x e fl)
-          pick (inr (gs, ds, q, lo, own, be)) = laws.steps n s2 s1 r gs ds x q lo own be e fl
+          pick (inl (al, ag, be)) = goes_answer X P n s2 x (other_step X P V Inv laws.frames n s2 s1 r al ag be x e fl ge)
+          pick (inr (gs, ds, q, lo, own, be)) = laws.steps n s2 s1 r gs ds x q lo own be e fl ge
 
       go : (n : ℕ) (s2 s1 : State) → Rel n s2 s1 → (o : Option Next) → step X.source s1 ≡ o → Owes (target X) Rel n s2 o
       go n s2 s1 r None e = tt
@@ -172,4 +176,4 @@ module _ (X : Change) (P : Pass) (V : Valids X) (Inv : State → Type 0) (laws :
       first : (e : Entry) → IsEntry X.source e → (answers : List ℕ) → (n : ℕ) × Rel n (start (target X) e answers) (start X.source e answers)
       first e k answers =
           let (n, c) = start_core e k.body answers k.there (plain e k) (few e k) in
-          (n, record { core = c; typed1 = ty1 e k answers; typed2 = ty2 e k answers; drops = record { top = λ d q. absurd (grind arith); callers = tt }; inv = inv e k answers })
+          (n, record { core = c; typed1 = ty1 e k answers; typed2 = ty2 e k answers; drops = record { top = λ d q. absurd (grind arith); callers = tt }; dests = tt; inv = inv e k answers })

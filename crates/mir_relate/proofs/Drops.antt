@@ -13,9 +13,11 @@ use Rattle.mir_renaming.proofs.Stores.{pair_parts}
 use Rattle.mir_renaming.proofs.Items.{OwnDrop, FirstNeeds}
 use Rattle.mir_relate.specs.Alike.{GotMemory, Same}
 use Rattle.mir_relate.specs.Leaves.{Leaves}
+use Rattle.mir_relate.specs.Mild.{Gentle}
 use Rattle.mir_relate.specs.Frames.{Change, Pass, DropsRel, Visiting, Agrees, AgreesBy, Twin, Below, Base, Core}
 use Rattle.mir_relate.specs.Pass.{KnowsAll, Valids, FrameLaws, Goes}
 use Rattle.mir_relate.proofs.Leaves.{leaves_none, leaves_less}
+use Rattle.mir_relate.proofs.Mild.{gentle_none, gentle_above}
 use Rattle.mir_relate.proofs.Stacks.{agrees_kept, below_kept}
 use Rattle.mir_relate.proofs.Enter.{goes_by}
 use Rattle.mir_relate.proofs.Near.{store_leaves}
@@ -46,14 +48,14 @@ module _ (X : Change) (P : Pass) (V : Valids X) (Inv : State → Type 0) (laws :
   pub agrees_left : (m2 m1 : Memory) → Left m2 m1 → Agrees X c2 c1 m2 m1
   agrees_left m2 m1 h = agrees_kept X G j j (suc c2.frame) (suc c1.frame) m2 m1 s2.memory s1.memory c2 c1 (omega arith) ks.0 h.1 al ag
 
-  pub below_left : (m2 m1 : Memory) → Left m2 m1 → Below X P j c2.dest c1.dest c2.frame c1.frame s2.callers s1.callers m2 m1
-  below_left m2 m1 h = below_kept X P laws.kept G j j c2.dest c1.dest c2.frame c1.frame s2.callers s1.callers m2 m1 s2.memory s1.memory ks.1 (leaves_less D G j j (suc c2.frame) (suc c1.frame) c2.frame c1.frame m2 m1 s2.memory s1.memory (omega arith) (omega arith) h.1) be
+  pub below_left : (m2 m1 : Memory) → Left m2 m1 → Gentle D G c1.frame m1 s1.memory → Below X P j c2.dest c1.dest c2.frame c1.frame s2.callers s1.callers m2 m1
+  below_left m2 m1 h ge = below_kept X P laws.kept G j j c2.dest c1.dest c2.frame c1.frame s2.callers s1.callers m2 m1 s2.memory s1.memory ks.1 (leaves_less D G j j (suc c2.frame) (suc c1.frame) c2.frame c1.frame m2 m1 s2.memory s1.memory (omega arith) (omega arith) h.1) ge be
 
-  pub core_on : (m2 m1 : Memory) (i a : ℕ) (o2 o1 : Option Dropping) → Left m2 m1 → DropsRel j o1 o2 → Core X P 0 (record s2 { memory = m2; top = at2 i a o2 }) (record s1 { memory = m1; top = at1 i a o1 })
-  core_on m2 m1 i a o2 o1 h dr = record { lent = j; base = record { fresh1 = b.fresh1; fresh2 = b.fresh2; top1 = b.top1; top2 = b.top2; answers = b.answers; trace = b.trace }; linked = h.0; runs = inl (twin_at i a o2 o1 dr, agrees_left m2 m1 h, below_left m2 m1 h) }
+  pub core_on : (m2 m1 : Memory) (i a : ℕ) (o2 o1 : Option Dropping) → Left m2 m1 → Gentle D G c1.frame m1 s1.memory → DropsRel j o1 o2 → Core X P 0 (record s2 { memory = m2; top = at2 i a o2 }) (record s1 { memory = m1; top = at1 i a o1 })
+  core_on m2 m1 i a o2 o1 h ge dr = record { lent = j; base = record { fresh1 = b.fresh1; fresh2 = b.fresh2; top1 = b.top1; top2 = b.top2; answers = b.answers; trace = b.trace }; linked = h.0; runs = inl (twin_at i a o2 o1 dr, agrees_left m2 m1 h, below_left m2 m1 h ge) }
 
-  pub goes_on : (m2 m1 : Memory) (i a : ℕ) (o2 o1 : Option Dropping) → Left m2 m1 → DropsRel j o1 o2 → Goes X P (go_on s2 m2 (at2 i a o2)) (on (record s1 { memory = m1; top = at1 i a o1 }))
-  goes_on m2 m1 i a o2 o1 h dr = (0, _, refl, core_on m2 m1 i a o2 o1 h dr)
+  pub goes_on : (m2 m1 : Memory) (i a : ℕ) (o2 o1 : Option Dropping) → Left m2 m1 → Gentle D G c1.frame m1 s1.memory → DropsRel j o1 o2 → Goes X P (go_on s2 m2 (at2 i a o2)) (on (record s1 { memory = m1; top = at1 i a o1 }))
+  goes_on m2 m1 i a o2 o1 h ge dr = (0, _, refl, core_on m2 m1 i a o2 o1 h ge dr)
 
   -- ---- a drop of it
 
@@ -64,10 +66,10 @@ module _ (X : Change) (P : Pass) (V : Valids X) (Inv : State → Type 0) (laws :
       ag bo x t v w eb ex e1 (ap₂ (local_at s2.memory) (sym f2) (sym x2) ∙ e2)
 
   pub dropping_goes : (d e : Dropping) → Visiting j d e → d.target ≡ e.target → Goes X P (go_on s2 s2.memory (record c2 { dropping = Some e })) (on (record s1 { top = record c1 { dropping = Some d } }))
-  dropping_goes d e vs tg = goes_by X P _ _ (on (record s1 { top = record c1 { dropping = Some d } })) (ap₂ (λ i a. go_on s2 s2.memory (at2 i a (Some e))) al.block al.at) (goes_on s2.memory s1.memory c1.block c1.at (Some e) (Some d) left_same (record { place = vs.place; target = tg; items = vs.items }))
+  dropping_goes d e vs tg = goes_by X P _ _ (on (record s1 { top = record c1 { dropping = Some d } })) (ap₂ (λ i a. go_on s2 s2.memory (at2 i a (Some e))) al.block al.at) (goes_on s2.memory s1.memory c1.block c1.at (Some e) (Some d) left_same (gentle_none D G c1.frame s1.memory) (record { place = vs.place; target = tg; items = vs.items }))
 
-  pub dropped_goes : (u1 u2 : ℕ) → u1 ≡ u2 → (a b : Addr) (t : Tree) (old : Value) → AddrRel j a b → AddrTy D G a t → value_at s1.memory a ≡ Some old → Goes X P (go_on s2 (write s2.memory b (blank D t)) (to_block u2 c2)) (on (record s1 { memory = write s1.memory a (blank D t); top = to_block u1 c1 }))
-  dropped_goes u1 u2 tg a b t old ab at e = goes_by X P _ _ (on (record s1 { memory = write s1.memory a (blank D t); top = to_block u1 c1 })) (ap (λ u. go_on s2 (write s2.memory b (blank D t)) (to_block u c2)) (sym tg)) (goes_on (write s2.memory b (blank D t)) (write s1.memory a (blank D t)) u1 0 None None (blank_left D G j s2.memory s1.memory (suc c2.frame) (suc c1.frame) a b t old l ab at e) tt)
+  pub dropped_goes : (u1 u2 : ℕ) → u1 ≡ u2 → (a b : Addr) (t : Tree) (old : Value) → AddrRel j a b → AddrTy D G a t → value_at s1.memory a ≡ Some old → a.frame ≡ c1.frame → Goes X P (go_on s2 (write s2.memory b (blank D t)) (to_block u2 c2)) (on (record s1 { memory = write s1.memory a (blank D t); top = to_block u1 c1 }))
+  dropped_goes u1 u2 tg a b t old ab at e pl = goes_by X P _ _ (on (record s1 { memory = write s1.memory a (blank D t); top = to_block u1 c1 })) (ap (λ u. go_on s2 (write s2.memory b (blank D t)) (to_block u c2)) (sym tg)) (goes_on (write s2.memory b (blank D t)) (write s1.memory a (blank D t)) u1 0 None None (blank_left D G j s2.memory s1.memory (suc c2.frame) (suc c1.frame) a b t old l ab at e) (gentle_above D G c1.frame s1.memory a (blank D t) (omega (arith, pl))) tt)
 
   -- a destructor has returned to the frame
   pub destroyed_goes : (x : Next) → ((d : Dropping) → c1.dropping ≡ Some d → OwnDrop X.source c1 d × FirstNeeds X.source d.items × AddrTy D G d.place.addr d.place.ty × VisitsTy X.source V.valid1 G d.items) → destroyed D s1 c1 ≡ Some x → Goes X P (destroyed D s2 c2) x
@@ -85,5 +87,5 @@ module _ (X : Change) (P : Pass) (V : Valids X) (Inv : State → Type 0) (laws :
   left_store m2 m1 m1' d c t v w h r at hv e = let (m2', g, l', lv) = store_leaves D G j (suc c2.frame) (suc c1.frame) s2.memory s1.memory m2 m1 m1' d c t v w h.0 h.1 r at hv e in (m2', g, (l', lv))
 
   -- the frame is left where it stands
-  pub goes_here : (m2 m1 : Memory) → Left m2 m1 → Goes X P (go_on s2 m2 c2) (on (record s1 { memory = m1; top = c1 }))
-  goes_here m2 m1 h = goes_by X P _ _ (on (record s1 { memory = m1; top = c1 })) (ap₂ (λ i a. go_on s2 m2 (at2 i a c2.dropping)) al.block al.at) (goes_on m2 m1 c1.block c1.at c2.dropping c1.dropping h al.drops)
+  pub goes_here : (m2 m1 : Memory) → Left m2 m1 → Gentle D G c1.frame m1 s1.memory → Goes X P (go_on s2 m2 c2) (on (record s1 { memory = m1; top = c1 }))
+  goes_here m2 m1 h ge = goes_by X P _ _ (on (record s1 { memory = m1; top = c1 })) (ap₂ (λ i a. go_on s2 m2 (at2 i a c2.dropping)) al.block al.at) (goes_on m2 m1 c1.block c1.at c2.dropping c1.dropping h ge al.drops)

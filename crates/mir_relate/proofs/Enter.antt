@@ -10,17 +10,19 @@ use Rattle.mir_syntax.proofs.Binds.{bind_some, some_bind}
 use Rattle.mir_renaming.proofs.Memory.{same_or_not}
 use Rattle.mir_renaming.proofs.Statements.{Linked, ValuesRel}
 use Rattle.mir_renaming.proofs.Types.{TypeMap}
-use Rattle.mir_renaming.proofs.Frames.{open_same, new_control}
+use Rattle.mir_renaming.proofs.Frames.{open_same, open_other, new_control}
 use Rattle.mir_renaming.proofs.Ghosts.{value_mono}
 use Rattle.mir_renaming.proofs.Slots.{slots_rel, value_in}
 use Rattle.mir_renaming.proofs.Agree.{tight_agree}
 use Rattle.mir_renaming.proofs.Tight.{slots_tight, tight_in}
 use Rattle.mir_relate.specs.Alike.{AllSame}
+use Rattle.mir_relate.specs.Mild.{Gentle}
 use Rattle.mir_relate.specs.Frames.{Change, target, Pass, opened, Agrees, Below, Base}
-use Rattle.mir_relate.specs.Pass.{KnowsAll, Valids, FrameLaws, Goes}
+use Rattle.mir_relate.specs.Pass.{KnowsAll, Valids, GentleTo, FrameLaws, Goes}
 use Rattle.mir_relate.proofs.Leaves.{some_val}
 use Rattle.mir_relate.proofs.Opens.{opened_at, opened_parts, opened_old, opened_up, leaves_open, linked_open}
 use Rattle.mir_relate.proofs.Stacks.{below_kept}
+use Rattle.mir_relate.proofs.Mild.{gentle_same, gentle_to}
 
 pub goes_at : (X : Change) (P : Pass) (o : Option Next) (x y : Next) → Some y ≡ Some x → Goes X P o y → Goes X P o x
 goes_at X P o x y e h = subst (λ z. Goes X P o z) (some_val e) h
@@ -58,7 +60,7 @@ module _ (X : Change) (P : Pass) (V : Valids X) (Inv : State → Type 0) (laws :
     fresh x = b.fresh1 s1.next x (omega arith)
 
     below_open : (place : ℕ → Option ℕ) (us ts : List Value) → Below X P (opened j s2.next s1.next place) d2 d1 s2.next s1.next (c2 ∷ s2.callers) (c1 ∷ s1.callers) (open_frame m2 s2.next us) (open_frame m1 s1.next ts)
-    below_open place us ts = below_kept X P laws.kept G j (opened j s2.next s1.next place) d2 d1 s2.next s1.next (c2 ∷ s2.callers) (c1 ∷ s1.callers) (open_frame m2 s2.next us) (open_frame m1 s1.next ts) m2 m1 ks (leaves_open j s2.next s1.next place fresh b.fresh2 D G m2 m1 us ts s2.next s1.next (omega arith) (omega arith)) below
+    below_open place us ts = below_kept X P laws.kept G j (opened j s2.next s1.next place) d2 d1 s2.next s1.next (c2 ∷ s2.callers) (c1 ∷ s1.callers) (open_frame m2 s2.next us) (open_frame m1 s1.next ts) m2 m1 ks (leaves_open j s2.next s1.next place fresh b.fresh2 D G m2 m1 us ts s2.next s1.next (omega arith) (omega arith)) (gentle_same D G s1.next (open_frame m1 s1.next ts) m1 (λ h x t l ty. open_other m1 s1.next ts h x (λ p. absurd (omega (arith, p, l))))) below
 
     -- of a function that is left alone
     other_frame : (g : ℕ) (bo : TypedBody) → (g ≡ X.f → ⊥) → slice_get X.source.bodies g ≡ Some bo → Goes X P (entered D s2 m2 c2 g ws d2 bo) (on (record s1 { memory = open_frame m1 s1.next (new_slots D bo.locals vs); top = new_control g s1.next d1; callers = c1 ∷ s1.callers; next = suc s1.next }))
@@ -140,3 +142,11 @@ module _ (X : Change) (P : Pass) (V : Valids X) (Inv : State → Type 0) (laws :
         go (inr p) =
             let (b1, e1, k1) = bind_some e in
             goes_by X P _ _ x (some_bind (entered D s2 m2 c2 g ws d2) (X.others g p.1 ∙ e1) refl) (goes_at X P _ x _ k1 (other_frame g b1 p.1 e1))
+
+-- what a call leads to tells that what came before was gentle
+pub enter_gentle : (X : Change) (G : TypeMap) (k : ℕ) (m : Memory) (s1 : State) (m1 : Memory) (c1 : Control) (g : ℕ) (vs : List Value) (d1 : Option Dest) (x : Next) → k < s1.next → enter X.source s1 m1 c1 g vs d1 ≡ Some x → GentleTo X G k m x → Gentle X.source.shapes G k m1 m
+unfolding enter entered
+enter_gentle X G k m s1 m1 c1 g vs d1 x lt e ge =
+    let (b, e1, k1) = bind_some e in
+    let ts : List Value = new_slots X.source.shapes b.locals vs in
+    gentle_to X.source.shapes G k m1 (open_frame m1 s1.next ts) m (λ h y t l ty. sym (open_other m1 s1.next ts h y (λ p. absurd (omega (arith, p, l, lt))))) (subst (GentleTo X G k m) (sym (some_val k1)) ge k (omega arith) (omega (arith, lt)))

@@ -27,7 +27,7 @@ use Rattle.mir_renaming.proofs.Items.{step_parts, DropPlain, Own, Owns, Drops, b
 use Rattle.mir_relate.specs.Alike.{Between, Sides}
 use Rattle.mir_relate.specs.Mild.{Gentle, FairDest, FairDests}
 use Rattle.mir_relate.specs.Frames.{Change}
-use Rattle.mir_relate.specs.Pass.{MoveOk, AllMoves, RvalueMoves, StmtMoves, TermMoves, Valids}
+use Rattle.mir_relate.specs.Pass.{MoveOk, AllMoves, RvalueMoves, StmtMoves, TermMoves, Valids, GentleTo}
 use Rattle.mir_relate.proofs.Leaves.{some_val}
 use Rattle.mir_relate.proofs.Mild.{gentle_none, gentle_then, gentle_less, gentle_same, gentle_above, gentle_write}
 use Rattle.mir_relate.proofs.Wholes.{read_at_whole, eval_whole}
@@ -271,10 +271,10 @@ module _ (X : Change) (V : Valids X) where
       unfolding call
       call_good m u d (callee.Local g) os vs t x (b, eg, rt, ho) ge f at e =
           enter_good m (to_block u s.top) g.0 vs (Some d) x ge fd (λ d' z b' t' eb' rt'. (
-            let same : d ≡ d' = some_val z in
-            let bodies : b' ≡ b = some_val (sym eb' ∙ eg) in
-            let types : t ≡ t' = some_val (sym rt ∙ ap (λ (b : TypedBody). slice_get b.locals 0) (sym bodies) ∙ rt') in
-            subst (λ t. FairDest E F t d') types (subst (FairDest E F t) same f))) e
+          let same : d ≡ d' = some_val z in
+          let bodies : b' ≡ b = some_val (sym eb' ∙ eg) in
+          let types : t ≡ t' = some_val (sym rt ∙ ap (λ (b : TypedBody). slice_get b.locals 0) (sym bodies) ∙ rt') in
+          subst (λ t. FairDest E F t d') types (subst (FairDest E F t) same f))) e
       call_good m u d (callee.Outside o) os vs t x (out, eo, rt, ho) ge f at e =
           let (out', e1, k1) = bind_some e in
           let (ns, e2, k2) = bind_some k1 in
@@ -320,8 +320,10 @@ module _ (X : Change) (V : Valids X) where
         (λ st es. (V.stmts F s.top.function bo s.top.block k s.top.at st eb ek es, V.valid1.stmts G F s.top.function bo s.top.block k s.top.at st eb ek es (lokF bo eb))) q
 
     -- a step is gentle to the frames below the running one and below the one that runs next
-    pub step_gentle : (s' : State) → step C s ≡ Some (on s') → (n : ℕ) → n ≤ F → n ≤ s'.top.frame → Gentle E G n s'.memory s.memory
-    step_gentle s' e = (step_good (on s') e).0
+    pub step_gentle : (x : Next) → step C s ≡ Some x → GentleTo X G F s.memory x
+    step_gentle (on s') e = (step_good (on s') e).0
+    step_gentle (stop o) e = tt
+    step_gentle (fail t) e = tt
 
     -- and destinations stay fair
     pub step_fair : (s' : State) → step C s ≡ Some (on s') → FairDests C s'.top.function s'.top.dest s'.callers

@@ -12,7 +12,7 @@ use Rattle.mir_syntax.specs.Crate.{TypedStmt, TypedBody}
 use Rattle.mir_num.specs.Numbers.{wrap, flag}
 use Rattle.mir_semantics.specs.Values.{Value, number, nil, blank}
 use Rattle.mir_semantics.specs.Memory.{Memory, local_at}
-use Rattle.mir_semantics.specs.Step.{Here, Dest, Dropping, Control, Called, State, aborted, no_answer, Next, on, stop, fail, local_addr, read_all, numbers_in, go_on, to_block, take_arm, calling, answered, ask, call, work_off, begun, check, finish, perform, step}
+use Rattle.mir_semantics.specs.Step.{Here, Dest, Dropping, Control, Called, State, aborted, no_answer, Next, on, stop, fail, local_addr, read_all, numbers_in, go_on, to_block, take_arm, calling, answered, ask, call, work_off, begun, check, finish, perform, step, next_stmt}
 use Rattle.mir_renaming.specs.Renaming.{Renaming, AddrRel}
 use Rattle.mir_syntax.proofs.Binds.{bind_some, some_bind}
 use Rattle.mir_renaming.proofs.Statements as text
@@ -22,21 +22,24 @@ use Rattle.mir_renaming.proofs.Typed.{MaybeDrop, VisitsTy, TermTy}
 use Rattle.mir_renaming.proofs.Ghosts.{Flat}
 use Rattle.mir_renaming.proofs.Agree.{whole_tight}
 use Rattle.mir_renaming.proofs.Among.{all_operand, all_operands}
-use Rattle.mir_relate.specs.Pass.{MoveOk, KnowsAll, Valids, FewArgs, FewTerm, AllMoves, StmtMoves, TermMoves, FrameLaws, Goes, Related}
+use Rattle.mir_relate.specs.Pass.{MoveOk, KnowsAll, Valids, FewArgs, FewTerm, AllMoves, StmtMoves, TermMoves, FrameLaws, Goes, Related, GentleTo}
 use Rattle.mir_renaming.proofs.Items.{OwnDrop, begun_own, DropPlain, step_parts}
 use Rattle.mir_relate.specs.Alike.{Between, GotMemory, Sides, AllSame, Reads, AllRead}
 use Rattle.mir_relate.specs.Frames.{Change, target, Pass, VisitRel, DropRel, DropsRel, DestsRel, Agrees, Twin, Below}
 use Rattle.mir_relate.proofs.Alike.{number_read, all_read, integers_read}
 use Rattle.mir_relate.proofs.Kept as kept
+use Rattle.mir_relate.specs.Mild.{Gentle}
+use Rattle.mir_relate.proofs.Mild.{gentle_none, gentle_on}
 use Rattle.mir_relate.proofs.Near as near
 use Rattle.mir_relate.proofs.Itself as itself
 use Rattle.mir_relate.proofs.Visits as visits
 use Rattle.mir_relate.proofs.Leaves.{some_val}
 use Rattle.mir_relate.proofs.Stacks.{knows_all}
-use Rattle.mir_relate.proofs.Enter.{goes_at, goes_by, enter_goes}
+use Rattle.mir_relate.proofs.Enter.{goes_at, goes_by, enter_goes, enter_gentle}
 use Rattle.mir_relate.proofs.Returns.{closed2, closed1, return_goes}
 use Rattle.mir_relate.proofs.Drops as drops
 use Rattle.mir_relate.proofs.Drops.{left_same, left_store, agrees_left, below_left, twin_at, core_on, goes_on, agrees_all, dropping_goes, dropped_goes}
+pub use Rattle.mir_relate.proofs.Wholes.{read_at_whole}
 pub use Rattle.mir_relate.proofs.Wholes.{read_at_whole}
 
 pub read_long : (h : Here) (os : List Operand) (m : Memory) (r : List Value × Memory) → read_all h m os ≡ Some r → length r.0 ≡ length os
@@ -80,12 +83,12 @@ module _ (X : Change) (P : Pass) (V : Valids X) (Inv : State → Type 0) (laws :
   start : Left s2.memory s1.memory
   start = left_same X P V Inv laws G j s2 s1 s2.top s1.top r.core.base r.core.linked al ag be ks
 
-  to_goes : (m2 m1 : Memory) (u : ℕ) → Left m2 m1 → Goes X P (go_on s2 m2 (to_block u s2.top)) (on (record s1 { memory = m1; top = to_block u s1.top }))
-  to_goes m2 m1 u h = goes_on X P V Inv laws G j s2 s1 s2.top s1.top r.core.base r.core.linked al ag be ks m2 m1 u 0 None None h tt
+  to_goes : (m2 m1 : Memory) (u : ℕ) → Left m2 m1 → Gentle D G s1.top.frame m1 s1.memory → Goes X P (go_on s2 m2 (to_block u s2.top)) (on (record s1 { memory = m1; top = to_block u s1.top }))
+  to_goes m2 m1 u h ge = goes_on X P V Inv laws G j s2 s1 s2.top s1.top r.core.base r.core.linked al ag be ks m2 m1 u 0 None None h ge tt
 
   -- this frame waits for another one
-  below_this : (m2 m1 : Memory) (c2 c1 : Control) (d2 d1 : Option Dest) → c2.frame ≡ s2.top.frame → c1.frame ≡ s1.top.frame → c2.dest ≡ s2.top.dest → c1.dest ≡ s1.top.dest → Twin X j c2 c1 → Agrees X c2 c1 m2 m1 → DestsRel j d1 d2 → Left m2 m1 → Below X P j d2 d1 s2.next s1.next (c2 ∷ s2.callers) (c1 ∷ s1.callers) m2 m1
-  below_this m2 m1 c2 c1 d2 d1 f2 f1 e2 e1 a g dr h =
+  below_this : (m2 m1 : Memory) (c2 c1 : Control) (d2 d1 : Option Dest) → c2.frame ≡ s2.top.frame → c1.frame ≡ s1.top.frame → c2.dest ≡ s2.top.dest → c1.dest ≡ s1.top.dest → Twin X j c2 c1 → Agrees X c2 c1 m2 m1 → DestsRel j d1 d2 → Left m2 m1 → Gentle D G s1.top.frame m1 s1.memory → Below X P j d2 d1 s2.next s1.next (c2 ∷ s2.callers) (c1 ∷ s1.callers) m2 m1
+  below_this m2 m1 c2 c1 d2 d1 f2 f1 e2 e1 a g dr h ge =
       inl (
         c1,
         s1.callers,
@@ -97,39 +100,39 @@ module _ (X : Change) (P : Pass) (V : Valids X) (Inv : State → Type 0) (laws :
         dr,
         subst (λ k2. Below X P j c2.dest c1.dest k2 c1.frame s2.callers s1.callers m2 m1) (sym f2) (subst (λ k1. Below X P j c2.dest c1.dest s2.top.frame k1 s2.callers s1.callers m2 m1) (sym f1)
             (subst (λ d. Below X P j d c1.dest s2.top.frame s1.top.frame s2.callers s1.callers m2 m1) (sym e2) (subst (λ d. Below X P j s2.top.dest d s2.top.frame s1.top.frame s2.callers s1.callers m2 m1) (sym e1)
-            (below_left X P V Inv laws G j s2 s1 s2.top s1.top r.core.base r.core.linked al ag be ks m2 m1 h)))),
+            (below_left X P V Inv laws G j s2 s1 s2.top s1.top r.core.base r.core.linked al ag be ks m2 m1 h ge)))),
       )
 
   -- ---- calls of outside functions
 
-  answered_goes : (t2 t1 : List Called) (r2 r1 : List ℕ) (u : ℕ) (o2 o1 : Option Memory) (x : Next) → t2 ≡ t1 → r2 ≡ r1 → ((m : Memory) → o1 ≡ Some m → GotMemory Left m o2) → answered (calling s1 t1 r1) (to_block u s1.top) o1 ≡ Some x → Goes X P (answered (calling s2 t2 r2) (to_block u s2.top) o2) x
-  answered_goes t2 t1 r2 r1 u o2 None x ts rs hm e = goes_at X P _ x (fail t1) e tt
-  answered_goes t2 t1 r2 r1 u o2 (Some m1) x ts rs hm e =
+  answered_goes : (t2 t1 : List Called) (r2 r1 : List ℕ) (u : ℕ) (o2 o1 : Option Memory) (x : Next) → GentleTo X G s1.top.frame s1.memory x → t2 ≡ t1 → r2 ≡ r1 → ((m : Memory) → o1 ≡ Some m → GotMemory Left m o2) → answered (calling s1 t1 r1) (to_block u s1.top) o1 ≡ Some x → Goes X P (answered (calling s2 t2 r2) (to_block u s2.top) o2) x
+  answered_goes t2 t1 r2 r1 u o2 None x ge ts rs hm e = goes_at X P _ x (fail t1) e tt
+  answered_goes t2 t1 r2 r1 u o2 (Some m1) x ge ts rs hm e =
       let (m2, g, h) = hm m1 refl in
-      let k = core_on X P V Inv laws G j s2 s1 s2.top s1.top r.core.base r.core.linked al ag be ks m2 m1 u 0 None None h tt in
+      let k = core_on X P V Inv laws G j s2 s1 s2.top s1.top r.core.base r.core.linked al ag be ks m2 m1 u 0 None None h (gentle_on X G s1.top.frame s1.memory (record s1 { memory = m1; top = to_block u s1.top; answers = r1; trace = t1 }) x ge e (omega arith)) tt in
       goes_by X P _ _ x (ap (answered (calling s2 t2 r2) (to_block u s2.top)) g) (goes_at X P _ x _ e
       (0, _, refl, record { lent = k.lent; base = record { fresh1 = k.base.fresh1; fresh2 = k.base.fresh2; top1 = k.base.top1; top2 = k.base.top2; answers = rs; trace = ts }; linked = k.linked; runs = k.runs }))
 
-  ask_goes : (m2 m1 : Memory) (u : ℕ) (d2 d1 : Dest) (o : ℕ) (ns : List ℕ) (t at : Tree) (answers : List ℕ) (x : Next) → Left m2 m1 → DestRel j d1 d2 → AddrTy D G d1.addr at → ask D s1 m1 (to_block u s1.top) d1 o ns t answers ≡ Some x → Goes X P (ask D s2 m2 (to_block u s2.top) d2 o ns t answers) x
+  ask_goes : (m2 m1 : Memory) (u : ℕ) (d2 d1 : Dest) (o : ℕ) (ns : List ℕ) (t at : Tree) (answers : List ℕ) (x : Next) → GentleTo X G s1.top.frame s1.memory x → Left m2 m1 → DestRel j d1 d2 → AddrTy D G d1.addr at → ask D s1 m1 (to_block u s1.top) d1 o ns t answers ≡ Some x → Goes X P (ask D s2 m2 (to_block u s2.top) d2 o ns t answers) x
   unfolding ask
-  ask_goes m2 m1 u d2 d1 o ns (scalar t) at [] x h hd ty e = goes_at X P _ x (stop no_answer) e refl
-  ask_goes m2 m1 u d2 d1 o ns (scalar t) at (a ∷ rest) x h hd ty e =
-      answered_goes _ _ rest rest u _ _ x (ap (λ t'. record { outside = o; args = ns; answer = Some (wrap t a) } ∷ t') r.core.base.trace) refl
+  ask_goes m2 m1 u d2 d1 o ns (scalar t) at [] x ge h hd ty e = goes_at X P _ x (stop no_answer) e refl
+  ask_goes m2 m1 u d2 d1 o ns (scalar t) at (a ∷ rest) x ge h hd ty e =
+      answered_goes _ _ rest rest u _ _ x ge (ap (λ t'. record { outside = o; args = ns; answer = Some (wrap t a) } ∷ t') r.core.base.trace) refl
       (λ m q. left_store X P V Inv laws G j s2 s1 s2.top s1.top r.core.base r.core.linked al ag be ks m2 m1 m d1 d2 at (number (wrap t a)) (number (wrap t a)) h hd ty (refl, tt) q) e
-  ask_goes m2 m1 u d2 d1 o ns t at answers x h hd ty e =
-      answered_goes _ _ answers answers u _ _ x (ap (λ t'. record { outside = o; args = ns; answer = None } ∷ t') r.core.base.trace) refl
+  ask_goes m2 m1 u d2 d1 o ns t at answers x ge h hd ty e =
+      answered_goes _ _ answers answers u _ _ x ge (ap (λ t'. record { outside = o; args = ns; answer = None } ∷ t') r.core.base.trace) refl
       (λ m q. left_store X P V Inv laws G j s2 s1 s2.top s1.top r.core.base r.core.linked al ag be ks m2 m1 m d1 d2 at nil nil h hd ty (tt, tt) q) e
 
-  call_goes : (m2 m1 : Memory) (u : ℕ) (d2 d1 : Dest) (g : Callee) (os : List Operand) (vs ws : List Value) (at : Tree) (x : Next) → FewArgs X.source g os → length vs ≡ length os → Left m2 m1 → DestRel j d1 d2 → AddrTy D G d1.addr at → AllSame j vs ws → call X.source s1 m1 (to_block u s1.top) d1 g vs ≡ Some x → Goes X P (call (target X) s2 m2 (to_block u s2.top) d2 g ws) x
+  call_goes : (m2 m1 : Memory) (u : ℕ) (d2 d1 : Dest) (g : Callee) (os : List Operand) (vs ws : List Value) (at : Tree) (x : Next) → GentleTo X G s1.top.frame s1.memory x → FewArgs X.source g os → length vs ≡ length os → Left m2 m1 → DestRel j d1 d2 → AddrTy D G d1.addr at → AllSame j vs ws → call X.source s1 m1 (to_block u s1.top) d1 g vs ≡ Some x → Goes X P (call (target X) s2 m2 (to_block u s2.top) d2 g ws) x
   unfolding call
-  call_goes m2 m1 u d2 d1 (callee.Local g) os vs ws at x few long h hd ty hv e =
+  call_goes m2 m1 u d2 d1 (callee.Local g) os vs ws at x ge few long h hd ty hv e =
       enter_goes X P V Inv laws G j s2 s1 m2 m1 r.core.base h.0 (to_block u s2.top) (to_block u s1.top) (Some d2) (Some d1) ks
-      (below_this m2 m1 (to_block u s2.top) (to_block u s1.top) (Some d2) (Some d1) refl refl refl refl (twin_at X P V Inv laws G j s2 s1 s2.top s1.top r.core.base r.core.linked al ag be ks u 0 None None tt) (agrees_left X P V Inv laws G j s2 s1 s2.top s1.top r.core.base r.core.linked al ag be ks m2 m1 h) hd h)
+      (below_this m2 m1 (to_block u s2.top) (to_block u s1.top) (Some d2) (Some d1) refl refl refl refl (twin_at X P V Inv laws G j s2 s1 s2.top s1.top r.core.base r.core.linked al ag be ks u 0 None None tt) (agrees_left X P V Inv laws G j s2 s1 s2.top s1.top r.core.base r.core.linked al ag be ks m2 m1 h) hd h (enter_gentle X G s1.top.frame s1.memory s1 m1 (to_block u s1.top) g.0 vs (Some d1) x r.core.base.top1 e ge))
       vs ws hv g.0 x (λ b eb. (let f = few b eb in omega (arith, f, long))) e
-  call_goes m2 m1 u d2 d1 (callee.Outside o) os vs ws at x few long h hd ty hv e =
+  call_goes m2 m1 u d2 d1 (callee.Outside o) os vs ws at x ge few long h hd ty hv e =
       let (out, e1, k1) = bind_some e in
       let (ns, e2, k2) = bind_some k1 in
-      goes_by X P _ _ x (some_bind _ e1 (some_bind _ (numbers_same j vs ws ns hv.0 e2) (ap (λ an. ask D s2 m2 (to_block u s2.top) d2 o.0 ns out.result an) r.core.base.answers))) (ask_goes m2 m1 u d2 d1 o.0 ns out.result at s1.answers x h hd ty k2)
+      goes_by X P _ _ x (some_bind _ e1 (some_bind _ (numbers_same j vs ws ns hv.0 e2) (ap (λ an. ask D s2 m2 (to_block u s2.top) d2 o.0 ns out.result an) r.core.base.answers))) (ask_goes m2 m1 u d2 d1 o.0 ns out.result at s1.answers x ge h hd ty k2)
 
   -- ---- drops
 
@@ -141,7 +144,7 @@ module _ (X : Change) (P : Pass) (V : Valids X) (Inv : State → Type 0) (laws :
   work_off_goes d e x own tys dr ty q =
       visits.work_off_goes X P V Inv G j s2 s1 s2.top s1.top r.core.linked (agrees_all X P V Inv laws G j s2 s1 s2.top s1.top r.core.base r.core.linked al ag be ks) ks.0 (λ u1 u2. u1 ≡ u2)
       (dropping_goes X P V Inv laws G j s2 s1 s2.top s1.top r.core.base r.core.linked al ag be ks) (dropped_goes X P V Inv laws G j s2 s1 s2.top s1.top r.core.base r.core.linked al ag be ks) laws refl refl r.core.base ks
-      (λ d e vs tg. below_this s2.memory s1.memory (record s2.top { dropping = Some e }) (record s1.top { dropping = Some d }) None None refl refl refl refl (twin_drop (Some e) (Some d) (record { place = vs.place; target = tg; items = vs.items })) ag tt start)
+      (λ d e vs tg. below_this s2.memory s1.memory (record s2.top { dropping = Some e }) (record s1.top { dropping = Some d }) None None refl refl refl refl (twin_drop (Some e) (Some d) (record { place = vs.place; target = tg; items = vs.items })) ag tt start (gentle_none D G s1.top.frame s1.memory))
       d e x own tys (record { place = dr.place; items = dr.items }) dr.target ty q
 
   module _ (bo : TypedBody) (eb : slice_get X.source.bodies s1.top.function ≡ Some bo) where
@@ -210,13 +213,13 @@ module _ (X : Change) (P : Pass) (V : Valids X) (Inv : State → Type 0) (laws :
     abbrev S : Sides
     S = kept.sides D bo.locals bo.locals s1.top.frame s2.top.frame j j low G bok lok
 
-    to_block_goes : (m2 m1 : Memory) (u : ℕ) (x : Next) → Left m2 m1 → go_on s1 m1 (to_block u s1.top) ≡ Some x → Goes X P (go_on s2 m2 (to_block u s2.top)) x
-    to_block_goes m2 m1 u x h e = goes_at X P _ x _ e (to_goes m2 m1 u h)
+    to_block_goes : (m2 m1 : Memory) (u : ℕ) (x : Next) → GentleTo X G s1.top.frame s1.memory x → Left m2 m1 → go_on s1 m1 (to_block u s1.top) ≡ Some x → Goes X P (go_on s2 m2 (to_block u s2.top)) x
+    to_block_goes m2 m1 u x ge h e = goes_at X P _ x _ e (to_goes m2 m1 u h (gentle_on X G s1.top.frame s1.memory (record s1 { memory = m1; top = to_block u s1.top }) x ge e (omega arith)))
 
-    check_goes : (m2 m1 : Memory) (c : Bool) (words : List ℕ) (os : List Operand) (u : ℕ) (x : Next) → Q m2 m1 → AllMoves H1 os → check H1 s1 m1 c words os u ≡ Some x → Goes X P (check H2 s2 m2 c words os u) x
+    check_goes : (m2 m1 : Memory) (c : Bool) (words : List ℕ) (os : List Operand) (u : ℕ) (x : Next) → GentleTo X G s1.top.frame s1.memory x → Q m2 m1 → AllMoves H1 os → check H1 s1 m1 c words os u ≡ Some x → Goes X P (check H2 s2 m2 c words os u) x
     unfolding check
-    check_goes m2 m1 true words os u x h ok e = to_block_goes m2 m1 u x (left m2 m1 h) e
-    check_goes m2 m1 false words os u x h ok e =
+    check_goes m2 m1 true words os u x ge h ok e = to_block_goes m2 m1 u x ge (left m2 m1 h) e
+    check_goes m2 m1 false words os u x ge h ok e =
         let (q, e1, k1) = bind_some e in
         let (q', g1, same, _) = integers_read S Q os os (reads_all os ok) m2 m1 q h e1 in
         goes_by X P _ _ x (some_bind _ g1 refl) (goes_at X P _ x (stop (aborted words q.0)) k1 (ap (λ vs. Some (stop (aborted words vs))) (sym same)))
@@ -239,54 +242,54 @@ module _ (X : Change) (P : Pass) (V : Valids X) (Inv : State → Type 0) (laws :
     begun_goes p u None (Some e') d p1 dr q = absurd dr
     begun_goes p u (Some d') None d p1 dr q = absurd dr
 
-    finish_goes : (t : Term) (x : Next) → FewTerm X.source t → TermMoves H1 t → TermTy X.source H1 t → DropPlain t → finish X.source H1 s1 t ≡ Some x → Flat x → Goes X P (finish (target X) H2 s2 t) x
+    finish_goes : (t : Term) (x : Next) → FewTerm X.source t → TermMoves H1 t → TermTy X.source H1 t → DropPlain t → finish X.source H1 s1 t ≡ Some x → Flat x → GentleTo X G s1.top.frame s1.memory x → Goes X P (finish (target X) H2 s2 t) x
     unfolding finish closed2 closed1
-    finish_goes (Goto u) x fw ok ty hd e fl = to_block_goes s2.memory s1.memory u x start e
-    finish_goes (Switch o arms u) x fw ok ty hd e fl =
+    finish_goes (Goto u) x fw ok ty hd e fl ge = to_block_goes s2.memory s1.memory u x ge start e
+    finish_goes (Switch o arms u) x fw ok ty hd e fl ge =
         let (q, e1, k1) = bind_some e in
         let (q', g1, same, h) = number_read S Q o o (reads_one o ok) s2.memory s1.memory q first e1 in
-        goes_by X P _ _ x (some_bind _ g1 (ap (λ i. go_on s2 q'.1 (to_block (take_arm i arms u) s2.top)) (sym same))) (to_block_goes q'.1 q.1 (take_arm q.0 arms u) x (left q'.1 q.1 h) k1)
-    finish_goes Return x fw ok ty hd e fl =
+        goes_by X P _ _ x (some_bind _ g1 (ap (λ i. go_on s2 q'.1 (to_block (take_arm i arms u) s2.top)) (sym same))) (to_block_goes q'.1 q.1 (take_arm q.0 arms u) x ge (left q'.1 q.1 h) k1)
+    finish_goes Return x fw ok ty hd e fl ge =
         let (v, e1, k1) = bind_some e in
         let ((w, g1, rel), at) = text.read_at_rel D bo.locals bo.locals s1.top.frame s2.top.frame j j low s2.memory s1.memory (local_addr s1.top.frame 0) (local_addr s2.top.frame 0) v zero r.core.linked.mem e1 in
-        goes_by X P _ _ x (some_bind _ g1 refl) (return_goes X P V Inv laws n s2 s1 r (λ h x y v e q. (al.only h x y e).0) (λ h x y lt e. (let same = (al.only h x y e).0 in omega (arith, same, lt))) be bo eb v w x (rel, whole_tight j v w rel (read_at_whole s1.memory (local_addr s1.top.frame 0) v e1)) k1 fl)
+        goes_by X P _ _ x (some_bind _ g1 refl) (return_goes X P V Inv laws n s2 s1 r (λ h x y v e q. (al.only h x y e).0) (λ h x y lt e. (let same = (al.only h x y e).0 in omega (arith, same, lt))) be bo eb v w x (rel, whole_tight j v w rel (read_at_whole s1.memory (local_addr s1.top.frame 0) v e1)) k1 fl ge)
       where
         zero : AddrRel j (local_addr s1.top.frame 0) (local_addr s2.top.frame 0)
         zero = zero_rel j s1.top.frame s2.top.frame (al.roots 0)
-    finish_goes Unreachable x fw ok ty hd e fl = absurd (grind arith)
-    finish_goes (Drop p u) x fw ok ty hd e fl =
+    finish_goes Unreachable x fw ok ty hd e fl ge = absurd (grind arith)
+    finish_goes (Drop p u) x fw ok ty hd e fl ge =
         let (d, e1, k1) = bind_some e in
         let (d2, g1, dr, pty, tys) = begun_goes p u s1.top.dropping s2.top.dropping d refl al.drops e1 in
         goes_by X P _ _ x (some_bind _ g1 refl) (work_off_goes d d2 x (begun_own X.source s1 r.drops bo eb p u s1.top.dropping d hd refl e1) tys dr pty k1)
-    finish_goes (Call p g os u) x fw ok (t, pt, ct) hd e fl =
+    finish_goes (Call p g os u) x fw ok (t, pt, ct) hd e fl ge =
         let (d, e1, k1) = bind_some e in
         let (q, e2, k2) = bind_some k1 in
         let (d2, g1, dr) = kept.dest_as D bo.locals bo.locals s1.top.frame s2.top.frame j j low G bok lok Q keeps s2.memory s1.memory p p d (place_as p) first e1 in
         let (q', g2, hv, h) = all_read S Q os os (reads_all os ok) s2.memory s1.memory q first e2 in
         let at = dest_ty D G bok bo.locals s1.top.frame lok s1.memory p t d r.typed1.mem pt e1 in
-        goes_by X P _ _ x (some_bind _ g1 (some_bind _ g2 refl)) (call_goes q'.1 q.1 u d2 d g os q.0 q'.0 t x fw (read_long H1 os s1.memory q e2) (left q'.1 q.1 h) dr at hv k2)
-    finish_goes (Assert o c words os u) x fw ok ty hd e fl =
+        goes_by X P _ _ x (some_bind _ g1 (some_bind _ g2 refl)) (call_goes q'.1 q.1 u d2 d g os q.0 q'.0 t x ge fw (read_long H1 os s1.memory q e2) (left q'.1 q.1 h) dr at hv k2)
+    finish_goes (Assert o c words os u) x fw ok ty hd e fl ge =
         let (q, e1, k1) = bind_some e in
         let (q', g1, same, h) = number_read S Q o o (reads_one o ok.0) s2.memory s1.memory q first e1 in
-        goes_by X P _ _ x (some_bind _ g1 (ap (λ i. check H2 s2 q'.1 (nat_eq i (flag c)) words os u) (sym same))) (check_goes q'.1 q.1 (nat_eq q.0 (flag c)) words os u x h ok.1 k1)
+        goes_by X P _ _ x (some_bind _ g1 (ap (λ i. check H2 s2 q'.1 (nat_eq i (flag c)) words os u) (sym same))) (check_goes q'.1 q.1 (nat_eq q.0 (flag c)) words os u x ge h ok.1 k1)
 
     -- a statement, or the terminator
-    perform_goes : (t : Term) (o : Option TypedStmt) (x : Next) → FewTerm X.source t → TermMoves H1 t → TermTy X.source H1 t → DropPlain t → ((st : TypedStmt) → o ≡ Some st → StmtMoves H1 st × StmtTy D G bok bo.locals s1.top.frame lok st) → perform X.source H1 s1 t o ≡ Some x → Flat x → Goes X P (perform (target X) H2 s2 t o) x
+    perform_goes : (t : Term) (o : Option TypedStmt) (x : Next) → FewTerm X.source t → TermMoves H1 t → TermTy X.source H1 t → DropPlain t → ((st : TypedStmt) → o ≡ Some st → StmtMoves H1 st × StmtTy D G bok bo.locals s1.top.frame lok st) → perform X.source H1 s1 t o ≡ Some x → Flat x → GentleTo X G s1.top.frame s1.memory x → Goes X P (perform (target X) H2 s2 t o) x
     unfolding perform
-    perform_goes t None x fw ok ty hd st e fl = finish_goes t x fw ok ty hd e fl
-    perform_goes t (Some st) x fw ok ty hd sk e fl =
+    perform_goes t None x fw ok ty hd st e fl ge = finish_goes t x fw ok ty hd e fl ge
+    perform_goes t (Some st) x fw ok ty hd sk e fl ge =
         let (so, sty) = sk st refl in
         let (m1', e1, k1) = bind_some e in
         let (m2', g1, h) = kept.exec_as D bo.locals bo.locals s1.top.frame s2.top.frame j j low G bok lok Q keeps st st (stmt_as st so sty) s2.memory s1.memory m1' (λ z. payloads) first e1 in
-        goes_by X P _ _ x (some_bind _ g1 (ap₂ (λ i a. go_on s2 m2' (record s2.top { block = i; at = suc a })) al.block al.at)) (goes_at X P _ x _ k1 (goes_on X P V Inv laws G j s2 s1 s2.top s1.top r.core.base r.core.linked al ag be ks m2' m1' s1.top.block (suc s1.top.at) s2.top.dropping s1.top.dropping (left m2' m1' h) al.drops))
+        goes_by X P _ _ x (some_bind _ g1 (ap₂ (λ i a. go_on s2 m2' (record s2.top { block = i; at = suc a })) al.block al.at)) (goes_at X P _ x _ k1 (goes_on X P V Inv laws G j s2 s1 s2.top s1.top r.core.base r.core.linked al ag be ks m2' m1' s1.top.block (suc s1.top.at) s2.top.dropping s1.top.dropping (left m2' m1' h) (gentle_on X G s1.top.frame s1.memory (record s1 { memory = m1'; top = next_stmt s1.top }) x ge k1 (omega arith)) al.drops))
 
   -- one step
-  pub other_step : (x : Next) → step X.source s1 ≡ Some x → Flat x → Goes X P (step (target X) s2) x
+  pub other_step : (x : Next) → step X.source s1 ≡ Some x → Flat x → GentleTo X G s1.top.frame s1.memory x → Goes X P (step (target X) s2) x
   unfolding step
-  other_step x e fl =
+  other_step x e fl ge =
       let (bo, k, eb, ek, q) = step_parts X.source s1 x e in
       let same2 : slice_get X.bodies s2.top.function ≡ Some bo = ap (slice_get X.bodies) al.function ∙ X.others s1.top.function al.other ∙ eb in
       goes_by X P _ _ x
       (some_bind _ same2 (some_bind _ (ap (slice_get bo.blocks) al.block ∙ ek) (ap (λ a. perform (target X) (record { shapes = D; locals = bo.locals; frame = s2.top.frame }) s2 k.term (slice_get k.stmts a)) al.at)))
       (perform_goes bo eb k.term (slice_get k.stmts s1.top.at) x (V.calls s1.top.function bo s1.top.block k eb ek) (V.terms s1.top.frame s1.top.function bo s1.top.block k eb ek) (V.valid1.terms s1.top.frame s1.top.function bo s1.top.block k eb ek) (V.plain s1.top.function bo s1.top.block k eb ek)
-      (λ st es. (V.stmts s1.top.frame s1.top.function bo s1.top.block k s1.top.at st eb ek es, V.valid1.stmts G s1.top.frame s1.top.function bo s1.top.block k s1.top.at st eb ek es (r.typed1.top.locals bo eb))) q fl)
+      (λ st es. (V.stmts s1.top.frame s1.top.function bo s1.top.block k s1.top.at st eb ek es, V.valid1.stmts G s1.top.frame s1.top.function bo s1.top.block k s1.top.at st eb ek es (r.typed1.top.locals bo eb))) q fl ge)

@@ -154,4 +154,3 @@ pub headers_set : (fs : List TypedFunction) (f : ℕ) (g g2 : TypedFunction) →
 headers_set [] f g g2 e h = refl
 headers_set (x ∷ fs) zero g g2 e h = ap (λ y. y ∷ map header fs) (h ∙ ap header (let z : g ≡ x = grind arith in z))
 headers_set (x ∷ fs) (suc f) g g2 e h = ap (λ ys. header x ∷ ys) (headers_set fs f g g2 e h)
-

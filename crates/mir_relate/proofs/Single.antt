@@ -16,6 +16,7 @@ use Rattle.mir_renaming.proofs.Types.{TypeMap}
 use Rattle.mir_renaming.proofs.Typed.{FramesTy}
 use Rattle.mir_renaming.proofs.Frames.{new_control}
 use Rattle.mir_relate.specs.Leaves.{Leaves}
+use Rattle.mir_relate.specs.Mild.{Gentle}
 use Rattle.mir_relate.specs.Frames.{Change, Pass, opened, Below, Core}
 use Rattle.mir_relate.specs.Pass.{KnowsAll, Valids, KeptLaw, Related}
 use Rattle.mir_renaming.proofs.Walks.{walk_plain}
@@ -89,8 +90,8 @@ module _ (f : ℕ) (B : ℕ → Option ℕ) (Here : ℕ → Control → Control 
               none_of (inr p) = absurd (p.0 refl)
 
 -- another function has returned to a frame that waited, and its result is written
-pub back_core : (X : Change) (P : Pass) (V : Valids X) (Inv : State → Type 0) → KeptLaw X P → (n : ℕ) (s2 s1 : State) (r : Related X P V Inv n s2 s1) (m2 m1 m2' m1' : Memory) (c2 c1 : Control) (ds cs2 : List Control) → KnowsAll X r.typed1.types ds → Below X P r.core.lent c2.dest c1.dest c2.frame c1.frame cs2 ds m2 m1 → c1.frame < s1.top.frame → c2.frame < s2.top.frame → Linked r.core.lent r.core.lent m2' m1' → Leaves X.source.shapes r.typed1.types r.core.lent r.core.lent c2.frame c1.frame m2' m1' m2 m1 → (n' : ℕ) → P.own n' r.core.lent c2 c1 [] m2' m1' → Core X P n' (record s2 { memory = m2'; top = c2; callers = cs2 }) (record s1 { memory = m1'; top = c1; callers = ds })
-back_core X P V Inv kept n s2 s1 r m2 m1 m2' m1' c2 c1 ds cs2 ks be l1 l2 l lv n' o =
+pub back_core : (X : Change) (P : Pass) (V : Valids X) (Inv : State → Type 0) → KeptLaw X P → (n : ℕ) (s2 s1 : State) (r : Related X P V Inv n s2 s1) (m2 m1 m2' m1' : Memory) (c2 c1 : Control) (ds cs2 : List Control) → KnowsAll X r.typed1.types ds → Below X P r.core.lent c2.dest c1.dest c2.frame c1.frame cs2 ds m2 m1 → c1.frame < s1.top.frame → c2.frame < s2.top.frame → Linked r.core.lent r.core.lent m2' m1' → Leaves X.source.shapes r.typed1.types r.core.lent r.core.lent c2.frame c1.frame m2' m1' m2 m1 → Gentle X.source.shapes r.typed1.types c1.frame m1' m1 → (n' : ℕ) → P.own n' r.core.lent c2 c1 [] m2' m1' → Core X P n' (record s2 { memory = m2'; top = c2; callers = cs2 }) (record s1 { memory = m1'; top = c1; callers = ds })
+back_core X P V Inv kept n s2 s1 r m2 m1 m2' m1' c2 c1 ds cs2 ks be l1 l2 l lv ge n' o =
     let j = r.core.lent in
     let t1 = r.core.base.top1 in
     let t2 = r.core.base.top2 in
@@ -98,7 +99,7 @@ back_core X P V Inv kept n s2 s1 r m2 m1 m2' m1' c2 c1 ds cs2 ks be l1 l2 l lv n
       lent = j;
       base = record { fresh1 = r.core.base.fresh1; fresh2 = r.core.base.fresh2; top1 = omega (arith, l1, t1); top2 = omega (arith, l2, t2); answers = r.core.base.answers; trace = r.core.base.trace };
       linked = l;
-      runs = inr ([], ds, refl, omega arith, o, below_kept X P kept r.typed1.types j j c2.dest c1.dest c2.frame c1.frame cs2 ds m2' m1' m2 m1 ks lv be);
+      runs = inr ([], ds, refl, omega arith, o, below_kept X P kept r.typed1.types j j c2.dest c1.dest c2.frame c1.frame cs2 ds m2' m1' m2 m1 ks lv ge be);
     }
 
 -- what is known of the frames that wait

@@ -8,9 +8,11 @@ use Rattle.mir_renaming.proofs.Memory.{sub_addr}
 use Rattle.mir_renaming.proofs.Types.{TypeMap}
 use Rattle.mir_renaming.proofs.Typed.{FramesTy}
 use Rattle.mir_relate.specs.Leaves.{Leaves}
+use Rattle.mir_relate.specs.Mild.{Gentle}
 use Rattle.mir_relate.specs.Frames.{Change, Pass, lowest, VisitRel, VisitsRel, DropsRel, DestsRel, Agrees, Twin, Below}
 use Rattle.mir_relate.specs.Pass.{Knows, KnowsAll, KeptLaw, Valids}
 use Rattle.mir_relate.proofs.Leaves.{leaves_less}
+use Rattle.mir_relate.proofs.Mild.{gentle_less}
 
 pub visit_up : (j k : Renaming) → Sub j k → (i i' : Visit) → VisitRel j i i' → VisitRel k i i'
 visit_up j k up i i' h = record { addr = sub_addr j k up i.addr i'.addr h.addr; ty = h.ty }
@@ -58,9 +60,9 @@ agrees_kept X G j j' n2 n1 m2' m1' m2 m1 c2 c1 lt ks l h a b x t v' w' eb ex p q
     s.agree (a b x t s.old1 s.old2 eb ex s.was1 s.was2)
 
 module _ (X : Change) (P : Pass) (kept : KeptLaw X P) where
-  pub below_kept : (G : TypeMap) (j j' : Renaming) (d2 d1 : Option Dest) (n2 n1 : ℕ) (cs2 cs1 : List Control) (m2' m1' m2 m1 : Memory) → KnowsAll X G cs1 → Leaves X.source.shapes G j j' n2 n1 m2' m1' m2 m1 → Below X P j d2 d1 n2 n1 cs2 cs1 m2 m1 → Below X P j' d2 d1 n2 n1 cs2 cs1 m2' m1'
-  below_kept G j j' d2 d1 n2 n1 [] cs1 m2' m1' m2 m1 ks l h = h
-  below_kept G j j' d2 d1 n2 n1 (c2 ∷ cs2) cs1 m2' m1' m2 m1 ks l (inl (c1, ds, e, l1, l2, al, ag, dr, rest)) =
+  pub below_kept : (G : TypeMap) (j j' : Renaming) (d2 d1 : Option Dest) (n2 n1 : ℕ) (cs2 cs1 : List Control) (m2' m1' m2 m1 : Memory) → KnowsAll X G cs1 → Leaves X.source.shapes G j j' n2 n1 m2' m1' m2 m1 → Gentle X.source.shapes G n1 m1' m1 → Below X P j d2 d1 n2 n1 cs2 cs1 m2 m1 → Below X P j' d2 d1 n2 n1 cs2 cs1 m2' m1'
+  below_kept G j j' d2 d1 n2 n1 [] cs1 m2' m1' m2 m1 ks l ge h = h
+  below_kept G j j' d2 d1 n2 n1 (c2 ∷ cs2) cs1 m2' m1' m2 m1 ks l ge (inl (c1, ds, e, l1, l2, al, ag, dr, rest)) =
       let ks' : KnowsAll X G (c1 ∷ ds) = subst (KnowsAll X G) e ks in
       inl (
         c1,
@@ -71,9 +73,9 @@ module _ (X : Change) (P : Pass) (kept : KeptLaw X P) where
         twin_up X X.source.shapes G j j' n2 n1 m2' m1' m2 m1 c2 c1 l2 l al,
         agrees_kept X G j j' n2 n1 m2' m1' m2 m1 c2 c1 l1 ks'.0 l al ag,
         dests_up j j' l.up d1 d2 dr,
-        below_kept G j j' c2.dest c1.dest c2.frame c1.frame cs2 ds m2' m1' m2 m1 ks'.1 (leaves_less X.source.shapes G j j' n2 n1 c2.frame c1.frame m2' m1' m2 m1 (omega (arith, l2)) (omega (arith, l1)) l) rest,
+        below_kept G j j' c2.dest c1.dest c2.frame c1.frame cs2 ds m2' m1' m2 m1 ks'.1 (leaves_less X.source.shapes G j j' n2 n1 c2.frame c1.frame m2' m1' m2 m1 (omega (arith, l2)) (omega (arith, l1)) l) (gentle_less X.source.shapes G n1 c1.frame m1' m1 (omega (arith, l1)) ge) rest,
       )
-  below_kept G j j' d2 d1 n2 n1 (c2 ∷ cs2) cs1 m2' m1' m2 m1 ks l (inr (c1, gs, ds, e, l1, l2, lo, w, rest)) =
+  below_kept G j j' d2 d1 n2 n1 (c2 ∷ cs2) cs1 m2' m1' m2 m1 ks l ge (inr (c1, gs, ds, e, l1, l2, lo, w, rest)) =
       let ks' : KnowsAll X G (c1 ∷ (gs ++ ds)) = subst (KnowsAll X G) e ks in
       inr (
         c1,
@@ -83,8 +85,8 @@ module _ (X : Change) (P : Pass) (kept : KeptLaw X P) where
         l1,
         l2,
         lo,
-        kept G j j' d2 d1 c2 c1 gs n2 n1 m2' m1' m2 m1 (ks'.0, knows_group X G gs ds ks'.1) l1 l2 lo l w,
-        below_kept G j j' c2.dest (lowest c1 gs).dest c2.frame (lowest c1 gs).frame cs2 ds m2' m1' m2 m1 (knows_later X G gs ds ks'.1) (leaves_less X.source.shapes G j j' n2 n1 c2.frame (lowest c1 gs).frame m2' m1' m2 m1 (omega (arith, l2)) (omega (arith, l1, lo)) l) rest,
+        kept G j j' d2 d1 c2 c1 gs n2 n1 m2' m1' m2 m1 (ks'.0, knows_group X G gs ds ks'.1) l1 l2 lo l ge w,
+        below_kept G j j' c2.dest (lowest c1 gs).dest c2.frame (lowest c1 gs).frame cs2 ds m2' m1' m2 m1 (knows_later X G gs ds ks'.1) (leaves_less X.source.shapes G j j' n2 n1 c2.frame (lowest c1 gs).frame m2' m1' m2 m1 (omega (arith, l2)) (omega (arith, l1, lo)) l) (gentle_less X.source.shapes G n1 (lowest c1 gs).frame m1' m1 (omega (arith, l1, lo)) ge) rest,
       )
 
   -- the same with higher numbers

@@ -99,7 +99,7 @@ no_destroyed D s c x p e = (let (d, e1, k1) = bind_some e in let z : ◌≡◌ {
 -- T: where the drop leads on both sides
 module _ (X : Change) (P : Pass) (V : Valids X) (Inv : State → Type 0) (G : TypeMap) (j : Renaming) (s2 s1 : State) (c2 c1 : Control) (l : Linked j j s2.memory s1.memory) (ag : AgreesBy X j c1 s2.memory s1.memory) (knows : Knows X G c1) (T : ℕ → ℕ → Type 0)
   (item : (d e : Dropping) → Visiting j d e → T d.target e.target → Goes X P (go_on s2 s2.memory (record c2 { dropping = Some e })) (on (record s1 { top = record c1 { dropping = Some d } })))
-  (done : (u1 u2 : ℕ) → T u1 u2 → (a b : Addr) (t : Tree) (old : Value) → AddrRel j a b → AddrTy X.source.shapes G a t → value_at s1.memory a ≡ Some old → Goes X P (go_on s2 (write s2.memory b (blank X.source.shapes t)) (to_block u2 c2)) (on (record s1 { memory = write s1.memory a (blank X.source.shapes t); top = to_block u1 c1 }))) where
+  (done : (u1 u2 : ℕ) → T u1 u2 → (a b : Addr) (t : Tree) (old : Value) → AddrRel j a b → AddrTy X.source.shapes G a t → value_at s1.memory a ≡ Some old → a.frame ≡ c1.frame → Goes X P (go_on s2 (write s2.memory b (blank X.source.shapes t)) (to_block u2 c2)) (on (record s1 { memory = write s1.memory a (blank X.source.shapes t); top = to_block u1 c1 }))) where
   abbrev D : List Shape
   D = X.source.shapes
 
@@ -116,15 +116,15 @@ module _ (X : Change) (P : Pass) (V : Valids X) (Inv : State → Type 0) (G : Ty
       let a1 : local_at s1.memory c1.frame x ≡ Some o1 = ap₂ (local_at s1.memory) (sym il.0) (sym il.1) ∙ p1 in
       (w, g, rel, at_path_agree D i.addr.path lt i.ty o1 o2 v w (ag bo x k.addr.frame k.addr.local lt o1 o2 eb ex here a1 p2) (subst (λ y. path_ty D y i.addr.path ≡ Some i.ty) same at.path) q1 (subst (λ ps. at_path ps o2 ≡ Some w) (sym r.addr.path) q2))
 
-  work_on_goes : (d e : Dropping) (is js : List Visit) (x : Next) → Visiting j d e → T d.target e.target → VisitsRel j is js → AddrTy D G d.place.addr d.place.ty → work_on D s1 c1 d is ≡ Some x → Goes X P (work_on D s2 c2 e js) x
+  work_on_goes : (d e : Dropping) (is js : List Visit) (x : Next) → Visiting j d e → T d.target e.target → VisitsRel j is js → AddrTy D G d.place.addr d.place.ty → d.place.addr.frame ≡ c1.frame → work_on D s1 c1 d is ≡ Some x → Goes X P (work_on D s2 c2 e js) x
   unfolding work_on
-  work_on_goes d e [] [] x r tg vs ty q =
+  work_on_goes d e [] [] x r tg vs ty pl q =
       let (old, e1, k1) = bind_some q in
       let (old2, g1, _) = value_at_rel j j s2.memory s1.memory l.mem d.place.addr e.place.addr r.place.addr old e1 in
-      goes_by X P _ _ x (some_bind _ g1 (ap (λ t. go_on s2 (write s2.memory e.place.addr (blank D t)) (to_block e.target c2)) (sym r.place.ty))) (goes_at X P _ x _ k1 (done d.target e.target tg d.place.addr e.place.addr d.place.ty old r.place.addr ty e1))
-  work_on_goes d e (i ∷ is) (k ∷ js) x r tg vs ty q = goes_at X P _ x _ q (item (record d { items = i ∷ is }) (record e { items = k ∷ js }) (record { place = r.place; items = vs }) tg)
-  work_on_goes d e [] (k ∷ js) x r tg vs ty q = absurd vs
-  work_on_goes d e (i ∷ is) [] x r tg vs ty q = absurd vs
+      goes_by X P _ _ x (some_bind _ g1 (ap (λ t. go_on s2 (write s2.memory e.place.addr (blank D t)) (to_block e.target c2)) (sym r.place.ty))) (goes_at X P _ x _ k1 (done d.target e.target tg d.place.addr e.place.addr d.place.ty old r.place.addr ty e1 pl))
+  work_on_goes d e (i ∷ is) (k ∷ js) x r tg vs ty pl q = goes_at X P _ x _ q (item (record d { items = i ∷ is }) (record e { items = k ∷ js }) (record { place = r.place; items = vs }) tg)
+  work_on_goes d e [] (k ∷ js) x r tg vs ty pl q = absurd vs
+  work_on_goes d e (i ∷ is) [] x r tg vs ty pl q = absurd vs
 
   more_parts : (i k : Visit) (v w : Value) (is js : List Visit) → VisitRel j i k → ValueRel j v w → (is_hole v ≡ true → is_hole w ≡ true) → VisitsRel j is js → VisitsRel j (visits_of D i.addr i.ty v ++ is) (visits_of D k.addr k.ty w ++ js)
   more_parts i k v w is js h r f g = append_rel j (visits_of D i.addr i.ty v) (visits_of D k.addr k.ty w) is js (subst (λ u. VisitsRel j (visits_of D i.addr i.ty v) (visits_of D k.addr u w)) h.ty (parts_rel D j i.addr k.addr i.ty v w h.addr r f)) g
@@ -164,36 +164,36 @@ module _ (X : Change) (P : Pass) (V : Valids X) (Inv : State → Type 0) (G : Ty
       at_items (i ∷ is) (k ∷ js) its fn tys vs q =
           let (v, e1, k1) = bind_some q in
           let (w, g1, rel, f) = left_goes y lt bo i k v eb ey its.0 tys.0 fn vs.0 e1 in
-          goes_by X P _ _ x (some_bind _ g1 refl) (work_on_goes d e (visits_of D i.addr i.ty v ++ is) (visits_of D k.addr k.ty w ++ js) x r tg (more_parts i k v w is js vs.0 rel f vs.1) ty k1)
+          goes_by X P _ _ x (some_bind _ g1 refl) (work_on_goes d e (visits_of D i.addr i.ty v ++ is) (visits_of D k.addr k.ty w ++ js) x r tg (more_parts i k v w is js vs.0 rel f vs.1) ty pl.0 k1)
       at_items (i ∷ is) [] its fn tys vs q = absurd vs
 
   -- ---- the frame runs
 
   module _ (laws : FrameLaws X P V Inv) (top1 : c1 ≡ s1.top) (top2 : c2 ≡ s2.top) (base : Base j s2 s1) (ks : KnowsAll X G (s1.top ∷ s1.callers))
     (holds : (d e : Dropping) → Visiting j d e → T d.target e.target → Below X P j None None s2.next s1.next (record s2.top { dropping = Some e } ∷ s2.callers) (record s1.top { dropping = Some d } ∷ s1.callers) s2.memory s1.memory) where
-    work_top : (d e : Dropping) (is js : List Visit) (x : Next) → Visiting j d e → T d.target e.target → VisitsRel j is js → AddrTy D G d.place.addr d.place.ty → work_on D s1 s1.top d is ≡ Some x → Goes X P (work_on D s2 s2.top e js) x
-    work_top d e is js x r tg vs ty q = subst (λ c. Goes X P (work_on D s2 c e js) x) top2 (work_on_goes d e is js x r tg vs ty (subst (λ c. work_on D s1 c d is ≡ Some x) (sym top1) q))
+    work_top : (d e : Dropping) (is js : List Visit) (x : Next) → Visiting j d e → T d.target e.target → VisitsRel j is js → AddrTy D G d.place.addr d.place.ty → d.place.addr.frame ≡ c1.frame → work_on D s1 s1.top d is ≡ Some x → Goes X P (work_on D s2 s2.top e js) x
+    work_top d e is js x r tg vs ty pl q = subst (λ c. Goes X P (work_on D s2 c e js) x) top2 (work_on_goes d e is js x r tg vs ty pl (subst (λ c. work_on D s1 c d is ≡ Some x) (sym top1) q))
 
-    visit_goes : (d e : Dropping) (i k : Visit) (is js : List Visit) (v w : Value) (g : Option ℕ) (x : Next) → destructor_of D i.ty ≡ g → Visiting j d e → T d.target e.target → VisitRel j i k → VisitsRel j is js → AddrTy D G d.place.addr d.place.ty → ValueRel j v w → (is_hole v ≡ true → is_hole w ≡ true) → visit X.source s1 d i is v g ≡ Some x → Goes X P (visit (target X) s2 e k js w g) x
+    visit_goes : (d e : Dropping) (i k : Visit) (is js : List Visit) (v w : Value) (g : Option ℕ) (x : Next) → destructor_of D i.ty ≡ g → Visiting j d e → T d.target e.target → VisitRel j i k → VisitsRel j is js → AddrTy D G d.place.addr d.place.ty → d.place.addr.frame ≡ c1.frame → ValueRel j v w → (is_hole v ≡ true → is_hole w ≡ true) → visit X.source s1 d i is v g ≡ Some x → Goes X P (visit (target X) s2 e k js w g) x
     unfolding visit
-    visit_goes d e i k is js v w None x eg r tg h vs ty rel f q = work_top d e (visits_of D i.addr i.ty v ++ is) (visits_of D k.addr k.ty w ++ js) x r tg (more_parts i k v w is js h rel f vs) ty q
-    visit_goes d e i k is js v w (Some g) x eg r tg h vs ty rel f q =
+    visit_goes d e i k is js v w None x eg r tg h vs ty pl rel f q = work_top d e (visits_of D i.addr i.ty v ++ is) (visits_of D k.addr k.ty w ++ js) x r tg (more_parts i k v w is js h rel f vs) ty pl q
+    visit_goes d e i k is js v w (Some g) x eg r tg h vs ty pl rel f q =
         enter_goes X P V Inv laws G j s2 s1 s2.memory s1.memory base l (record s2.top { dropping = Some (record e { items = k ∷ js }) }) (record s1.top { dropping = Some (record d { items = i ∷ is }) }) None None ks
         (holds (record d { items = i ∷ is }) (record e { items = k ∷ js }) (record { place = r.place; items = (h, vs) }) tg)
         (pointer i.addr ∷ []) (pointer k.addr ∷ []) ((h.addr, tt), (tt, tt)) g x (λ b eb. V.destroys i.ty g b eg eb) q
 
-    unless_goes : (d e : Dropping) (i k : Visit) (is js : List Visit) (v w : Value) (c : Bool) (x : Next) → Visiting j d e → T d.target e.target → VisitRel j i k → VisitsRel j is js → AddrTy D G d.place.addr d.place.ty → ValueRel j v w → (is_hole v ≡ true → is_hole w ≡ true) → visit_unless X.source s1 d i is v c ≡ Some x → Goes X P (visit_unless (target X) s2 e k js w c) x
+    unless_goes : (d e : Dropping) (i k : Visit) (is js : List Visit) (v w : Value) (c : Bool) (x : Next) → Visiting j d e → T d.target e.target → VisitRel j i k → VisitsRel j is js → AddrTy D G d.place.addr d.place.ty → d.place.addr.frame ≡ c1.frame → ValueRel j v w → (is_hole v ≡ true → is_hole w ≡ true) → visit_unless X.source s1 d i is v c ≡ Some x → Goes X P (visit_unless (target X) s2 e k js w c) x
     unfolding visit_unless
-    unless_goes d e i k is js v w true x r tg h vs ty rel f q = work_top d e is js x r tg vs ty q
-    unless_goes d e i k is js v w false x r tg h vs ty rel f q = goes_by X P _ _ x (ap (λ u. visit (target X) s2 e k js w (destructor_of D u)) (sym h.ty)) (visit_goes d e i k is js v w (destructor_of D i.ty) x refl r tg h vs ty rel f q)
+    unless_goes d e i k is js v w true x r tg h vs ty pl rel f q = work_top d e is js x r tg vs ty pl q
+    unless_goes d e i k is js v w false x r tg h vs ty pl rel f q = goes_by X P _ _ x (ap (λ u. visit (target X) s2 e k js w (destructor_of D u)) (sym h.ty)) (visit_goes d e i k is js v w (destructor_of D i.ty) x refl r tg h vs ty pl rel f q)
 
-    if_goes : (d e : Dropping) (i k : Visit) (is js : List Visit) (c : Bool) (x : Next) (y : ℕ) (lt : Tree) (bo : TypedBody) → slice_get X.source.bodies c1.function ≡ Some bo → slice_get bo.locals y ≡ Some lt → InLocal X.source c1.frame y i → AddrTy D G i.addr i.ty → Visiting j d e → T d.target e.target → VisitRel j i k → VisitsRel j is js → AddrTy D G d.place.addr d.place.ty → needs_drop D i.ty ≡ c → visit_if X.source s1 d i is c ≡ Some x → Goes X P (visit_if (target X) s2 e k js c) x
+    if_goes : (d e : Dropping) (i k : Visit) (is js : List Visit) (c : Bool) (x : Next) (y : ℕ) (lt : Tree) (bo : TypedBody) → slice_get X.source.bodies c1.function ≡ Some bo → slice_get bo.locals y ≡ Some lt → InLocal X.source c1.frame y i → AddrTy D G i.addr i.ty → Visiting j d e → T d.target e.target → VisitRel j i k → VisitsRel j is js → AddrTy D G d.place.addr d.place.ty → d.place.addr.frame ≡ c1.frame → needs_drop D i.ty ≡ c → visit_if X.source s1 d i is c ≡ Some x → Goes X P (visit_if (target X) s2 e k js c) x
     unfolding visit_if
-    if_goes d e i k is js false x y lt bo eb ey il at r tg h vs ty nd q = work_top d e is js x r tg vs ty q
-    if_goes d e i k is js true x y lt bo eb ey il at r tg h vs ty nd q =
+    if_goes d e i k is js false x y lt bo eb ey il at r tg h vs ty pl nd q = work_top d e is js x r tg vs ty pl q
+    if_goes d e i k is js true x y lt bo eb ey il at r tg h vs ty pl nd q =
         let (v, e1, k1) = bind_some q in
         let (w, g1, rel, agr) = item_at y lt bo i k v eb ey il at h e1 in
-        goes_by X P _ _ x (some_bind _ g1 (ap (λ c. visit_unless (target X) s2 e k js w c) (sym (same_hole j D i.ty v w nd rel agr)))) (unless_goes d e i k is js v w (is_hole v) x r tg h vs ty rel (λ z. hole_too D i.ty v w nd agr z) k1)
+        goes_by X P _ _ x (some_bind _ g1 (ap (λ c. visit_unless (target X) s2 e k js w c) (sym (same_hole j D i.ty v w nd rel agr)))) (unless_goes d e i k is js v w (is_hole v) x r tg h vs ty pl rel (λ z. hole_too D i.ty v w nd agr z) k1)
 
     -- one item of a drop of this frame
     pub work_off_goes : (d e : Dropping) (x : Next) → OwnDrop X.source c1 d → VisitsTy X.source V.valid1 G d.items → Visiting j d e → T d.target e.target → AddrTy D G d.place.addr d.place.ty → work_off X.source s1 d d.items ≡ Some x → Goes X P (work_off (target X) s2 e e.items) x
@@ -202,5 +202,5 @@ module _ (X : Change) (P : Pass) (V : Valids X) (Inv : State → Type 0) (G : Ty
       where
         go : (is js : List Visit) → Items X.source c1.frame y is → VisitsTy X.source V.valid1 G is → VisitsRel j is js → work_off X.source s1 d is ≡ Some x → Goes X P (work_off (target X) s2 e js) x
         go [] js its tys vs q = absurd (grind arith)
-        go (i ∷ is) (k ∷ js) its tys vs q = goes_by X P _ _ x (ap (λ u. visit_if (target X) s2 e k js (needs_drop D u)) (sym vs.0.ty)) (if_goes d e i k is js (needs_drop D i.ty) x y lt bo eb ey its.0 tys.0 r tg vs.0 vs.1 ty refl q)
+        go (i ∷ is) (k ∷ js) its tys vs q = goes_by X P _ _ x (ap (λ u. visit_if (target X) s2 e k js (needs_drop D u)) (sym vs.0.ty)) (if_goes d e i k is js (needs_drop D i.ty) x y lt bo eb ey its.0 tys.0 r tg vs.0 vs.1 ty pl.0 refl q)
         go (i ∷ is) [] its tys vs q = absurd vs

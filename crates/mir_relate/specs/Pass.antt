@@ -25,6 +25,7 @@ use Rattle.mir_syntax.specs.declared.body.Operand.TheVariants.{Move}
 use Rattle.mir_renaming.proofs.Items.{DropPlain, Drops}
 use Rattle.mir_relate.specs.Alike.{Same, AllSame}
 use Rattle.mir_relate.specs.Leaves.{Leaves}
+use Rattle.mir_relate.specs.Mild.{Gentle, FairDests}
 use Rattle.mir_relate.specs.Frames.{Change, target, Pass, lowest, Below, opened, Core}
 
 -- a move through a dereference is of a type that needs no drop
@@ -98,6 +99,7 @@ pub record Related (X : Change) (P : Pass) (V : Valids X) (Inv : State → Type 
   pub typed1 : Typed X.source V.valid1 s1
   pub typed2 : Typed (target X) V.valid2 s2
   pub drops : Drops X.source s1
+  pub dests : FairDests X.source s1.top.function s1.top.dest s1.callers
   pub inv : Inv s1
 
 -- the locals of a control's frame have their types
@@ -108,9 +110,15 @@ abbrev pub KnowsAll : Change → TypeMap → List Control → Type 0
 KnowsAll X G [] = Unit {0}
 KnowsAll X G (c ∷ cs) = Knows X G c × KnowsAll X G cs
 
--- frames that wait are left by all that leaves the locals that nobody has lent
+-- what a step of the source from a memory leads to: it is gentle to the frames below this number, and below the one that runs next
+abbrev pub GentleTo : Change → TypeMap → ℕ → Memory → Next → Type 0
+GentleTo X G k m (on s') = (n : ℕ) → n ≤ k → n ≤ s'.top.frame → Gentle X.source.shapes G n s'.memory m
+GentleTo X G k m (stop o) = Unit {0}
+GentleTo X G k m (fail t) = Unit {0}
+
+-- frames that wait are left by all that leaves the locals that nobody has lent, and is gentle
 abbrev pub KeptLaw : Change → Pass → Type 0
-KeptLaw X P = (G : TypeMap) (j j' : Renaming) (d2 d1 : Option Dest) (c2 c1 : Control) (gs : List Control) (n2 n1 : ℕ) (m2' m1' m2 m1 : Memory) → KnowsAll X G (c1 ∷ gs) → c1.frame < n1 → c2.frame < n2 → (lowest c1 gs).frame ≤ c1.frame → Leaves X.source.shapes G j j' n2 n1 m2' m1' m2 m1 → P.waits j d2 d1 c2 c1 gs m2 m1 → P.waits j' d2 d1 c2 c1 gs m2' m1'
+KeptLaw X P = (G : TypeMap) (j j' : Renaming) (d2 d1 : Option Dest) (c2 c1 : Control) (gs : List Control) (n2 n1 : ℕ) (m2' m1' m2 m1 : Memory) → KnowsAll X G (c1 ∷ gs) → c1.frame < n1 → c2.frame < n2 → (lowest c1 gs).frame ≤ c1.frame → Leaves X.source.shapes G j j' n2 n1 m2' m1' m2 m1 → Gentle X.source.shapes G n1 m1' m1 → P.waits j d2 d1 c2 c1 gs m2 m1 → P.waits j' d2 d1 c2 c1 gs m2' m1'
 
 -- what a pass shows of frames that open, wait and go on
 pub record FrameLaws (X : Change) (P : Pass) (V : Valids X) (Inv : State → Type 0) : Type 1 where
@@ -120,7 +128,7 @@ pub record FrameLaws (X : Change) (P : Pass) (V : Valids X) (Inv : State → Typ
   pub slots : (j : Renaming) (vs ws : List Value) → AllSame j vs ws → length vs ≤ X.body1.args → (x y : ℕ) → P.place x ≡ Some y → (v : Value) → slice_get (new_slots X.source.shapes X.body1.locals vs) x ≡ Some v → SomeRel j v (slice_get (new_slots X.source.shapes X.body2.locals ws) y)
   pub begins : (j : Renaming) (k2 k1 : ℕ) (d2 d1 : Option Dest) (m2 m1 : Memory) (vs ws : List Value) → AllSame j vs ws → length vs ≤ X.body1.args → ((x : ℕ) → j k1 x ≡ None) → ((h x g y : ℕ) → j h x ≡ Some (g, y) → g < k2) → Linked (opened j k2 k1 P.place) (opened j k2 k1 P.place) (open_frame m2 k2 (new_slots X.source.shapes X.body2.locals ws)) (open_frame m1 k1 (new_slots X.source.shapes X.body1.locals vs)) → (n : ℕ) × P.own n (opened j k2 k1 P.place) (new_control X.f k2 d2) (new_control X.f k1 d1) [] (open_frame m2 k2 (new_slots X.source.shapes X.body2.locals ws)) (open_frame m1 k1 (new_slots X.source.shapes X.body1.locals vs))
   -- another function returns to it
-  pub resumes : (n : ℕ) (s2 s1 : State) (r : Related X P V Inv n s2 s1) (m2 m1 : Memory) (c2 c1 : Control) (gs ds cs2 : List Control) (v w : Value) (x : Next) → s1.callers ≡ c1 ∷ (gs ++ ds) → s2.callers ≡ c2 ∷ cs2 → m2 ≡ close_frame s2.memory s2.top.frame → m1 ≡ close_frame s1.memory s1.top.frame → Linked r.core.lent r.core.lent m2 m1 → P.waits r.core.lent s2.top.dest s1.top.dest c2 c1 gs m2 m1 → Below X P r.core.lent c2.dest (lowest c1 gs).dest c2.frame (lowest c1 gs).frame cs2 ds m2 m1 → c1.frame < s1.top.frame → c2.frame < s2.top.frame → (lowest c1 gs).frame ≤ c1.frame → ((d : Dest) → s1.top.dest ≡ Some d → (t : Tree) × AddrTy X.source.shapes r.typed1.types d.addr t) → Same r.core.lent v w → return_to X.source.shapes s1 m1 s1.top.dest (c1 ∷ (gs ++ ds)) v ≡ Some x → Goes X P (return_to X.source.shapes s2 m2 s2.top.dest (c2 ∷ cs2) w) x
+  pub resumes : (n : ℕ) (s2 s1 : State) (r : Related X P V Inv n s2 s1) (m2 m1 : Memory) (c2 c1 : Control) (gs ds cs2 : List Control) (v w : Value) (x : Next) → s1.callers ≡ c1 ∷ (gs ++ ds) → s2.callers ≡ c2 ∷ cs2 → m2 ≡ close_frame s2.memory s2.top.frame → m1 ≡ close_frame s1.memory s1.top.frame → Linked r.core.lent r.core.lent m2 m1 → P.waits r.core.lent s2.top.dest s1.top.dest c2 c1 gs m2 m1 → Below X P r.core.lent c2.dest (lowest c1 gs).dest c2.frame (lowest c1 gs).frame cs2 ds m2 m1 → c1.frame < s1.top.frame → c2.frame < s2.top.frame → (lowest c1 gs).frame ≤ c1.frame → ((d : Dest) → s1.top.dest ≡ Some d → (t : Tree) × AddrTy X.source.shapes r.typed1.types d.addr t) → Same r.core.lent v w → return_to X.source.shapes s1 m1 s1.top.dest (c1 ∷ (gs ++ ds)) v ≡ Some x → GentleTo X r.typed1.types c1.frame m1 x → Goes X P (return_to X.source.shapes s2 m2 s2.top.dest (c2 ∷ cs2) w) x
 
 -- what a pass shows
 pub record Laws (X : Change) (P : Pass) (V : Valids X) (Inv : State → Type 0) : Type 1 where
@@ -129,4 +137,4 @@ pub record Laws (X : Change) (P : Pass) (V : Valids X) (Inv : State → Type 0) 
   pub flat : (s : State) (x : Next) → Inv s → step X.source s ≡ Some x → Flat x
   pub frames : FrameLaws X P V Inv
   -- a step of it
-  pub steps : (n : ℕ) (s2 s1 : State) (r : Related X P V Inv n s2 s1) (gs ds : List Control) (x : Next) → s1.callers ≡ gs ++ ds → (lowest s1.top gs).frame ≤ s1.top.frame → P.own n r.core.lent s2.top s1.top gs s2.memory s1.memory → Below X P r.core.lent s2.top.dest (lowest s1.top gs).dest s2.top.frame (lowest s1.top gs).frame s2.callers ds s2.memory s1.memory → step X.source s1 ≡ Some x → Flat x → Answers X P n s2 x
+  pub steps : (n : ℕ) (s2 s1 : State) (r : Related X P V Inv n s2 s1) (gs ds : List Control) (x : Next) → s1.callers ≡ gs ++ ds → (lowest s1.top gs).frame ≤ s1.top.frame → P.own n r.core.lent s2.top s1.top gs s2.memory s1.memory → Below X P r.core.lent s2.top.dest (lowest s1.top gs).dest s2.top.frame (lowest s1.top gs).frame s2.callers ds s2.memory s1.memory → step X.source s1 ≡ Some x → Flat x → GentleTo X r.typed1.types s1.top.frame s1.memory x → Answers X P n s2 x

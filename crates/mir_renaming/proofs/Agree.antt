@@ -12,7 +12,6 @@ use Rattle.mir_renaming.specs.Renaming.{Renaming, ValueRel, MemRel, RootOf}
 use Rattle.mir_syntax.proofs.Binds.{bind_some}
 use Rattle.mir_renaming.proofs.Memory.{root_or_not, write_same, write_other, write_back, write_again}
 use Rattle.mir_renaming.proofs.Types.{TypeMap, AddrTy, some_eq}
-use Rattle.mir_semantics.specs.Step.{on}
 
 some_same : {a b : Value} → Some a ≡ Some b → a ≡ b
 some_same e = grind arith

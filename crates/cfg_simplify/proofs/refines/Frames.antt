@@ -25,7 +25,7 @@ use Rattle.mir_renaming.proofs.Frames.{new_control, open_same}
 use Rattle.mir_renaming.proofs.Agree.{Agree, whole_tight, tight_agree}
 use Rattle.mir_renaming.proofs.Items.{step_parts, DropPlain, Owns, begun_own}
 use Rattle.mir_relate.specs.Alike.{Between, Same, AllSame, Sides, Reads, AllRead}
-use Rattle.mir_relate.specs.Pass.{MoveOk, KnowsAll, Valids, AllMoves, StmtMoves, TermMoves, FewTerm, KeptLaw, FrameLaws, Laws, Goes, Answers, Related}
+use Rattle.mir_relate.specs.Pass.{MoveOk, KnowsAll, Valids, AllMoves, StmtMoves, TermMoves, FewTerm, KeptLaw, GentleTo, FrameLaws, Laws, Goes, Answers, Related}
 use Rattle.mir_relate.specs.Leaves.{Leaves}
 use Rattle.mir_relate.specs.Frames.{Change, target, Pass, lowest, VisitRel, DestsRel, opened, AgreesBy, Visiting, Below}
 use Rattle.mir_relate.proofs.Kept as kept
@@ -34,6 +34,8 @@ use Rattle.mir_relate.proofs.Opens.{opened_at, opened_parts}
 use Rattle.mir_relate.proofs.Enter.{goes_by}
 use Rattle.mir_relate.proofs.Stacks.{visit_up, visits_up, dests_up, knows_all}
 use Rattle.mir_relate.proofs.Single.{back_core, knows_waiting, step_is}
+use Rattle.mir_relate.specs.Mild.{Gentle}
+use Rattle.mir_relate.proofs.Mild.{gentle_none, gentle_less, gentle_above, gentle_on}
 use Rattle.mir_relate.proofs.Visits as visits
 use Rattle.mir_relate.proofs.Visits.{agrees_by, agrees_at, blank_left, no_destroyed}
 use Rattle.mir_relate.proofs.Near as near
@@ -161,22 +163,18 @@ module _ (X : Change) (same_locals : X.body2.locals ≡ X.body1.locals) (Place :
     ks = knows_waiting X P V Inv n s2 s1 r c1 ds q
 
     -- a frame that goes on at some place
-    back_at : (m2' m1' : Memory) (e2 e1 : Control) (n' : ℕ) → e2.frame ≡ c2.frame → e1.frame ≡ c1.frame → e2.function ≡ c2.function → e1.function ≡ c1.function → e2.dest ≡ c2.dest → e1.dest ≡ c1.dest → Dropped X same_locals Place jumps r.core.lent e1.dropping e2.dropping → Place n' e2.block e2.at e1.block e1.at → Busy X same_locals Place jumps e1 → Linked r.core.lent r.core.lent m2' m1' → Leaves D r.typed1.types r.core.lent r.core.lent (suc c2.frame) (suc c1.frame) m2' m1' m2 m1 → Goes X P (go_on (record s2 { callers = cs2 }) m2' e2) (on (record s1 { memory = m1'; top = e1; callers = ds }))
-    back_at m2' m1' e2 e1 n' a2 a1 f2 f1 d2 d1 dr h bz l' lv =
+    back_at : (m2' m1' : Memory) (e2 e1 : Control) (n' : ℕ) → e2.frame ≡ c2.frame → e1.frame ≡ c1.frame → e2.function ≡ c2.function → e1.function ≡ c1.function → e2.dest ≡ c2.dest → e1.dest ≡ c1.dest → Dropped X same_locals Place jumps r.core.lent e1.dropping e2.dropping → Place n' e2.block e2.at e1.block e1.at → Busy X same_locals Place jumps e1 → Linked r.core.lent r.core.lent m2' m1' → Leaves D r.typed1.types r.core.lent r.core.lent (suc c2.frame) (suc c1.frame) m2' m1' m2 m1 → Gentle D r.typed1.types c1.frame m1' m1 → Goes X P (go_on (record s2 { callers = cs2 }) m2' e2) (on (record s1 { memory = m1'; top = e1; callers = ds }))
+    back_at m2' m1' e2 e1 n' a2 a1 f2 f1 d2 d1 dr h bz l' lv ge =
         let j = r.core.lent in
         let be' : Below X P j e2.dest e1.dest e2.frame e1.frame cs2 ds m2 m1 = subst (λ g. Below X P j e2.dest e1.dest g e1.frame cs2 ds m2 m1) (sym a2) (subst (λ g. Below X P j e2.dest e1.dest c2.frame g cs2 ds m2 m1) (sym a1) (subst (λ d. Below X P j d e1.dest c2.frame c1.frame cs2 ds m2 m1) (sym d2) (subst (λ d. Below X P j c2.dest d c2.frame c1.frame cs2 ds m2 m1) (sym d1) be))) in
-        let ag' : AgreesBy X j c1 m2' m1' = agrees_by X r.typed1.types j j (suc c2.frame) (suc c1.frame) m2' m1' m2 m1 c1 (omega arith) ks.0 lv ag in (
-          n',
-          _,
-          refl,
-          back_core X P V Inv kept n s2 s1 r m2 m1 m2' m1' e2 e1 ds cs2 ks.1 be' (omega (arith, a1, l1)) (omega (arith, a2, l2)) l'
-              (leaves_less D r.typed1.types j j (suc c2.frame) (suc c1.frame) e2.frame e1.frame m2' m1' m2 m1 (omega (arith, a2)) (omega (arith, a1)) lv)
-              n' (refl, moved X same_locals Place jumps i n' j c2 c1 e2 e1 a2 a1 f2 f1 dr h bz st, agrees_at X j c1 e1 m2' m1' f1 a1 ag'),
-        )
+        let ag' : AgreesBy X j c1 m2' m1' = agrees_by X r.typed1.types j j (suc c2.frame) (suc c1.frame) m2' m1' m2 m1 c1 (omega arith) ks.0 lv ag in
+        (n', _, refl, back_core X P V Inv kept n s2 s1 r m2 m1 m2' m1' e2 e1 ds cs2 ks.1 be' (omega (arith, a1, l1)) (omega (arith, a2, l2)) l'
+          (leaves_less D r.typed1.types j j (suc c2.frame) (suc c1.frame) e2.frame e1.frame m2' m1' m2 m1 (omega (arith, a2)) (omega (arith, a1)) lv) (gentle_less D r.typed1.types c1.frame e1.frame m1' m1 (omega (arith, a1)) ge)
+          n' (refl, moved X same_locals Place jumps i n' j c2 c1 e2 e1 a2 a1 f2 f1 dr h bz st, agrees_at X j c1 e1 m2' m1' f1 a1 ag'))
 
-    back : (d2 d1 : Option Dest) → DestsRel r.core.lent d1 d2 → ((d : Dest) → d1 ≡ Some d → (t : Tree) × AddrTy D r.typed1.types d.addr t) → Same r.core.lent v w → return_to D s1 m1 d1 (c1 ∷ ds) v ≡ Some x → Goes X P (return_to D s2 m2 d2 (c2 ∷ cs2) w) x
+    back : (d2 d1 : Option Dest) → DestsRel r.core.lent d1 d2 → ((d : Dest) → d1 ≡ Some d → (t : Tree) × AddrTy D r.typed1.types d.addr t) → Same r.core.lent v w → GentleTo X r.typed1.types c1.frame m1 x → return_to D s1 m1 d1 (c1 ∷ ds) v ≡ Some x → Goes X P (return_to D s2 m2 d2 (c2 ∷ cs2) w) x
     unfolding return_to
-    back None None dr dt hv e = at_drop c1.dropping c2.dropping refl refl st.drops
+    back None None dr dt hv ge e = at_drop c1.dropping c2.dropping refl refl st.drops
       where
         at_drop : (o1 o2 : Option Dropping) → c1.dropping ≡ o1 → c2.dropping ≡ o2 → Dropped X same_locals Place jumps r.core.lent o1 o2 → Goes X P (destroyed D (record s2 { memory = m2; callers = cs2 }) c2) x
         at_drop (Some d') (Some e') p1 p2 dr =
@@ -185,27 +183,27 @@ module _ (X : Change) (same_locals : X.body2.locals ≡ X.body1.locals) (Place :
             let owns = subst (Owns X.source) q r.drops.callers in
             let tys = subst (MaybeDrop X.source V.valid1 G) p1 (subst (FramesTy X.source V.valid1 G) q r.typed1.callers).0.dropping in
             visits.destroyed_goes X P V Inv G j (record s2 { memory = m2; callers = cs2 }) (record s1 { memory = m1; callers = ds }) c2 c1 l ag ks.0 (λ u1 u2. Tos u2 u1)
-            (λ d e vs tg. back_at m2 m1 (record c2 { dropping = Some e }) (record c1 { dropping = Some d }) i refl refl refl refl refl refl (vs, tg) st.here (λ d0 z k ek. st.busy d' p1 k ek) l (leaves_none D G j (suc c2.frame) (suc c1.frame) m2 m1))
-            (λ u1 u2 tg a b t old ab ty eo. (let (i', h) = tg in let (l', lv) = blank_left D G j m2 m1 (suc c2.frame) (suc c1.frame) a b t old l ab ty eo in back_at (write m2 b (blank D t)) (write m1 a (blank D t)) (to_block u2 c2) (to_block u1 c1) i' refl refl refl refl refl refl tt h (λ d z. absurd (let y : ◌≡◌ {A = Option Dropping} None (Some d) = z in grind arith)) l' lv))
+            (λ d e vs tg. back_at m2 m1 (record c2 { dropping = Some e }) (record c1 { dropping = Some d }) i refl refl refl refl refl refl (vs, tg) st.here (λ d0 z k ek. st.busy d' p1 k ek) l (leaves_none D G j (suc c2.frame) (suc c1.frame) m2 m1) (gentle_none D G c1.frame m1))
+            (λ u1 u2 tg a b t old ab ty eo pl. (let (i', h) = tg in let (l', lv) = blank_left D G j m2 m1 (suc c2.frame) (suc c1.frame) a b t old l ab ty eo in back_at (write m2 b (blank D t)) (write m1 a (blank D t)) (to_block u2 c2) (to_block u1 c1) i' refl refl refl refl refl refl tt h (λ d z. absurd (let y : ◌≡◌ {A = Option Dropping} None (Some d) = z in grind arith)) l' lv (gentle_above D G c1.frame m1 a (blank D t) (omega (arith, pl)))))
             d' e' x p1 p2 dr.0 dr.1 (owns.0 d' p1) (owns.1 d' p1) tys.0 tys.1 e
         at_drop None o2 p1 p2 dr = absurd (no_destroyed D (record s1 { memory = m1; callers = ds }) c1 x p1 e)
         at_drop (Some d) None p1 p2 dr = absurd dr
-    back (Some d2) (Some d1) dr dt hv e =
+    back (Some d2) (Some d1) dr dt hv ge e =
         let (t, at) = dt d1 refl in
         let (m1', e1, k1) = bind_some e in
         let G = r.typed1.types in
         let j = r.core.lent in
         let (m2', g1, l', lv) = near.store_leaves D G j (suc c2.frame) (suc c1.frame) m2 m1 m2 m1 m1' d1 d2 t v w l (leaves_none D G j (suc c2.frame) (suc c1.frame) m2 m1) dr at hv e1 in
-        subst (λ o. Goes X P o x) (sym (some_bind _ g1 refl)) (subst (λ z. Goes X P (go_on (record s2 { callers = cs2 }) m2' c2) z) (some_val k1) (back_at m2' m1' c2 c1 i refl refl refl refl refl refl st.drops st.here st.busy l' lv))
-    back None (Some d1) dr dt hv e = absurd dr
-    back (Some d2) None dr dt hv e = absurd dr
+        subst (λ o. Goes X P o x) (sym (some_bind _ g1 refl)) (subst (λ z. Goes X P (go_on (record s2 { callers = cs2 }) m2' c2) z) (some_val k1) (back_at m2' m1' c2 c1 i refl refl refl refl refl refl st.drops st.here st.busy l' lv (gentle_on X G c1.frame m1 (record s1 { memory = m1'; top = c1; callers = ds }) x ge k1 (omega arith))))
+    back None (Some d1) dr dt hv ge e = absurd dr
+    back (Some d2) None dr dt hv ge e = absurd dr
 
   kept_law : KeptLaw X P
-  kept_law G j j' d2 d1 c2 c1 gs n2 n1 m2' m1' m2 m1 ks l1 l2 lo l (e, (i, st), dr, ag) = (e, (i, stand_kept X same_locals Place jumps D G j j' i c2 c1 n2 n1 m2' m1' m2 m1 l1 l2 l st), dests_up j j' l.up d1 d2 dr, agrees_by X G j j' n2 n1 m2' m1' m2 m1 c1 l1 ks.0 l ag)
+  kept_law G j j' d2 d1 c2 c1 gs n2 n1 m2' m1' m2 m1 ks l1 l2 lo l ge (e, (i, st), dr, ag) = (e, (i, stand_kept X same_locals Place jumps D G j j' i c2 c1 n2 n1 m2' m1' m2 m1 l1 l2 l st), dests_up j j' l.up d1 d2 dr, agrees_by X G j j' n2 n1 m2' m1' m2 m1 c1 l1 ks.0 l ag)
 
-  resumed : (n : ℕ) (s2 s1 : State) (r : Related X P V Inv n s2 s1) (m2 m1 : Memory) (c2 c1 : Control) (gs ds cs2 : List Control) (v w : Value) (x : Next) → s1.callers ≡ c1 ∷ (gs ++ ds) → Linked r.core.lent r.core.lent m2 m1 → P.waits r.core.lent s2.top.dest s1.top.dest c2 c1 gs m2 m1 → Below X P r.core.lent c2.dest (lowest c1 gs).dest c2.frame (lowest c1 gs).frame cs2 ds m2 m1 → c1.frame < s1.top.frame → c2.frame < s2.top.frame → ((d : Dest) → s1.top.dest ≡ Some d → (t : Tree) × AddrTy D r.typed1.types d.addr t) → Same r.core.lent v w → return_to D s1 m1 s1.top.dest (c1 ∷ (gs ++ ds)) v ≡ Some x → Goes X P (return_to D s2 m2 s2.top.dest (c2 ∷ cs2) w) x
-  resumed n s2 s1 r m2 m1 c2 c1 [] ds cs2 v w x q l (e, (i, st), dr, ag) be l1 l2 dt hv k = back kept_law n s2 s1 r m2 m1 c2 c1 ds cs2 v w x q l i st ag be l1 l2 s2.top.dest s1.top.dest dr dt hv k
-  resumed n s2 s1 r m2 m1 c2 c1 (g ∷ gs) ds cs2 v w x q l (e, st, dr, ag) be l1 l2 dt hv k = absurd (grind arith)
+  resumed : (n : ℕ) (s2 s1 : State) (r : Related X P V Inv n s2 s1) (m2 m1 : Memory) (c2 c1 : Control) (gs ds cs2 : List Control) (v w : Value) (x : Next) → s1.callers ≡ c1 ∷ (gs ++ ds) → Linked r.core.lent r.core.lent m2 m1 → P.waits r.core.lent s2.top.dest s1.top.dest c2 c1 gs m2 m1 → Below X P r.core.lent c2.dest (lowest c1 gs).dest c2.frame (lowest c1 gs).frame cs2 ds m2 m1 → c1.frame < s1.top.frame → c2.frame < s2.top.frame → ((d : Dest) → s1.top.dest ≡ Some d → (t : Tree) × AddrTy D r.typed1.types d.addr t) → Same r.core.lent v w → return_to D s1 m1 s1.top.dest (c1 ∷ (gs ++ ds)) v ≡ Some x → GentleTo X r.typed1.types c1.frame m1 x → Goes X P (return_to D s2 m2 s2.top.dest (c2 ∷ cs2) w) x
+  resumed n s2 s1 r m2 m1 c2 c1 [] ds cs2 v w x q l (e, (i, st), dr, ag) be l1 l2 dt hv k ge = back kept_law n s2 s1 r m2 m1 c2 c1 ds cs2 v w x q l i st ag be l1 l2 s2.top.dest s1.top.dest dr dt hv ge k
+  resumed n s2 s1 r m2 m1 c2 c1 (g ∷ gs) ds cs2 v w x q l (e, st, dr, ag) be l1 l2 dt hv k ge = absurd (grind arith)
 
   pub frames : FrameLaws X P V Inv
   frames = record {
@@ -213,7 +211,7 @@ module _ (X : Change) (same_locals : X.body2.locals ≡ X.body1.locals) (Place :
     once = λ x x' y e e'. some_val (e ∙ sym e');
     slots = λ j vs ws hv few x y e v q. subst (λ y. SomeRel j v (slice_get (new_slots D X.body2.locals ws) y)) (some_val e) (slots_same X same_locals Place jumps j vs ws hv.0 x v q);
     begins = λ j k2 k1 d2 d1 m2 m1 vs ws hv few f1 f2 l. (let (n, st) = stand_begins X same_locals Place jumps j k2 k1 d2 d1 f1 f2 in (n, (refl, st, agree_begins X same_locals Place jumps j k2 k1 d1 m2 m1 vs ws hv f1 f2)));
-    resumes = λ n s2 s1 r m2 m1 c2 c1 gs ds cs2 v w x q q2 p2 p1 l wt be l1 l2 lo dt hv k. resumed n s2 s1 r m2 m1 c2 c1 gs ds cs2 v w x q l wt be l1 l2 dt hv k;
+    resumes = λ n s2 s1 r m2 m1 c2 c1 gs ds cs2 v w x q q2 p2 p1 l wt be l1 l2 lo dt hv k ge. resumed n s2 s1 r m2 m1 c2 c1 gs ds cs2 v w x q l wt be l1 l2 dt hv k ge;
   }
 
   -- ---- a step
@@ -360,24 +358,24 @@ module _ (X : Change) (same_locals : X.body2.locals ≡ X.body1.locals) (Place :
         let (d, e1, k1) = bind_some z in
         let (d2, g1, vs0, tg0, pty, tys) = begins_drop p u1 u2 s1.top.dropping s2.top.dropping d hu refl st.drops e1 in
         goes_by X P _ _ x (some_bind _ g1 refl) (visits.work_off_goes X P V Inv G j s2 s1 s2.top s1.top r.core.linked ag r.typed1.top.locals (λ u1 u2. Tos u2 u1)
-        (λ d e vs tg. (n, _, refl, own.own_core X P V Inv frames n s2 s1 r [] s1.callers refl (omega arith) be n s2.memory s1.memory (record s2.top { dropping = Some e }) (record s1.top { dropping = Some d }) refl refl refl refl (left s2.memory s1.memory first) (refl, dropping_at hb d e vs tg, ag)))
-        (λ u1 u2 tg a b t old ab ty eo. (let (l', lv) = blank_left D G j s2.memory s1.memory (suc f2) (suc f1) a b t old r.core.linked ab ty eo in let (n', o) = edge (write s2.memory b (blank D t)) (write s1.memory a (blank D t)) u2 u1 tg (agreed (write s2.memory b (blank D t)) (write s1.memory a (blank D t)) lv) in (n', _, refl, own.own_core X P V Inv frames n s2 s1 r [] s1.callers refl (omega arith) be n' (write s2.memory b (blank D t)) (write s1.memory a (blank D t)) (to_block u2 s2.top) (to_block u1 s1.top) refl refl refl refl (l', less (write s2.memory b (blank D t)) (write s1.memory a (blank D t)) lv) o)))
+        (λ d e vs tg. (n, _, refl, own.own_core X P V Inv frames n s2 s1 r [] s1.callers refl (omega arith) be n s2.memory s1.memory (record s2.top { dropping = Some e }) (record s1.top { dropping = Some d }) refl refl refl refl (left s2.memory s1.memory first) (gentle_none D G f1 s1.memory) (refl, dropping_at hb d e vs tg, ag)))
+        (λ u1 u2 tg a b t old ab ty eo pl. (let (l', lv) = blank_left D G j s2.memory s1.memory (suc f2) (suc f1) a b t old r.core.linked ab ty eo in let (n', o) = edge (write s2.memory b (blank D t)) (write s1.memory a (blank D t)) u2 u1 tg (agreed (write s2.memory b (blank D t)) (write s1.memory a (blank D t)) lv) in (n', _, refl, own.own_core X P V Inv frames n s2 s1 r [] s1.callers refl (omega arith) be n' (write s2.memory b (blank D t)) (write s1.memory a (blank D t)) (to_block u2 s2.top) (to_block u1 s1.top) refl refl refl refl (l', less (write s2.memory b (blank D t)) (write s1.memory a (blank D t)) lv) (gentle_above D G f1 s1.memory a (blank D t) (omega (arith, pl))) o)))
         frames refl refl r.core.base (r.typed1.top.locals, knows_all X V G s1.callers r.typed1.callers)
         (λ d e vs tg. inr (record s1.top { dropping = Some d }, [], s1.callers, refl, r.core.base.top1, r.core.base.top2, omega arith, (refl, (n, dropping_at hb d e vs tg), tt, ag), be))
         d d2 x (begun_own X.source s1 r.drops X.body1 eb p u1 s1.top.dropping d hd refl e1) tys vs0 tg0 pty k1)
 
-    by_same_step : (t t2 : Term) → SameTerm Tos t2 t → is_drop t ≡ false → TermMoves H1 t → TermTy X.source H1 t → FewTerm X.source t → (x : Next) → finish X.source H1 s1 t ≡ Some x → Flat x → Goes X P (finish (target X) S.target s2 t2) x
-    by_same_step t t2 h nd mo ty few x e fl = own.same_step_goes X P V Inv frames n s2 s1 r [] s1.callers refl (omega arith) be S Q left refl first refl refl X.body1 eb (λ h x y v e q. (st.only h x y e).0) (λ h x y lt e. (let z = (st.only h x y e).0 in omega (arith, z, lt))) t t2 x few (same_step t t2 h nd mo ty) e fl
+    by_same_step : (t t2 : Term) → SameTerm Tos t2 t → is_drop t ≡ false → TermMoves H1 t → TermTy X.source H1 t → FewTerm X.source t → (x : Next) → finish X.source H1 s1 t ≡ Some x → Flat x → GentleTo X G f1 s1.memory x → Goes X P (finish (target X) S.target s2 t2) x
+    by_same_step t t2 h nd mo ty few x e fl ge = own.same_step_goes X P V Inv frames n s2 s1 r [] s1.callers refl (omega arith) be S Q left refl first refl refl X.body1 eb (λ h x y v e q. (st.only h x y e).0) (λ h x y lt e. (let z = (st.only h x y e).0 in omega (arith, z, lt))) t t2 x few (same_step t t2 h nd mo ty) e fl ge
 
-    end_goes : (t t2 : Term) → ((k : TypedBlock) → slice_get X.body1.blocks s1.top.block ≡ Some k → (k.term ≡ t) × (slice_get k.stmts s1.top.at ≡ None)) → SameTerm Tos t2 t → TermMoves H1 t → TermTy X.source H1 t → FewTerm X.source t → DropPlain t → (x : Next) → finish X.source H1 s1 t ≡ Some x → Flat x → Goes X P (finish (target X) S.target s2 t2) x
-    end_goes (Drop p u1) (Drop q u2) hk h mo ty few hd x e fl = subst (λ q. Goes X P (finish (target X) S.target s2 (Drop q u2)) x) (sym h.0) (drop_goes (λ k ek. (let (t, z) = hk k ek in (ap is_drop t, z))) p u1 u2 h.1 hd x e)
-    end_goes (Goto u1) t2 hk h mo ty few hd x e fl = by_same_step (Goto u1) t2 h refl mo ty few x e fl
-    end_goes (Switch o arms u1) t2 hk h mo ty few hd x e fl = by_same_step (Switch o arms u1) t2 h refl mo ty few x e fl
-    end_goes Return t2 hk h mo ty few hd x e fl = by_same_step Return t2 h refl mo ty few x e fl
-    end_goes Unreachable t2 hk h mo ty few hd x e fl = by_same_step Unreachable t2 h refl mo ty few x e fl
-    end_goes (Call p g os u1) t2 hk h mo ty few hd x e fl = by_same_step (Call p g os u1) t2 h refl mo ty few x e fl
-    end_goes (Assert o c ws os u1) t2 hk h mo ty few hd x e fl = by_same_step (Assert o c ws os u1) t2 h refl mo ty few x e fl
-    end_goes (Drop p u1) t2 hk h mo ty few hd x e fl = absurd h
+    end_goes : (t t2 : Term) → ((k : TypedBlock) → slice_get X.body1.blocks s1.top.block ≡ Some k → (k.term ≡ t) × (slice_get k.stmts s1.top.at ≡ None)) → SameTerm Tos t2 t → TermMoves H1 t → TermTy X.source H1 t → FewTerm X.source t → DropPlain t → (x : Next) → finish X.source H1 s1 t ≡ Some x → Flat x → GentleTo X G f1 s1.memory x → Goes X P (finish (target X) S.target s2 t2) x
+    end_goes (Drop p u1) (Drop q u2) hk h mo ty few hd x e fl ge = subst (λ q. Goes X P (finish (target X) S.target s2 (Drop q u2)) x) (sym h.0) (drop_goes (λ k ek. (let (t, z) = hk k ek in (ap is_drop t, z))) p u1 u2 h.1 hd x e)
+    end_goes (Goto u1) t2 hk h mo ty few hd x e fl ge = by_same_step (Goto u1) t2 h refl mo ty few x e fl ge
+    end_goes (Switch o arms u1) t2 hk h mo ty few hd x e fl ge = by_same_step (Switch o arms u1) t2 h refl mo ty few x e fl ge
+    end_goes Return t2 hk h mo ty few hd x e fl ge = by_same_step Return t2 h refl mo ty few x e fl ge
+    end_goes Unreachable t2 hk h mo ty few hd x e fl ge = by_same_step Unreachable t2 h refl mo ty few x e fl ge
+    end_goes (Call p g os u1) t2 hk h mo ty few hd x e fl ge = by_same_step (Call p g os u1) t2 h refl mo ty few x e fl ge
+    end_goes (Assert o c ws os u1) t2 hk h mo ty few hd x e fl ge = by_same_step (Assert o c ws os u1) t2 h refl mo ty few x e fl ge
+    end_goes (Drop p u1) t2 hk h mo ty few hd x e fl ge = absurd h
 
     payloads : text.PayloadsOk D ts1 ts2 f1 f2 j j (sub_self j) s2.memory
     payloads q b t us k u er et ev e =
@@ -410,20 +408,20 @@ module _ (X : Change) (same_locals : X.body2.locals ≡ X.body1.locals) (Place :
     all_ok (storage_dead x) = st.roots x
     all_ok (set_discriminant p i) = st.roots p.local
 
-    stmt_step : (k1 k2 : TypedBlock) (n' : ℕ) (s : TypedStmt) (x : Next) → slice_get X.body1.blocks s1.top.block ≡ Some k1 → slice_get k1.stmts s1.top.at ≡ Some s → slice_get X.body2.blocks s2.top.block ≡ Some k2 → slice_get k2.stmts s2.top.at ≡ Some s → Place n' s2.top.block (suc s2.top.at) s1.top.block (suc s1.top.at) → StmtMoves H1 s → StmtTy D G bok ts1 f1 lok s → perform X.source H1 s1 k1.term (Some s) ≡ Some x → Answers X P n s2 x
+    stmt_step : (k1 k2 : TypedBlock) (n' : ℕ) (s : TypedStmt) (x : Next) → slice_get X.body1.blocks s1.top.block ≡ Some k1 → slice_get k1.stmts s1.top.at ≡ Some s → slice_get X.body2.blocks s2.top.block ≡ Some k2 → slice_get k2.stmts s2.top.at ≡ Some s → Place n' s2.top.block (suc s2.top.at) s1.top.block (suc s1.top.at) → StmtMoves H1 s → StmtTy D G bok ts1 f1 lok s → perform X.source H1 s1 k1.term (Some s) ≡ Some x → GentleTo X G f1 s1.memory x → Answers X P n s2 x
     unfolding perform
-    stmt_step k1 k2 n' s x i1 at1 i2 at2 h mo ty e =
+    stmt_step k1 k2 n' s x i1 at1 i2 at2 h mo ty e ge =
         let (m1', e1, q) = bind_some e in
         let (m2', g1, q2) = kept.exec_as D ts1 ts2 f1 f2 j j (sub_self j) G bok lok Q keeps s s (itself.stmt_self D ts1 ts2 f1 f2 j j (sub_self j) G bok lok types Q keeps s (all_ok s) mo ty) s2.memory s1.memory m1' (λ u. payloads) first e1 in
         let st' = moved X same_locals Place jumps n n' j s2.top s1.top (next_stmt s2.top) (next_stmt s1.top) refl refl refl refl st.drops h (λ d z k ek. absurd (idle k1 s i1 at1 d z k ek)) st in
-        subst (Answers X P n s2) (some_val q) (1, n', record s2 { memory = m2'; top = next_stmt s2.top }, ap (keep_on (λ s. Some s)) (target_is k2 i2 ∙ ap (perform (target X) S.target s2 k2.term) at2 ∙ some_bind _ g1 refl), own.own_core X P V Inv frames n s2 s1 r [] s1.callers refl (omega arith) be n' m2' m1' (next_stmt s2.top) (next_stmt s1.top) refl refl refl refl (left m2' m1' q2) (refl, st', agreed m2' m1' q2.leaves), inl (omega arith))
+        subst (Answers X P n s2) (some_val q) (1, n', record s2 { memory = m2'; top = next_stmt s2.top }, ap (keep_on (λ s. Some s)) (target_is k2 i2 ∙ ap (perform (target X) S.target s2 k2.term) at2 ∙ some_bind _ g1 refl), own.own_core X P V Inv frames n s2 s1 r [] s1.callers refl (omega arith) be n' m2' m1' (next_stmt s2.top) (next_stmt s1.top) refl refl refl refl (left m2' m1' q2) (gentle_on X G f1 s1.memory (record s1 { memory = m1'; top = next_stmt s1.top }) x ge q (omega arith)) (refl, st', agreed m2' m1' q2.leaves), inl (omega arith))
 
     -- a goto of the source alone
     goto_step : (u n' : ℕ) (x : Next) → Place n' s2.top.block s2.top.at u 0 → n' < n → finish X.source H1 s1 (Goto u) ≡ Some x → Dropped X same_locals Place jumps j None s2.top.dropping → Answers X P n s2 x
     unfolding finish
     goto_step u n' x h lt e none =
         let st' = moved X same_locals Place jumps n n' j s2.top s1.top s2.top (to_block u s1.top) refl refl refl refl none h (λ d z. absurd (let y : ◌≡◌ {A = Option Dropping} None (Some d) = z in grind arith)) st in
-        subst (Answers X P n s2) (some_val e) (0, n', s2, refl, own.own_core X P V Inv frames n s2 s1 r [] s1.callers refl (omega arith) be n' s2.memory s1.memory s2.top (to_block u s1.top) refl refl refl refl (left s2.memory s1.memory first) (refl, st', ag), inr lt)
+        subst (Answers X P n s2) (some_val e) (0, n', s2, refl, own.own_core X P V Inv frames n s2 s1 r [] s1.callers refl (omega arith) be n' s2.memory s1.memory s2.top (to_block u s1.top) refl refl refl refl (left s2.memory s1.memory first) (gentle_none D G f1 s1.memory) (refl, st', ag), inr lt)
 
     finish_is : (t : Term) (x : Next) → perform X.source H1 s1 t None ≡ Some x → finish X.source H1 s1 t ≡ Some x
     unfolding perform
@@ -433,8 +431,8 @@ module _ (X : Change) (same_locals : X.body2.locals ≡ X.body1.locals) (Place :
     unfolding perform
     ends k2 at2 = ap (perform (target X) S.target s2 k2.term) at2
 
-    one_step : (x : Next) → step X.source s1 ≡ Some x → Flat x → Answers X P n s2 x
-    one_step x e fl =
+    one_step : (x : Next) → step X.source s1 ≡ Some x → Flat x → GentleTo X G f1 s1.memory x → Answers X P n s2 x
+    one_step x e fl ge =
         let (bo, k1, ebo, ek, q) = step_parts X.source s1 x e in
         let sb : bo ≡ X.body1 = some_val (sym ebo ∙ eb) in
         let i1 : slice_get X.body1.blocks s1.top.block ≡ Some k1 = ap (λ (b : TypedBody). slice_get b.blocks s1.top.block) (sym sb) ∙ ek in
@@ -448,7 +446,7 @@ module _ (X : Change) (same_locals : X.body2.locals ≡ X.body1.locals) (Place :
         go k1 i1 (Some s) at1 m q = by_stmt (subst (λ o. Meets Place n X.body2 s2.top.block s2.top.at s1.top.block s1.top.at k1.term o) at1 m) (subst (λ o. perform X.source H1 s1 k1.term o ≡ Some x) at1 q)
           where
             by_stmt : Meets Place n X.body2 s2.top.block s2.top.at s1.top.block s1.top.at k1.term (Some s) → perform X.source H1 s1 k1.term (Some s) ≡ Some x → Answers X P n s2 x
-            by_stmt (k2, n', i2, at2, h) q = stmt_step k1 k2 n' s x i1 at1 i2 at2 h (V.stmts f1 s1.top.function X.body1 s1.top.block k1 s1.top.at s eb i1 at1) (V.valid1.stmts G f1 s1.top.function X.body1 s1.top.block k1 s1.top.at s eb i1 at1 lok) q
+            by_stmt (k2, n', i2, at2, h) q = stmt_step k1 k2 n' s x i1 at1 i2 at2 h (V.stmts f1 s1.top.function X.body1 s1.top.block k1 s1.top.at s eb i1 at1) (V.valid1.stmts G f1 s1.top.function X.body1 s1.top.block k1 s1.top.at s eb i1 at1 lok) q ge
         go k1 i1 None at1 m q = by_end (subst (λ o. Meets Place n X.body2 s2.top.block s2.top.at s1.top.block s1.top.at k1.term o) at1 m) (finish_is k1.term x (subst (λ o. perform X.source H1 s1 k1.term o ≡ Some x) at1 q))
           where
             by_end : Meets Place n X.body2 s2.top.block s2.top.at s1.top.block s1.top.at k1.term None → finish X.source H1 s1 k1.term ≡ Some x → Answers X P n s2 x
@@ -456,11 +454,11 @@ module _ (X : Change) (same_locals : X.body2.locals ≡ X.body1.locals) (Place :
             by_end (inr (k2, i2, at2, ts)) q =
                 goes_answer X P n s2 x (subst (λ o. Goes X P o x) (sym (target_is k2 i2 ∙ ends k2 at2))
                 (end_goes k1.term k2.term (λ k ek. (let same : k1 ≡ k = some_val (sym i1 ∙ ek) in (ap (λ (k : TypedBlock). k.term) (sym same), ap (λ (k : TypedBlock). slice_get k.stmts s1.top.at) (sym same) ∙ at1))) ts
-                (V.terms f1 s1.top.function X.body1 s1.top.block k1 eb i1) (V.valid1.terms f1 s1.top.function X.body1 s1.top.block k1 eb i1) (V.calls s1.top.function X.body1 s1.top.block k1 eb i1) (V.plain s1.top.function X.body1 s1.top.block k1 eb i1) x q fl))
+                (V.terms f1 s1.top.function X.body1 s1.top.block k1 eb i1) (V.valid1.terms f1 s1.top.function X.body1 s1.top.block k1 eb i1) (V.calls s1.top.function X.body1 s1.top.block k1 eb i1) (V.plain s1.top.function X.body1 s1.top.block k1 eb i1) x q fl ge))
 
-  steps_law : (n : ℕ) (s2 s1 : State) (r : Related X P V Inv n s2 s1) (gs ds : List Control) (x : Next) → s1.callers ≡ gs ++ ds → P.own n r.core.lent s2.top s1.top gs s2.memory s1.memory → Below X P r.core.lent s2.top.dest (lowest s1.top gs).dest s2.top.frame (lowest s1.top gs).frame s2.callers ds s2.memory s1.memory → step X.source s1 ≡ Some x → Flat x → Answers X P n s2 x
-  steps_law n s2 s1 r [] ds x q (e, st, ag) be k fl = one_step n s2 s1 r st ag (subst (λ cs. Below X P r.core.lent s2.top.dest s1.top.dest s2.top.frame s1.top.frame s2.callers cs s2.memory s1.memory) (sym q) be) x k fl
-  steps_law n s2 s1 r (g ∷ gs) ds x q (e, st, ag) be k fl = absurd (grind arith)
+  steps_law : (n : ℕ) (s2 s1 : State) (r : Related X P V Inv n s2 s1) (gs ds : List Control) (x : Next) → s1.callers ≡ gs ++ ds → P.own n r.core.lent s2.top s1.top gs s2.memory s1.memory → Below X P r.core.lent s2.top.dest (lowest s1.top gs).dest s2.top.frame (lowest s1.top gs).frame s2.callers ds s2.memory s1.memory → step X.source s1 ≡ Some x → Flat x → GentleTo X r.typed1.types s1.top.frame s1.memory x → Answers X P n s2 x
+  steps_law n s2 s1 r [] ds x q (e, st, ag) be k fl ge = one_step n s2 s1 r st ag (subst (λ cs. Below X P r.core.lent s2.top.dest s1.top.dest s2.top.frame s1.top.frame s2.callers cs s2.memory s1.memory) (sym q) be) x k fl ge
+  steps_law n s2 s1 r (g ∷ gs) ds x q (e, st, ag) be k fl ge = absurd (grind arith)
 
   pub laws : Laws X P V Inv
-  laws = record { inv_kept = inv_kept; flat = flat; frames = frames; steps = λ n s2 s1 r gs ds x q lo o be k fl. steps_law n s2 s1 r gs ds x q o be k fl }
+  laws = record { inv_kept = inv_kept; flat = flat; frames = frames; steps = λ n s2 s1 r gs ds x q lo o be k fl ge. steps_law n s2 s1 r gs ds x q o be k fl ge }

@@ -25,11 +25,12 @@ use Rattle.mir_renaming.proofs.Slots.{slots_rel, value_in}
 use Rattle.mir_relate.specs.Alike.{Same}
 use Rattle.mir_relate.specs.Leaves.{Leaves}
 use Rattle.mir_relate.specs.Frames.{Change, Pass, lowest, DestsRel, opened, Below}
-use Rattle.mir_relate.specs.Pass.{Valids, KeptLaw, FrameLaws, Goes, Related}
+use Rattle.mir_relate.specs.Pass.{GentleTo, Valids, KeptLaw, FrameLaws, Goes, Related}
 use Rattle.mir_relate.proofs.Leaves.{some_val, leaves_none, leaves_less}
 use Rattle.mir_relate.proofs.Opens.{opened_up}
 use Rattle.mir_relate.proofs.Stacks.{dests_up}
 use Rattle.mir_relate.proofs.Near as near
+use Rattle.mir_relate.proofs.Mild.{gentle_on}
 use Rattle.mir_relate.proofs.Single.{Stand, stand_kept, stand_begins, back_core, knows_waiting}
 use Rattle.mir_relate.proofs.Living.{Holds, Placed, nobody, holds_kept, own_linked, own_leaves, own_holds}
 
@@ -167,7 +168,7 @@ module _ (X : Change) (once : X.body2 ≡ pruned_once X.source.shapes X.body1) w
       }
 
   pub kept_law : KeptLaw X pass
-  kept_law G j j' d2 d1 c2 c1 gs n2 n1 m2' m1' m2 m1 ks l1 l2 lo l (e, (i, st), h) = (e, (i, stand_kept X.f place InBlock D G j j' i c2 c1 n2 n1 m2' m1' m2 m1 l1 l2 l st), go h)
+  kept_law G j j' d2 d1 c2 c1 gs n2 n1 m2' m1' m2 m1 ks l1 l2 lo l ge (e, (i, st), h) = (e, (i, stand_kept X.f place InBlock D G j j' i c2 c1 n2 n1 m2' m1' m2 m1 l1 l2 l st), go h)
     where
       go : DestsRel j d1 d2 × Lives j c2 c1 m2 m1 ⊎ Awaits j d2 d1 c2 c1 m2 m1 → DestsRel j' d1 d2 × Lives j' c2 c1 m2' m1' ⊎ Awaits j' d2 d1 c2 c1 m2' m1'
       go (inl (dr, h)) = inl (dests_up j j' l.up d1 d2 dr, lives_kept G j j' i c2 c1 n2 n1 m2' m1' m2 m1 l1 l2 st l h)
@@ -245,39 +246,39 @@ module _ (X : Change) (once : X.body2 ≡ pruned_once X.source.shapes X.body1) w
       abbrev G : TypeMap
       G = r.typed1.types
 
-      goes_back : (m2' m1' : Memory) (d : Dest) → Linked j j m2' m1' → Leaves D G j j c2.frame c1.frame m2' m1' m2 m1 → Lives j c2 c1 m2' m1' → store D m2 d w ≡ Some m2' → go_on (record s1 { callers = ds }) m1' c1 ≡ Some x → Goes X pass (return_to D s2 m2 (Some d) (c2 ∷ cs2) w) x
+      goes_back : (m2' m1' : Memory) (d : Dest) → Linked j j m2' m1' → Leaves D G j j c2.frame c1.frame m2' m1' m2 m1 → Lives j c2 c1 m2' m1' → store D m2 d w ≡ Some m2' → go_on (record s1 { callers = ds }) m1' c1 ≡ Some x → GentleTo X G c1.frame m1 x → Goes X pass (return_to D s2 m2 (Some d) (c2 ∷ cs2) w) x
       unfolding return_to
-      goes_back m2' m1' d l' lv lives g k = subst (λ o. Goes X pass o x) (sym (some_bind _ g refl)) (subst (λ z. Goes X pass (go_on (record s2 { callers = cs2 }) m2' c2) z) (some_val k) (i, _, refl, back_core X pass V Inv kept_law n s2 s1 r m2 m1 m2' m1' c2 c1 ds cs2 (knows_waiting X pass V Inv n s2 s1 r c1 ds q).1 be l1 l2 l' lv i (refl, st, lives)))
+      goes_back m2' m1' d l' lv lives g k ge = subst (λ o. Goes X pass o x) (sym (some_bind _ g refl)) (subst (λ z. Goes X pass (go_on (record s2 { callers = cs2 }) m2' c2) z) (some_val k) (i, _, refl, back_core X pass V Inv kept_law n s2 s1 r m2 m1 m2' m1' c2 c1 ds cs2 (knows_waiting X pass V Inv n s2 s1 r c1 ds q).1 be l1 l2 l' lv (gentle_on X G c1.frame m1 (record s1 { memory = m1'; top = c1; callers = ds }) x ge k (omega arith)) i (refl, st, lives)))
 
-      far_back : (d2 d1 : Option Dest) → DestsRel j d1 d2 → Lives j c2 c1 m2 m1 → ((d : Dest) → d1 ≡ Some d → (t : Tree) × AddrTy D G d.addr t) → return_to D s1 m1 d1 (c1 ∷ ds) v ≡ Some x → Goes X pass (return_to D s2 m2 d2 (c2 ∷ cs2) w) x
+      far_back : (d2 d1 : Option Dest) → DestsRel j d1 d2 → Lives j c2 c1 m2 m1 → ((d : Dest) → d1 ≡ Some d → (t : Tree) × AddrTy D G d.addr t) → return_to D s1 m1 d1 (c1 ∷ ds) v ≡ Some x → GentleTo X G c1.frame m1 x → Goes X pass (return_to D s2 m2 d2 (c2 ∷ cs2) w) x
       unfolding return_to destroyed
-      far_back None None dr lives dt e = absurd (let (d, e1, k1) = bind_some e in let z : ◌≡◌ {A = Option Dropping} None (Some d) = sym st.calm ∙ e1 in grind arith)
-      far_back (Some d2) (Some d1) dr lives dt e =
+      far_back None None dr lives dt e ge = absurd (let (d, e1, k1) = bind_some e in let z : ◌≡◌ {A = Option Dropping} None (Some d) = sym st.calm ∙ e1 in grind arith)
+      far_back (Some d2) (Some d1) dr lives dt e ge =
           let (t, at) = dt d1 refl in
           let (m1', e1, k1) = bind_some e in
           let (m2', g1, l', lv) = near.store_leaves D G j s2.top.frame s1.top.frame m2 m1 m2 m1 m1' d1 d2 t v w l (leaves_none D G j s2.top.frame s1.top.frame m2 m1) dr at hv e1 in
-          goes_back m2' m1' d2 l' (leaves_less D G j j s2.top.frame s1.top.frame c2.frame c1.frame m2' m1' m2 m1 (omega (arith, l2)) (omega (arith, l1)) lv) (lives_kept G j j i c2 c1 s2.top.frame s1.top.frame m2' m1' m2 m1 l1 l2 st lv lives) g1 k1
-      far_back None (Some d1) dr lives dt e = absurd dr
-      far_back (Some d2) None dr lives dt e = absurd dr
+          goes_back m2' m1' d2 l' (leaves_less D G j j s2.top.frame s1.top.frame c2.frame c1.frame m2' m1' m2 m1 (omega (arith, l2)) (omega (arith, l1)) lv) (lives_kept G j j i c2 c1 s2.top.frame s1.top.frame m2' m1' m2 m1 l1 l2 st lv lives) g1 k1 ge
+      far_back None (Some d1) dr lives dt e ge = absurd dr
+      far_back (Some d2) None dr lives dt e ge = absurd dr
 
-      own_back : (d2 d1 : Option Dest) → Awaits j d2 d1 c2 c1 m2 m1 → return_to D s1 m1 d1 (c1 ∷ ds) v ≡ Some x → Goes X pass (return_to D s2 m2 d2 (c2 ∷ cs2) w) x
+      own_back : (d2 d1 : Option Dest) → Awaits j d2 d1 c2 c1 m2 m1 → return_to D s1 m1 d1 (c1 ∷ ds) v ≡ Some x → GentleTo X G c1.frame m1 x → Goes X pass (return_to D s2 m2 d2 (c2 ∷ cs2) w) x
       unfolding return_to
-      own_back d2 None h e = absurd (let z = h.to1 in grind arith)
-      own_back d2 (Some d1) h e =
+      own_back d2 None h e ge = absurd (let z = h.to1 in grind arith)
+      own_back d2 (Some d1) h e ge =
           let (m1', e1, k1) = bind_some e in
           let (c, ec, (m2', g1, l', lv, lives)) = delivers G j i c2 c1 d2 (Some d1) m2 m1 m1' v w d1 st h l hv.0 refl e1 in
-          subst (λ d. Goes X pass (return_to D s2 m2 d (c2 ∷ cs2) w) x) (sym ec) (goes_back m2' m1' c l' lv lives g1 k1)
+          subst (λ d. Goes X pass (return_to D s2 m2 d (c2 ∷ cs2) w) x) (sym ec) (goes_back m2' m1' c l' lv lives g1 k1 ge)
 
-    resumed : (n : ℕ) (s2 s1 : State) (r : Related X pass V Inv n s2 s1) (m2 m1 : Memory) (c2 c1 : Control) (gs ds cs2 : List Control) (v w : Value) (x : Next) → s1.callers ≡ c1 ∷ (gs ++ ds) → Linked r.core.lent r.core.lent m2 m1 → pass.waits r.core.lent s2.top.dest s1.top.dest c2 c1 gs m2 m1 → Below X pass r.core.lent c2.dest (lowest c1 gs).dest c2.frame (lowest c1 gs).frame cs2 ds m2 m1 → c1.frame < s1.top.frame → c2.frame < s2.top.frame → ((d : Dest) → s1.top.dest ≡ Some d → (t : Tree) × AddrTy D r.typed1.types d.addr t) → Same r.core.lent v w → return_to D s1 m1 s1.top.dest (c1 ∷ (gs ++ ds)) v ≡ Some x → Goes X pass (return_to D s2 m2 s2.top.dest (c2 ∷ cs2) w) x
-    resumed n s2 s1 r m2 m1 c2 c1 [] ds cs2 v w x q l (e, (i, st), h) be l1 l2 dt hv k = go h
+    resumed : (n : ℕ) (s2 s1 : State) (r : Related X pass V Inv n s2 s1) (m2 m1 : Memory) (c2 c1 : Control) (gs ds cs2 : List Control) (v w : Value) (x : Next) → s1.callers ≡ c1 ∷ (gs ++ ds) → Linked r.core.lent r.core.lent m2 m1 → pass.waits r.core.lent s2.top.dest s1.top.dest c2 c1 gs m2 m1 → Below X pass r.core.lent c2.dest (lowest c1 gs).dest c2.frame (lowest c1 gs).frame cs2 ds m2 m1 → c1.frame < s1.top.frame → c2.frame < s2.top.frame → ((d : Dest) → s1.top.dest ≡ Some d → (t : Tree) × AddrTy D r.typed1.types d.addr t) → Same r.core.lent v w → return_to D s1 m1 s1.top.dest (c1 ∷ (gs ++ ds)) v ≡ Some x → GentleTo X r.typed1.types c1.frame m1 x → Goes X pass (return_to D s2 m2 s2.top.dest (c2 ∷ cs2) w) x
+    resumed n s2 s1 r m2 m1 c2 c1 [] ds cs2 v w x q l (e, (i, st), h) be l1 l2 dt hv k ge = go h
       where
         now : Return
         now = record { n = n; s2 = s2; s1 = s1; r = r; m2 = m2; m1 = m1; c2 = c2; c1 = c1; ds = ds; cs2 = cs2; v = v; w = w; callers = q; linked = l; i = i; st = st; below = be; older1 = l1; older2 = l2; same = hv }
 
         go : DestsRel r.core.lent s1.top.dest s2.top.dest × Lives r.core.lent c2 c1 m2 m1 ⊎ Awaits r.core.lent s2.top.dest s1.top.dest c2 c1 m2 m1 → Goes X pass (return_to D s2 m2 s2.top.dest (c2 ∷ cs2) w) x
-        go (inl (dr, lives)) = far_back now x s2.top.dest s1.top.dest dr lives dt k
-        go (inr h) = own_back now x s2.top.dest s1.top.dest h k
-    resumed n s2 s1 r m2 m1 c2 c1 (g ∷ gs) ds cs2 v w x q l (e, st, h) be l1 l2 dt hv k = absurd (grind arith)
+        go (inl (dr, lives)) = far_back now x s2.top.dest s1.top.dest dr lives dt k ge
+        go (inr h) = own_back now x s2.top.dest s1.top.dest h k ge
+    resumed n s2 s1 r m2 m1 c2 c1 (g ∷ gs) ds cs2 v w x q l (e, st, h) be l1 l2 dt hv k ge = absurd (grind arith)
 
     pub frames : FrameLaws X pass V Inv
     frames = record {
@@ -285,5 +286,5 @@ module _ (X : Change) (once : X.body2 ≡ pruned_once X.source.shapes X.body1) w
       once = λ x x' y e e'. (let (a, b) = place_some x y e in let (a', b') = place_some x' y e' in b ∙ sym b');
       slots = λ j vs ws hv few x y e v k. (let (a, b) = place_some x y e in subst (λ y. SomeRel j v (slice_get (new_slots D X.body2.locals ws) y)) b (slots_same j vs ws hv.0 x v k));
       begins = λ j k2 k1 d2 d1 m2 m1 vs ws hv few f1 f2 l. (let (n, st, h) = begins j k2 k1 d2 d1 m2 m1 vs ws hv.0 f1 f2 in (n, (refl, st, h)));
-      resumes = λ n s2 s1 r m2 m1 c2 c1 gs ds cs2 v w x q q2 p2 p1 l wt be l1 l2 lo dt hv k. resumed n s2 s1 r m2 m1 c2 c1 gs ds cs2 v w x q l wt be l1 l2 dt hv k;
+      resumes = λ n s2 s1 r m2 m1 c2 c1 gs ds cs2 v w x q q2 p2 p1 l wt be l1 l2 lo dt hv k ge. resumed n s2 s1 r m2 m1 c2 c1 gs ds cs2 v w x q l wt be l1 l2 dt hv k ge;
     }

@@ -31,13 +31,15 @@ use Rattle.trim_locals.proofs.refines.Slots.{slots_of, slots_agree}
 use Rattle.mir_relate.specs.Alike.{Between, Same, AllSame, Sides, AllRead}
 use Rattle.mir_relate.specs.Leaves.{Leaves}
 use Rattle.mir_relate.specs.Frames.{Change, target, Pass, lowest, VisitRel, DropRel, DropsRel, DestsRel, opened, AgreesBy, Visiting, Below}
-use Rattle.mir_relate.specs.Pass.{KnowsAll, Valids, AllMoves, RvalueMoves, StmtMoves, TermMoves, FewTerm, KeptLaw, FrameLaws, Laws, Goes, Answers, Related}
+use Rattle.mir_relate.specs.Pass.{KnowsAll, Valids, AllMoves, RvalueMoves, StmtMoves, TermMoves, FewTerm, KeptLaw, GentleTo, FrameLaws, Laws, Goes, Answers, Related}
 use Rattle.mir_relate.proofs.Kept as kept
 use Rattle.mir_relate.proofs.Leaves.{some_val, leaves_none, leaves_less, leaves_source}
 use Rattle.mir_relate.proofs.Opens.{opened_at, opened_parts}
 use Rattle.mir_relate.proofs.Enter.{goes_by}
 use Rattle.mir_relate.proofs.Stacks.{drops_up, dests_up, knows_all}
 use Rattle.mir_relate.proofs.Single.{back_core, knows_waiting, step_is}
+use Rattle.mir_relate.specs.Mild.{Gentle}
+use Rattle.mir_relate.proofs.Mild.{gentle_none, gentle_less, gentle_above, gentle_on}
 use Rattle.mir_relate.proofs.Visits as visits
 use Rattle.mir_relate.proofs.Visits.{agrees_by, agrees_at, blank_left, no_destroyed}
 use Rattle.mir_relate.proofs.Near as near
@@ -238,8 +240,8 @@ module _ (X : Change) (B : ℕ → Option ℕ) (once : (x x' y : ℕ) → B x �
     ks = knows_waiting X P V Inv n s2 s1 r c1 ds q
 
     -- a frame that goes on at some place
-    back_at : (m2' m1' : Memory) (e2 e1 : Control) (n' : ℕ) → e2.frame ≡ c2.frame → e1.frame ≡ c1.frame → e2.function ≡ c2.function → e1.function ≡ c1.function → e2.dest ≡ c2.dest → e1.dest ≡ c1.dest → e2.block ≡ e1.block → DropsRel r.core.lent e1.dropping e2.dropping → InBlock X B once same n' e2 e1 → Linked r.core.lent r.core.lent m2' m1' → Leaves D r.typed1.types r.core.lent r.core.lent (suc c2.frame) (suc c1.frame) m2' m1' m2 m1 → Goes X P (go_on (record s2 { callers = cs2 }) m2' e2) (on (record s1 { memory = m1'; top = e1; callers = ds }))
-    back_at m2' m1' e2 e1 n' a2 a1 f2 f1 d2 d1 b dr h l' lv =
+    back_at : (m2' m1' : Memory) (e2 e1 : Control) (n' : ℕ) → e2.frame ≡ c2.frame → e1.frame ≡ c1.frame → e2.function ≡ c2.function → e1.function ≡ c1.function → e2.dest ≡ c2.dest → e1.dest ≡ c1.dest → e2.block ≡ e1.block → DropsRel r.core.lent e1.dropping e2.dropping → InBlock X B once same n' e2 e1 → Linked r.core.lent r.core.lent m2' m1' → Leaves D r.typed1.types r.core.lent r.core.lent (suc c2.frame) (suc c1.frame) m2' m1' m2 m1 → Gentle D r.typed1.types c1.frame m1' m1 → Goes X P (go_on (record s2 { callers = cs2 }) m2' e2) (on (record s1 { memory = m1'; top = e1; callers = ds }))
+    back_at m2' m1' e2 e1 n' a2 a1 f2 f1 d2 d1 b dr h l' lv ge =
         let j = r.core.lent in
         let be' : Below X P j e2.dest e1.dest e2.frame e1.frame cs2 ds m2 m1 = subst (λ g. Below X P j e2.dest e1.dest g e1.frame cs2 ds m2 m1) (sym a2) (subst (λ g. Below X P j e2.dest e1.dest c2.frame g cs2 ds m2 m1) (sym a1) (subst (λ d. Below X P j d e1.dest c2.frame c1.frame cs2 ds m2 m1) (sym d2) (subst (λ d. Below X P j c2.dest d c2.frame c1.frame cs2 ds m2 m1) (sym d1) be))) in
         let ag' : AgreesBy X j c1 m2' m1' = agrees_by X r.typed1.types j j (suc c2.frame) (suc c1.frame) m2' m1' m2 m1 c1 (omega arith) ks.0 lv ag in (
@@ -247,13 +249,13 @@ module _ (X : Change) (B : ℕ → Option ℕ) (once : (x x' y : ℕ) → B x �
           _,
           refl,
           back_core X P V Inv kept n s2 s1 r m2 m1 m2' m1' e2 e1 ds cs2 ks.1 be' (omega (arith, a1, l1)) (omega (arith, a2, l2)) l'
-              (leaves_less D r.typed1.types j j (suc c2.frame) (suc c1.frame) e2.frame e1.frame m2' m1' m2 m1 (omega (arith, a2)) (omega (arith, a1)) lv)
+              (leaves_less D r.typed1.types j j (suc c2.frame) (suc c1.frame) e2.frame e1.frame m2' m1' m2 m1 (omega (arith, a2)) (omega (arith, a1)) lv) (gentle_less D r.typed1.types c1.frame e1.frame m1' m1 (omega (arith, a1)) ge)
               n' (refl, moved X B once same i n' j c2 c1 e2 e1 a2 a1 f2 f1 b dr h st, agrees_at X j c1 e1 m2' m1' f1 a1 ag'),
         )
 
-    back : (d2 d1 : Option Dest) → DestsRel r.core.lent d1 d2 → ((d : Dest) → d1 ≡ Some d → (t : Tree) × AddrTy D r.typed1.types d.addr t) → Same r.core.lent v w → return_to D s1 m1 d1 (c1 ∷ ds) v ≡ Some x → Goes X P (return_to D s2 m2 d2 (c2 ∷ cs2) w) x
+    back : (d2 d1 : Option Dest) → DestsRel r.core.lent d1 d2 → ((d : Dest) → d1 ≡ Some d → (t : Tree) × AddrTy D r.typed1.types d.addr t) → Same r.core.lent v w → GentleTo X r.typed1.types c1.frame m1 x → return_to D s1 m1 d1 (c1 ∷ ds) v ≡ Some x → Goes X P (return_to D s2 m2 d2 (c2 ∷ cs2) w) x
     unfolding return_to
-    back None None dr dt hv e = at_drop c1.dropping c2.dropping refl refl st.drops
+    back None None dr dt hv ge e = at_drop c1.dropping c2.dropping refl refl st.drops
       where
         at_drop : (o1 o2 : Option Dropping) → c1.dropping ≡ o1 → c2.dropping ≡ o2 → DropsRel r.core.lent o1 o2 → Goes X P (destroyed D (record s2 { memory = m2; callers = cs2 }) c2) x
         at_drop (Some d) (Some d') p1 p2 dr =
@@ -262,27 +264,27 @@ module _ (X : Change) (B : ℕ → Option ℕ) (once : (x x' y : ℕ) → B x �
             let owns = subst (Owns X.source) q r.drops.callers in
             let tys = subst (MaybeDrop X.source V.valid1 G) p1 (subst (FramesTy X.source V.valid1 G) q r.typed1.callers).0.dropping in
             visits.destroyed_goes X P V Inv G j (record s2 { memory = m2; callers = cs2 }) (record s1 { memory = m1; callers = ds }) c2 c1 l ag ks.0 (λ u1 u2. u1 ≡ u2)
-            (λ d e vs tg. back_at m2 m1 (record c2 { dropping = Some e }) (record c1 { dropping = Some d }) i refl refl refl refl refl refl st.block (record { place = vs.place; target = tg; items = vs.items }) st.here l (leaves_none D G j (suc c2.frame) (suc c1.frame) m2 m1))
-            (λ u1 u2 tg a b t old ab ty eo. (let (i', h) = begins_at X B once same (to_block u2 c2) (to_block u1 c1) refl refl in let (l', lv) = blank_left D G j m2 m1 (suc c2.frame) (suc c1.frame) a b t old l ab ty eo in back_at (write m2 b (blank D t)) (write m1 a (blank D t)) (to_block u2 c2) (to_block u1 c1) i' refl refl refl refl refl refl (sym tg) tt h l' lv))
+            (λ d e vs tg. back_at m2 m1 (record c2 { dropping = Some e }) (record c1 { dropping = Some d }) i refl refl refl refl refl refl st.block (record { place = vs.place; target = tg; items = vs.items }) st.here l (leaves_none D G j (suc c2.frame) (suc c1.frame) m2 m1) (gentle_none D G c1.frame m1))
+            (λ u1 u2 tg a b t old ab ty eo pl. (let (i', h) = begins_at X B once same (to_block u2 c2) (to_block u1 c1) refl refl in let (l', lv) = blank_left D G j m2 m1 (suc c2.frame) (suc c1.frame) a b t old l ab ty eo in back_at (write m2 b (blank D t)) (write m1 a (blank D t)) (to_block u2 c2) (to_block u1 c1) i' refl refl refl refl refl refl (sym tg) tt h l' lv (gentle_above D G c1.frame m1 a (blank D t) (omega (arith, pl)))))
             d d' x p1 p2 (record { place = dr.place; items = dr.items }) dr.target (owns.0 d p1) (owns.1 d p1) tys.0 tys.1 e
         at_drop None o2 p1 p2 dr = absurd (no_destroyed D (record s1 { memory = m1; callers = ds }) c1 x p1 e)
         at_drop (Some d) None p1 p2 dr = absurd dr
-    back (Some d2) (Some d1) dr dt hv e =
+    back (Some d2) (Some d1) dr dt hv ge e =
         let (t, at) = dt d1 refl in
         let (m1', e1, k1) = bind_some e in
         let G = r.typed1.types in
         let j = r.core.lent in
         let (m2', g1, l', lv) = near.store_leaves D G j (suc c2.frame) (suc c1.frame) m2 m1 m2 m1 m1' d1 d2 t v w l (leaves_none D G j (suc c2.frame) (suc c1.frame) m2 m1) dr at hv e1 in
-        subst (λ o. Goes X P o x) (sym (some_bind _ g1 refl)) (subst (λ z. Goes X P (go_on (record s2 { callers = cs2 }) m2' c2) z) (some_val k1) (back_at m2' m1' c2 c1 i refl refl refl refl refl refl st.block st.drops st.here l' lv))
-    back None (Some d1) dr dt hv e = absurd dr
-    back (Some d2) None dr dt hv e = absurd dr
+        subst (λ o. Goes X P o x) (sym (some_bind _ g1 refl)) (subst (λ z. Goes X P (go_on (record s2 { callers = cs2 }) m2' c2) z) (some_val k1) (back_at m2' m1' c2 c1 i refl refl refl refl refl refl st.block st.drops st.here l' lv (gentle_on X G c1.frame m1 (record s1 { memory = m1'; top = c1; callers = ds }) x ge k1 (omega arith))))
+    back None (Some d1) dr dt hv ge e = absurd dr
+    back (Some d2) None dr dt hv ge e = absurd dr
 
   kept_law : KeptLaw X P
-  kept_law G j j' d2 d1 c2 c1 gs n2 n1 m2' m1' m2 m1 ks l1 l2 lo l (e, (i, st), dr, ag) = (e, (i, stand_kept X B once same D G j j' i c2 c1 n2 n1 m2' m1' m2 m1 l1 l2 l st), dests_up j j' l.up d1 d2 dr, agrees_by X G j j' n2 n1 m2' m1' m2 m1 c1 l1 ks.0 l ag)
+  kept_law G j j' d2 d1 c2 c1 gs n2 n1 m2' m1' m2 m1 ks l1 l2 lo l ge (e, (i, st), dr, ag) = (e, (i, stand_kept X B once same D G j j' i c2 c1 n2 n1 m2' m1' m2 m1 l1 l2 l st), dests_up j j' l.up d1 d2 dr, agrees_by X G j j' n2 n1 m2' m1' m2 m1 c1 l1 ks.0 l ag)
 
-  resumed : (n : ℕ) (s2 s1 : State) (r : Related X P V Inv n s2 s1) (m2 m1 : Memory) (c2 c1 : Control) (gs ds cs2 : List Control) (v w : Value) (x : Next) → s1.callers ≡ c1 ∷ (gs ++ ds) → Linked r.core.lent r.core.lent m2 m1 → P.waits r.core.lent s2.top.dest s1.top.dest c2 c1 gs m2 m1 → Below X P r.core.lent c2.dest (lowest c1 gs).dest c2.frame (lowest c1 gs).frame cs2 ds m2 m1 → c1.frame < s1.top.frame → c2.frame < s2.top.frame → ((d : Dest) → s1.top.dest ≡ Some d → (t : Tree) × AddrTy D r.typed1.types d.addr t) → Same r.core.lent v w → return_to D s1 m1 s1.top.dest (c1 ∷ (gs ++ ds)) v ≡ Some x → Goes X P (return_to D s2 m2 s2.top.dest (c2 ∷ cs2) w) x
-  resumed n s2 s1 r m2 m1 c2 c1 [] ds cs2 v w x q l (e, (i, st), dr, ag) be l1 l2 dt hv k = back kept_law n s2 s1 r m2 m1 c2 c1 ds cs2 v w x q l i st ag be l1 l2 s2.top.dest s1.top.dest dr dt hv k
-  resumed n s2 s1 r m2 m1 c2 c1 (g ∷ gs) ds cs2 v w x q l (e, st, dr, ag) be l1 l2 dt hv k = absurd (grind arith)
+  resumed : (n : ℕ) (s2 s1 : State) (r : Related X P V Inv n s2 s1) (m2 m1 : Memory) (c2 c1 : Control) (gs ds cs2 : List Control) (v w : Value) (x : Next) → s1.callers ≡ c1 ∷ (gs ++ ds) → Linked r.core.lent r.core.lent m2 m1 → P.waits r.core.lent s2.top.dest s1.top.dest c2 c1 gs m2 m1 → Below X P r.core.lent c2.dest (lowest c1 gs).dest c2.frame (lowest c1 gs).frame cs2 ds m2 m1 → c1.frame < s1.top.frame → c2.frame < s2.top.frame → ((d : Dest) → s1.top.dest ≡ Some d → (t : Tree) × AddrTy D r.typed1.types d.addr t) → Same r.core.lent v w → return_to D s1 m1 s1.top.dest (c1 ∷ (gs ++ ds)) v ≡ Some x → GentleTo X r.typed1.types c1.frame m1 x → Goes X P (return_to D s2 m2 s2.top.dest (c2 ∷ cs2) w) x
+  resumed n s2 s1 r m2 m1 c2 c1 [] ds cs2 v w x q l (e, (i, st), dr, ag) be l1 l2 dt hv k ge = back kept_law n s2 s1 r m2 m1 c2 c1 ds cs2 v w x q l i st ag be l1 l2 s2.top.dest s1.top.dest dr dt hv ge k
+  resumed n s2 s1 r m2 m1 c2 c1 (g ∷ gs) ds cs2 v w x q l (e, st, dr, ag) be l1 l2 dt hv k ge = absurd (grind arith)
 
   pub frames : FrameLaws X P V Inv
   frames = record {
@@ -290,7 +292,7 @@ module _ (X : Change) (B : ℕ → Option ℕ) (once : (x x' y : ℕ) → B x �
     once = once;
     slots = λ j vs ws hv few x y e v q. slots_of D B once X.body1.args same.fixed X.body1.locals X.body2.locals same.some1 same.some2 same.types j vs ws hv.0 few x y e v q;
     begins = λ j k2 k1 d2 d1 m2 m1 vs ws hv few f1 f2 l. (let (n, st) = stand_begins X B once same j k2 k1 d2 d1 f1 f2 in (n, (refl, st, agree_begins X B once same j k2 k1 d1 m2 m1 vs ws hv few f1 f2)));
-    resumes = λ n s2 s1 r m2 m1 c2 c1 gs ds cs2 v w x q q2 p2 p1 l wt be l1 l2 lo dt hv k. resumed n s2 s1 r m2 m1 c2 c1 gs ds cs2 v w x q l wt be l1 l2 dt hv k;
+    resumes = λ n s2 s1 r m2 m1 c2 c1 gs ds cs2 v w x q q2 p2 p1 l wt be l1 l2 lo dt hv k ge. resumed n s2 s1 r m2 m1 c2 c1 gs ds cs2 v w x q l wt be l1 l2 dt hv k ge;
   }
 
   -- ---- a step
@@ -434,24 +436,24 @@ module _ (X : Change) (B : ℕ → Option ℕ) (once : (x x' y : ℕ) → B x �
         let (d, e1, k1) = bind_some z in
         let (d2, g1, dr, pty, tys) = begins_drop p q u1 u2 s1.top.dropping s2.top.dropping d hp hu refl st.drops e1 in
         goes_by X P _ _ x (some_bind _ g1 refl) (visits.work_off_goes X P V Inv G j s2 s1 s2.top s1.top r.core.linked ag r.typed1.top.locals (λ u1 u2. u1 ≡ u2)
-        (λ d e vs tg. (n, _, refl, own.own_core X P V Inv frames n s2 s1 r [] s1.callers refl (omega arith) be n s2.memory s1.memory (record s2.top { dropping = Some e }) (record s1.top { dropping = Some d }) refl refl refl refl (left s2.memory s1.memory first) (refl, dropping_at d e vs tg, ag)))
-        (λ u1 u2 tg a b t old ab ty eo. (let (l', lv) = blank_left D G j s2.memory s1.memory (suc f2) (suc f1) a b t old r.core.linked ab ty eo in let (n', o) = edge (write s2.memory b (blank D t)) (write s1.memory a (blank D t)) u2 u1 tg (agreed (write s2.memory b (blank D t)) (write s1.memory a (blank D t)) lv) in (n', _, refl, own.own_core X P V Inv frames n s2 s1 r [] s1.callers refl (omega arith) be n' (write s2.memory b (blank D t)) (write s1.memory a (blank D t)) (to_block u2 s2.top) (to_block u1 s1.top) refl refl refl refl (l', less (write s2.memory b (blank D t)) (write s1.memory a (blank D t)) lv) o)))
+        (λ d e vs tg. (n, _, refl, own.own_core X P V Inv frames n s2 s1 r [] s1.callers refl (omega arith) be n s2.memory s1.memory (record s2.top { dropping = Some e }) (record s1.top { dropping = Some d }) refl refl refl refl (left s2.memory s1.memory first) (gentle_none D G f1 s1.memory) (refl, dropping_at d e vs tg, ag)))
+        (λ u1 u2 tg a b t old ab ty eo pl. (let (l', lv) = blank_left D G j s2.memory s1.memory (suc f2) (suc f1) a b t old r.core.linked ab ty eo in let (n', o) = edge (write s2.memory b (blank D t)) (write s1.memory a (blank D t)) u2 u1 tg (agreed (write s2.memory b (blank D t)) (write s1.memory a (blank D t)) lv) in (n', _, refl, own.own_core X P V Inv frames n s2 s1 r [] s1.callers refl (omega arith) be n' (write s2.memory b (blank D t)) (write s1.memory a (blank D t)) (to_block u2 s2.top) (to_block u1 s1.top) refl refl refl refl (l', less (write s2.memory b (blank D t)) (write s1.memory a (blank D t)) lv) (gentle_above D G f1 s1.memory a (blank D t) (omega (arith, pl))) o)))
         frames refl refl r.core.base (r.typed1.top.locals, knows_all X V G s1.callers r.typed1.callers)
         (λ d e vs tg. inr (record s1.top { dropping = Some d }, [], s1.callers, refl, r.core.base.top1, r.core.base.top2, omega arith, (refl, (n, dropping_at d e vs tg), tt, ag), be))
         d d2 x (begun_own X.source s1 r.drops X.body1 eb p u1 s1.top.dropping d hd refl e1) tys (visiting d d2 dr) dr.target pty k1)
 
-    by_likewise : (t t2 : Term) → TermSame (λ x y. B x ≡ Some y) t t2 → NoDrop t → TermMoves H1 t → TermTy X.source H1 t → FewTerm X.source t → (x : Next) → finish X.source H1 s1 t ≡ Some x → Flat x → Goes X P (finish (target X) S.target s2 t2) x
-    by_likewise t t2 h nd mo ty few x e fl = own.same_step_goes X P V Inv frames n s2 s1 r [] s1.callers refl (omega arith) be S Q left refl first refl refl X.body1 eb (λ h x y v e q. (st.only h x y e).0) (λ h x y lt e. (let z = (st.only h x y e).0 in omega (arith, z, lt))) t t2 x few (likewise t t2 h nd mo ty) e fl
+    by_likewise : (t t2 : Term) → TermSame (λ x y. B x ≡ Some y) t t2 → NoDrop t → TermMoves H1 t → TermTy X.source H1 t → FewTerm X.source t → (x : Next) → finish X.source H1 s1 t ≡ Some x → Flat x → GentleTo X G f1 s1.memory x → Goes X P (finish (target X) S.target s2 t2) x
+    by_likewise t t2 h nd mo ty few x e fl ge = own.same_step_goes X P V Inv frames n s2 s1 r [] s1.callers refl (omega arith) be S Q left refl first refl refl X.body1 eb (λ h x y v e q. (st.only h x y e).0) (λ h x y lt e. (let z = (st.only h x y e).0 in omega (arith, z, lt))) t t2 x few (likewise t t2 h nd mo ty) e fl ge
 
-    end_goes : (t t2 : Term) → TermSame (λ x y. B x ≡ Some y) t t2 → TermMoves H1 t → TermTy X.source H1 t → FewTerm X.source t → DropPlain t → (x : Next) → finish X.source H1 s1 t ≡ Some x → Flat x → Goes X P (finish (target X) S.target s2 t2) x
-    end_goes (Drop p u1) (Drop q u2) h mo ty few hd x e fl = drop_goes p q u1 u2 h.0 h.1 hd x e
-    end_goes (Goto u1) t2 h mo ty few hd x e fl = by_likewise (Goto u1) t2 h tt mo ty few x e fl
-    end_goes (Switch o arms u1) t2 h mo ty few hd x e fl = by_likewise (Switch o arms u1) t2 h tt mo ty few x e fl
-    end_goes Return t2 h mo ty few hd x e fl = by_likewise Return t2 h tt mo ty few x e fl
-    end_goes Unreachable t2 h mo ty few hd x e fl = by_likewise Unreachable t2 h tt mo ty few x e fl
-    end_goes (Call p g os u1) t2 h mo ty few hd x e fl = by_likewise (Call p g os u1) t2 h tt mo ty few x e fl
-    end_goes (Assert o c ws os u1) t2 h mo ty few hd x e fl = by_likewise (Assert o c ws os u1) t2 h tt mo ty few x e fl
-    end_goes (Drop p u1) t2 h mo ty few hd x e fl = absurd h
+    end_goes : (t t2 : Term) → TermSame (λ x y. B x ≡ Some y) t t2 → TermMoves H1 t → TermTy X.source H1 t → FewTerm X.source t → DropPlain t → (x : Next) → finish X.source H1 s1 t ≡ Some x → Flat x → GentleTo X G f1 s1.memory x → Goes X P (finish (target X) S.target s2 t2) x
+    end_goes (Drop p u1) (Drop q u2) h mo ty few hd x e fl ge = drop_goes p q u1 u2 h.0 h.1 hd x e
+    end_goes (Goto u1) t2 h mo ty few hd x e fl ge = by_likewise (Goto u1) t2 h tt mo ty few x e fl ge
+    end_goes (Switch o arms u1) t2 h mo ty few hd x e fl ge = by_likewise (Switch o arms u1) t2 h tt mo ty few x e fl ge
+    end_goes Return t2 h mo ty few hd x e fl ge = by_likewise Return t2 h tt mo ty few x e fl ge
+    end_goes Unreachable t2 h mo ty few hd x e fl ge = by_likewise Unreachable t2 h tt mo ty few x e fl ge
+    end_goes (Call p g os u1) t2 h mo ty few hd x e fl ge = by_likewise (Call p g os u1) t2 h tt mo ty few x e fl ge
+    end_goes (Assert o c ws os u1) t2 h mo ty few hd x e fl ge = by_likewise (Assert o c ws os u1) t2 h tt mo ty few x e fl ge
+    end_goes (Drop p u1) t2 h mo ty few hd x e fl ge = absurd h
 
     -- a statement of the source alone: storage of a local that stands for none
     gone_step : (x : ℕ) (t : Tree) → ((y : ℕ) → B x ≡ Some y → ⊥) → Left s2.memory (write s1.memory (record { frame = f1; local = x; path = [] }) (blank D t))
@@ -497,35 +499,35 @@ module _ (X : Change) (B : ℕ → Option ℕ) (once : (x x' y : ℕ) → B x �
           let sk2 : k2 ≡ k2' = some_val (sym i2 ∙ ap (slice_get X.body2.blocks) (sym e) ∙ j2) in
           (subst (λ (k : TypedBlock). StmtsSame (λ x y. B x ≡ Some y) (drop c1.at k.stmts) (drop c2.at k2'.stmts)) sk1 (subst (λ (k : TypedBlock). StmtsSame (λ x y. B x ≡ Some y) (drop c1.at k1.stmts) (drop c2.at k.stmts)) sk2 h), l ∙ ap (λ (k : TypedBlock). length (drop c1.at k.stmts)) sk1)
 
-      stmt_step : (s : TypedStmt) (x : Next) → slice_get k1.stmts s1.top.at ≡ Some s → StmtsSame (λ x y. B x ≡ Some y) (s ∷ drop (suc s1.top.at) k1.stmts) (drop s2.top.at k2.stmts) → StmtMoves H1 s → StmtTy D G bok ts1 f1 lok s → perform X.source H1 s1 k1.term (Some s) ≡ Some x → Answers X P n s2 x
+      stmt_step : (s : TypedStmt) (x : Next) → slice_get k1.stmts s1.top.at ≡ Some s → StmtsSame (λ x y. B x ≡ Some y) (s ∷ drop (suc s1.top.at) k1.stmts) (drop s2.top.at k2.stmts) → StmtMoves H1 s → StmtTy D G bok ts1 f1 lok s → perform X.source H1 s1 k1.term (Some s) ≡ Some x → GentleTo X G f1 s1.memory x → Answers X P n s2 x
       unfolding perform
-      stmt_step s x at (inl (gone, ss')) mo ty e =
+      stmt_step s x at (inl (gone, ss')) mo ty e ge =
           let (m1', e1, q) = bind_some e in
           let (y, t, nobody, is) = gone_is (λ x y. B x ≡ Some y) H1 s1.memory m1' s gone e1 in
           let m = length (drop (suc s1.top.at) k1.stmts) in
           let less : m < n = (let z : n ≡ suc m = len ∙ ap length (drop_some k1.stmts s1.top.at s at) in omega arith) in
           let h : Left s2.memory m1' = subst (λ m1. Left s2.memory m1) is (gone_step y t nobody) in
           let st' = moved X B once same n m j s2.top s1.top s2.top (next_stmt s1.top) refl refl refl refl st.block st.drops (in_block m s2.top (next_stmt s1.top) refl ss' refl) st in
-          subst (Answers X P n s2) (some_val q) (0, m, s2, refl, own.own_core X P V Inv frames n s2 s1 r [] s1.callers refl (omega arith) be m s2.memory m1' s2.top (next_stmt s1.top) refl refl refl refl h (refl, st', gone_agree y t m1' nobody is), inr less)
-      stmt_step s x at (inr (t, rest2, z, ps, ss')) mo ty e =
+          subst (Answers X P n s2) (some_val q) (0, m, s2, refl, own.own_core X P V Inv frames n s2 s1 r [] s1.callers refl (omega arith) be m s2.memory m1' s2.top (next_stmt s1.top) refl refl refl refl h (gentle_on X G f1 s1.memory (record s1 { memory = m1'; top = next_stmt s1.top }) x ge q (omega arith)) (refl, st', gone_agree y t m1' nobody is), inr less)
+      stmt_step s x at (inr (t, rest2, z, ps, ss')) mo ty e ge =
           let (m1', e1, q) = bind_some e in
           let m = length (drop (suc s1.top.at) k1.stmts) in
           let at2 : slice_get k2.stmts s2.top.at ≡ Some t = get_drop k2.stmts s2.top.at ∙ ap (λ ss. slice_get ss 0) z in
           let next : rest2 ≡ drop (suc s2.top.at) k2.stmts = tails t t rest2 (drop (suc s2.top.at) k2.stmts) (sym z ∙ drop_some k2.stmts s2.top.at t at2) in
           let (m2', g1, q2) = kept.exec_as D ts1 ts2 f1 f2 j j (sub_self j) G bok lok Q keeps s t (stmt_as D ts1 ts2 f1 f2 j G bok lok B st.roots same.types Q keeps s t ps mo ty) s2.memory s1.memory m1' (λ u. payloads) first e1 in
           let st' = moved X B once same n m j s2.top s1.top (next_stmt s2.top) (next_stmt s1.top) refl refl refl refl st.block st.drops (in_block m (next_stmt s2.top) (next_stmt s1.top) refl (subst (λ ts. StmtsSame (λ x y. B x ≡ Some y) (drop (suc s1.top.at) k1.stmts) ts) next ss') refl) st in
-          subst (Answers X P n s2) (some_val q) (1, m, record s2 { memory = m2'; top = next_stmt s2.top }, ap (keep_on (λ s. Some s)) (target_is ∙ ap (perform (target X) S.target s2 k2.term) at2 ∙ some_bind _ g1 refl), own.own_core X P V Inv frames n s2 s1 r [] s1.callers refl (omega arith) be m m2' m1' (next_stmt s2.top) (next_stmt s1.top) refl refl refl refl (left m2' m1' q2) (refl, st', agreed m2' m1' q2.leaves), inl (omega arith))
+          subst (Answers X P n s2) (some_val q) (1, m, record s2 { memory = m2'; top = next_stmt s2.top }, ap (keep_on (λ s. Some s)) (target_is ∙ ap (perform (target X) S.target s2 k2.term) at2 ∙ some_bind _ g1 refl), own.own_core X P V Inv frames n s2 s1 r [] s1.callers refl (omega arith) be m m2' m1' (next_stmt s2.top) (next_stmt s1.top) refl refl refl refl (left m2' m1' q2) (gentle_on X G f1 s1.memory (record s1 { memory = m1'; top = next_stmt s1.top }) x ge q (omega arith)) (refl, st', agreed m2' m1' q2.leaves), inl (omega arith))
 
-      end_step : (x : Next) → slice_get k1.stmts s1.top.at ≡ None → TermMoves H1 k1.term → TermTy X.source H1 k1.term → FewTerm X.source k1.term → perform X.source H1 s1 k1.term None ≡ Some x → Flat x → Answers X P n s2 x
+      end_step : (x : Next) → slice_get k1.stmts s1.top.at ≡ None → TermMoves H1 k1.term → TermTy X.source H1 k1.term → FewTerm X.source k1.term → perform X.source H1 s1 k1.term None ≡ Some x → Flat x → GentleTo X G f1 s1.memory x → Answers X P n s2 x
       unfolding perform
-      end_step x none mo ty few e fl =
+      end_step x none mo ty few e fl ge =
           let nil2 : drop s2.top.at k2.stmts ≡ [] = subst (λ xs. StmtsSame (λ x y. B x ≡ Some y) xs (drop s2.top.at k2.stmts)) (drop_none k1.stmts s1.top.at none) ss in
           let none2 : slice_get k2.stmts s2.top.at ≡ None = get_drop k2.stmts s2.top.at ∙ ap (λ ss. slice_get ss 0) nil2 in
           goes_answer X P n s2 x (subst (λ o. Goes X P o x) (sym (target_is ∙ ap (perform (target X) S.target s2 k2.term) none2))
-          (end_goes k1.term k2.term ts mo ty few (V.plain s1.top.function X.body1 s1.top.block k1 eb i1) x e fl))
+          (end_goes k1.term k2.term ts mo ty few (V.plain s1.top.function X.body1 s1.top.block k1 eb i1) x e fl ge))
 
-    one_step : (x : Next) → step X.source s1 ≡ Some x → Flat x → Answers X P n s2 x
-    one_step x e fl =
+    one_step : (x : Next) → step X.source s1 ≡ Some x → Flat x → GentleTo X G f1 s1.memory x → Answers X P n s2 x
+    one_step x e fl ge =
         let (bo, k1, ebo, ek, q) = step_parts X.source s1 x e in
         let sb : bo ≡ X.body1 = some_val (sym ebo ∙ eb) in
         let i1 : slice_get X.body1.blocks s1.top.block ≡ Some k1 = ap (λ (b : TypedBody). slice_get b.blocks s1.top.block) (sym sb) ∙ ek in
@@ -534,12 +536,12 @@ module _ (X : Change) (B : ℕ → Option ℕ) (once : (x x' y : ℕ) → B x �
         go k1 k2 i1 i2 ss len ts (slice_get k1.stmts s1.top.at) refl (subst (λ (b : TypedBody). perform X.source (record { shapes = D; locals = b.locals; frame = f1 }) s1 k1.term (slice_get k1.stmts s1.top.at) ≡ Some x) sb q)
       where
         go : (k1 k2 : TypedBlock) → slice_get X.body1.blocks s1.top.block ≡ Some k1 → slice_get X.body2.blocks s1.top.block ≡ Some k2 → StmtsSame (λ x y. B x ≡ Some y) (drop s1.top.at k1.stmts) (drop s2.top.at k2.stmts) → n ≡ length (drop s1.top.at k1.stmts) → TermSame (λ x y. B x ≡ Some y) k1.term k2.term → (o : Option TypedStmt) → slice_get k1.stmts s1.top.at ≡ o → perform X.source H1 s1 k1.term o ≡ Some x → Answers X P n s2 x
-        go k1 k2 i1 i2 ss len ts None at q = end_step k1 k2 i1 i2 ss len ts x at (V.terms f1 s1.top.function X.body1 s1.top.block k1 eb i1) (V.valid1.terms f1 s1.top.function X.body1 s1.top.block k1 eb i1) (V.calls s1.top.function X.body1 s1.top.block k1 eb i1) q fl
-        go k1 k2 i1 i2 ss len ts (Some s) at q = stmt_step k1 k2 i1 i2 ss len ts s x at (subst (λ xs. StmtsSame (λ x y. B x ≡ Some y) xs (drop s2.top.at k2.stmts)) (drop_some k1.stmts s1.top.at s at) ss) (V.stmts f1 s1.top.function X.body1 s1.top.block k1 s1.top.at s eb i1 at) (V.valid1.stmts G f1 s1.top.function X.body1 s1.top.block k1 s1.top.at s eb i1 at lok) q
+        go k1 k2 i1 i2 ss len ts None at q = end_step k1 k2 i1 i2 ss len ts x at (V.terms f1 s1.top.function X.body1 s1.top.block k1 eb i1) (V.valid1.terms f1 s1.top.function X.body1 s1.top.block k1 eb i1) (V.calls s1.top.function X.body1 s1.top.block k1 eb i1) q fl ge
+        go k1 k2 i1 i2 ss len ts (Some s) at q = stmt_step k1 k2 i1 i2 ss len ts s x at (subst (λ xs. StmtsSame (λ x y. B x ≡ Some y) xs (drop s2.top.at k2.stmts)) (drop_some k1.stmts s1.top.at s at) ss) (V.stmts f1 s1.top.function X.body1 s1.top.block k1 s1.top.at s eb i1 at) (V.valid1.stmts G f1 s1.top.function X.body1 s1.top.block k1 s1.top.at s eb i1 at lok) q ge
 
-  steps_law : (n : ℕ) (s2 s1 : State) (r : Related X P V Inv n s2 s1) (gs ds : List Control) (x : Next) → s1.callers ≡ gs ++ ds → P.own n r.core.lent s2.top s1.top gs s2.memory s1.memory → Below X P r.core.lent s2.top.dest (lowest s1.top gs).dest s2.top.frame (lowest s1.top gs).frame s2.callers ds s2.memory s1.memory → step X.source s1 ≡ Some x → Flat x → Answers X P n s2 x
-  steps_law n s2 s1 r [] ds x q (e, st, ag) be k fl = one_step n s2 s1 r st ag (subst (λ cs. Below X P r.core.lent s2.top.dest s1.top.dest s2.top.frame s1.top.frame s2.callers cs s2.memory s1.memory) (sym q) be) x k fl
-  steps_law n s2 s1 r (g ∷ gs) ds x q (e, st, ag) be k fl = absurd (grind arith)
+  steps_law : (n : ℕ) (s2 s1 : State) (r : Related X P V Inv n s2 s1) (gs ds : List Control) (x : Next) → s1.callers ≡ gs ++ ds → P.own n r.core.lent s2.top s1.top gs s2.memory s1.memory → Below X P r.core.lent s2.top.dest (lowest s1.top gs).dest s2.top.frame (lowest s1.top gs).frame s2.callers ds s2.memory s1.memory → step X.source s1 ≡ Some x → Flat x → GentleTo X r.typed1.types s1.top.frame s1.memory x → Answers X P n s2 x
+  steps_law n s2 s1 r [] ds x q (e, st, ag) be k fl ge = one_step n s2 s1 r st ag (subst (λ cs. Below X P r.core.lent s2.top.dest s1.top.dest s2.top.frame s1.top.frame s2.callers cs s2.memory s1.memory) (sym q) be) x k fl ge
+  steps_law n s2 s1 r (g ∷ gs) ds x q (e, st, ag) be k fl ge = absurd (grind arith)
 
   pub laws : Laws X P V Inv
-  laws = record { inv_kept = inv_kept; flat = flat; frames = frames; steps = λ n s2 s1 r gs ds x q lo o be k fl. steps_law n s2 s1 r gs ds x q o be k fl }
+  laws = record { inv_kept = inv_kept; flat = flat; frames = frames; steps = λ n s2 s1 r gs ds x q lo o be k fl ge. steps_law n s2 s1 r gs ds x q o be k fl ge }
