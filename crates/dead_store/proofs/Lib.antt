@@ -1,4 +1,6 @@
-pub mod Staying
-pub mod Going
-pub mod Judged
-pub mod Ready
+pub mod Without
+pub mod Decided
+pub mod equal
+pub mod refines
+pub mod valid
+pub mod PassLaws

@@ -4,7 +4,7 @@ ghost use Rattle.mir_syntax.specs.Crate.{crate_of, body_of};
 ghost use Rattle.mir_syntax.specs.Shapes.{shapes_of};
 ghost use Rattle.mir_syntax.specs.Drops.{KnowsDrops};
 ghost use Rattle.mir_syntax.specs.Ids.{IdsInTable};
-ghost use Rattle.dead_store.specs.Pruned.{IsPrunedOnce, IsPruned};
+ghost use Rattle.dead_store.specs.Pruned.{IsPrunedOnce, IsPruned, pruned as pruned_body};
 ghost use Rattle.dead_store.specs.Rounds.{IsReady};
 
 use crate::blocks::pruned_blocks;
@@ -42,6 +42,7 @@ pub fn pruned(alloc: Global, program: &Program, body: Body) -> Result<Body, OutO
     requires knows { KnowsDrops program.now }
     requires ids { IdsInTable program.now }
     requires ready { IsReady program.now.types body }
+    ensures answer { IfOk result (λ left. body_of (trees_of program.now.types) left ≡ pruned_body (shapes_of (crate_of program.now)) (body_of (trees_of program.now.types) body)) }
     ensures pruned { IfOk result (λ left. IsPruned (shapes_of (crate_of program.now)) (body_of (trees_of program.now.types) body) (body_of (trees_of program.now.types) left)) }
     ensures ready { IfOk result (λ left. IsReady program.now.types left) }
 {

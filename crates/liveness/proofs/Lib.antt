@@ -6,3 +6,6 @@ pub mod Filling
 pub mod Destructors
 pub mod Ends
 pub mod Whole
+pub mod Growing
+pub mod Decided
+pub mod CarriedBack

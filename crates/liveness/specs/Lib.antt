@@ -3,3 +3,4 @@ pub mod Rows
 pub mod Facts
 pub mod Bits
 pub mod Lattice
+pub mod Decided

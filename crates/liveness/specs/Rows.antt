@@ -1,13 +1,11 @@
 -- Rows of live locals, carried backwards over statements and blocks.
-use Rattle.std.specs.Prelude.{◌≡◌, ℕ, ◌<◌, Bool, false, ◌||◌, List, [], ◌∷◌, ◌++◌, map, set, length, get_or, replicate}
+use Rattle.std.specs.Prelude.{◌≡◌, ℕ, ◌<◌, ◌↔◌, Bool, false, ◌||◌, List, [], ◌∷◌, ◌++◌, set, length, get_or, replicate, IsTrue}
 use Rattle.std.specs.List.{Contains, flat_map}
 use lib.Lanes.{zip2}
-use Rattle.mir_syntax.specs.declared.body.Operand.{Operand}
 use Rattle.mir_syntax.specs.declared.body.Rvalue.{Rvalue}
 use Rattle.mir_syntax.specs.declared.body.Rvalue.TheVariants as rvalue
 use Rattle.mir_syntax.specs.declared.body.Stmt.{Stmt}
 use Rattle.mir_syntax.specs.declared.body.Stmt.TheVariants as stmt
-use Rattle.mir_syntax.specs.declared.body.Term.{Term}
 use Rattle.mir_syntax.specs.declared.body.Term.TheVariants.{Unreachable}
 use Rattle.mir_syntax.specs.Tree.{Tree}
 use Rattle.mir_syntax.specs.Crate.{TypedStmt, TypedBlock, TypedBody}
@@ -15,7 +13,7 @@ use Rattle.mir_syntax.specs.Shapes.{Shape}
 use Rattle.mir_rules.specs.Parts.{targets}
 use Rattle.bit_rows.specs.Rows.{row_at, marked}
 use Rattle.flow_engine.specs.declared.edges.Edge.{Edge}
-use Rattle.liveness.specs.Live.{place_local, operand_locals, whole, stmt_reads, stmt_fills, term_reads, term_fills}
+use Rattle.liveness.specs.Live.{operand_locals, whole, stmt_reads, stmt_fills, term_reads, term_fills, Live}
 
 -- a row after the bits of some numbers were cleared
 abbrev pub cleared : List Bool → List ℕ → List Bool
@@ -30,6 +28,11 @@ before_stmt s row = marked (cleared row (stmt_fills s)) (stmt_reads s)
 abbrev pub before_all : List TypedStmt → List Bool → List Bool
 before_all [] row = row
 before_all (s ∷ ss) row = before_stmt s (before_all ss row)
+
+-- a row of the locals that are live before the n-th statement of a block, or before its terminator
+pub record IsLiveRow (D : List Shape) (b : TypedBody) (i n : ℕ) (row : List Bool) : Type 0 where
+  pub long : length row ≡ length b.locals
+  pub each : (x : ℕ) → x < length b.locals → IsTrue (get_or row x false) ↔ Live D b i n x
 
 -- the locals that an rvalue with ids reads
 abbrev pub bare_rvalue_reads : Rvalue → List ℕ

@@ -1,11 +1,11 @@
-use Rattle.std.proofs.Common.{◌≡◌, ◌<◌, ℕ, [], refl, sym, ap, ◌∙◌, subst, map, length, get_or, arith}
+use Rattle.std.proofs.Common.{◌≡◌, ◌<◌, [], refl, sym, ap, ◌∙◌, subst, map, length, get_or, arith}
 use Rattle.std.proofs.lemmas.Grind.{common_steps}
 use Rattle.mir_syntax.specs.Crate.{stmt_of}
 use Rattle.mir_syntax.specs.declared.body.Block.{Block}
 use Rattle.bit_rows.specs.Rows.{row_at}
 use Rattle.liveness.specs.Rows.{before_all}
-use Rattle.dead_store.specs.Rounds.{SetsBelow, BlockSetsBelow, block_after}
-use Rattle.dead_store.proofs.Going.{going_more}
+use Rattle.dead_store.specs.Rounds.{SetsBelow}
+use Rattle.dead_store.proofs.equal.Going.{going_more}
 use Rattle.dead_store.proofs.blocks.pruned_blocks.Goals as goal
 
 pub prune_block-requires-clause-live_row : goal.prune_block-requires-clause-live_row

@@ -1,7 +1,7 @@
 use Rattle.std.proofs.Common.{List}
 use Rattle.mir_syntax.specs.Tree.{Tree}
 use Rattle.bit_rows.specs.Rows.{row_at}
-use Rattle.dead_store.proofs.Going.{Going}
+use Rattle.dead_store.proofs.equal.Going.{Going}
 use Rattle.dead_store.proofs.blocks.pruned_blocks.Given as goal
 
 abbrev pub invariant-loop-at : goal.invariant-loop-at

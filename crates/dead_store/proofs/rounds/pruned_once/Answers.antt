@@ -1,10 +1,10 @@
-use Rattle.std.proofs.Common.{ℕ, sym, subst, length}
+use Rattle.std.proofs.Common.{sym, subst}
 use Rattle.mir_syntax.specs.Tree.{trees_of}
 use Rattle.mir_syntax.specs.Crate.{crate_of}
 use Rattle.mir_syntax.specs.Shapes.{shapes_of}
 use Rattle.bit_rows.specs.Rows.{row_at, HasSize}
-use Rattle.dead_store.proofs.Judged.{lent_size, once}
-use Rattle.dead_store.proofs.Ready.{still_ready}
+use Rattle.dead_store.proofs.equal.Judged.{lent_size, once}
+use Rattle.dead_store.proofs.equal.Ready.{still_ready}
 use Rattle.dead_store.proofs.rounds.pruned_once.Goals as goal
 
 pub pruned_blocks-requires-clause-lent_size : goal.pruned_blocks-requires-clause-lent_size

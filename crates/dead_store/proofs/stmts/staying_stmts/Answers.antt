@@ -1,14 +1,12 @@
-use Rattle.std.proofs.Common.{◌≡◌, ◌<◌, [], ◌∷◌, ◌++◌, List, Bool, map, drop, set, length, reverse, sym, ap, ◌∙◌, subst, arith}
+use Rattle.std.proofs.Common.{◌≡◌, ◌<◌, [], ◌∷◌, List, map, drop, set, length, reverse, sym, ap, ◌∙◌, subst, arith}
 use Rattle.std.specs.List.{All}
-use Rattle.std.proofs.lemmas.List.{reverse-reverse}
-use Rattle.mir_syntax.specs.Tree.{Tree}
 use Rattle.mir_syntax.specs.Crate.{stmt_of}
 use Rattle.mir_syntax.specs.declared.body.Stmt.{Stmt}
 use Rattle.mir_syntax.proofs.Taken.{taken_next, taken_more, taken_all}
 use Rattle.bit_rows.specs.Rows.{row_at}
 use Rattle.liveness.specs.Rows.{before_all}
 use Rattle.dead_store.specs.Rounds.{set_locals, goes, staying}
-use Rattle.dead_store.proofs.Staying.{taken_sets, row_before, row_more, row_long, rows_long, kept_more}
+use Rattle.dead_store.proofs.equal.Staying.{taken_sets, row_before, row_more, row_long, rows_long, kept_more}
 use Rattle.dead_store.proofs.stmts.staying_stmts.Goals as goal
 
 pub goes-gone-requires-clause-live_row : goal.goes-gone-requires-clause-live_row

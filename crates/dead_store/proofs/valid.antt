@@ -1,0 +1,3 @@
+-- A pruned body breaks no rule.
+pub mod Rules
+pub mod Same
