@@ -21,7 +21,7 @@ use Rattle.mir_rules.proofs.Lists.{gather_empty-at, append_empty-left, append_em
 use Rattle.mir_rules.proofs.Keeps.{BodyKeeps}
 use Rattle.mir_rules.proofs.Bodies.{Alike, AllAlike, set_cases, shapes_alike, valid_with}
 use Rattle.mir_rules.proofs.ValidCrates.{body_formed_at, keeps, args_below}
-use Rattle.pass_order.specs.Stepped.{FitsAt}
+use Rattle.pass_order.specs.Fits.{FitsAt}
 use Rattle.pass_order.specs.Programs.{one_block, header_body, header_function, HasHeader}
 
 -- ---- the limits on a body

@@ -1,3 +1,6 @@
+pub mod Keeps
+pub mod Order
+pub mod Crates
 pub mod Fits
 pub mod Ready
 pub mod Alone

@@ -29,10 +29,10 @@ use Rattle.mir_cfg.specs.Paths as cfg
 use Rattle.cfg_simplify.specs.Edges.{Closed}
 use Rattle.cfg_simplify.specs.Simple.{term_of}
 use Rattle.cfg_simplify.specs.Code.{block_term}
-use Rattle.simple_refines.proofs.Rearranged.{targets_same}
-use Rattle.simple_refines.proofs.Valid as simple
+use Rattle.cfg_simplify.proofs.valid.Rearranged.{targets_same}
+use Rattle.cfg_simplify.proofs.valid.Kept as simple
 use Rattle.dead_store.specs.Rounds.{set_locals, BlockSetsBelow, IsReady}
-use Rattle.pass_order.specs.Stepped.{FitsAt}
+use Rattle.pass_order.specs.Fits.{FitsAt}
 use Rattle.pass_order.proofs.Fits.{as_valid}
 
 module _ (C : Crate) (f : ℕ) (g : TypedFunction) (trees : List Tree) (body : Body) (h : FitsAt C f g (body_of trees body)) where

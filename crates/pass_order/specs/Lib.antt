@@ -1,2 +1,3 @@
-pub mod Stepped
+pub mod Passes
+pub mod Fits
 pub mod Programs

@@ -4,25 +4,25 @@ ghost use Rattle.mir_syntax.specs.Drops.{KnowsDrops};
 ghost use Rattle.mir_syntax.specs.Ids.{IdsInTable};
 ghost use Rattle.mir_syntax.specs.declared.body.Function.{Function};
 ghost use Rattle.mir_rules.specs.Valid.{Valid, Within};
-ghost use Rattle.pass_order.specs.Stepped.{AllStepped};
-ghost use Rattle.pass_order.specs.Programs.{CanStep, StepsTo};
+ghost use Rattle.pass_order.specs.Passes.{optimised as optimised_crate};
+ghost use Rattle.pass_order.specs.Programs.{CanPass, PassesTo};
 
 use crate::headers::header_functions;
-use crate::one_body::steps;
+use crate::one_body::after_passes;
 use mir_syntax::{Body, Function, List, OutOfMemory, Program};
 use std::alloc::Global;
 use std::mem;
 
-/// Takes the body of a function through the steps.
-fn step_function(
+/// Takes the body of a function through the passes.
+fn pass_function(
     alloc: Global,
     program: &Program,
     function: &mut Function,
 ) -> Result<(), OutOfMemory>
     requires knows { KnowsDrops program.now }
     requires ids { IdsInTable program.now }
-    requires can_step { CanStep program.now function.old.body }
-    ensures { OnOk result (StepsTo program.now function.old function.new) }
+    requires can_pass { CanPass program.now function.old.body }
+    ensures { OnOk result (PassesTo program.now function.old function.new) }
 {
     let hollow = Body {
         args: 0,
@@ -30,37 +30,37 @@ fn step_function(
         blocks: List::new(alloc),
     };
     let body = mem::replace(&mut function.body, hollow);
-    function.body = steps(alloc, program, body)?;
+    function.body = after_passes(alloc, program, body)?;
     Ok(())
 }
 
-/// The functions with their bodies after the steps. Each fits a function of the program.
-fn stepped_functions(
+/// The functions with their bodies after the passes. Each fits a function of the program.
+fn passed_functions(
     alloc: Global,
     program: &Program,
     functions: List<Function>,
 ) -> Result<List<Function>, OutOfMemory>
     requires knows { KnowsDrops program.now }
     requires ids { IdsInTable program.now }
-    requires can_step { (i : ℕ) (g : Function) → slice_get functions i ≡ Some g → CanStep program.now g.body }
+    requires can_pass { (i : ℕ) (g : Function) → slice_get functions i ≡ Some g → CanPass program.now g.body }
     ensures count { IfOk result (λ list. length list ≡ length functions) }
-    ensures each { IfOk result (λ list. (i : ℕ) (g g2 : Function) → slice_get functions i ≡ Some g → slice_get list i ≡ Some g2 → StepsTo program.now g g2) }
+    ensures each { IfOk result (λ list. (i : ℕ) (g g2 : Function) → slice_get functions i ≡ Some g → slice_get list i ≡ Some g2 → PassesTo program.now g g2) }
 {
-    let mut stepped = functions.into_vec();
-    for function in stepped.iter_mut() {
-        step_function(alloc, program, function)?;
+    let mut passed = functions.into_vec();
+    for function in passed.iter_mut() {
+        pass_function(alloc, program, function)?;
     }
-    Ok(List::from_vec(stepped))
+    Ok(List::from_vec(passed))
 }
 
-/// The program with each body after the steps, in the order of the functions. The drops of the program are known, and stay known. `Err` is
+/// The program with each body after the passes, in the order of the functions. The drops of the program are known, and stay known. `Err` is
 /// for want of memory alone, and the program is spent then.
-pub fn all_steps(alloc: Global, program: Program) -> Result<Program, OutOfMemory>
+pub fn optimised(alloc: Global, program: Program) -> Result<Program, OutOfMemory>
     requires knows { KnowsDrops program }
     requires ids { IdsInTable program }
     requires valid { Valid (crate_of program) }
     requires within { Within (crate_of program) }
-    ensures stepped { IfOk result (λ left. AllStepped (crate_of program) (crate_of left)) }
+    ensures optimised { IfOk result (λ left. crate_of left ≡ optimised_crate (crate_of program)) }
     ensures in_table { IfOk result (λ left. IdsInTable left) }
     ensures knows { IfOk result (λ left. KnowsDrops left) }
     ensures types { IfOk result (λ left. left.types ≡ program.types) }
@@ -68,6 +68,6 @@ pub fn all_steps(alloc: Global, program: Program) -> Result<Program, OutOfMemory
     let mut left = program;
     let headers = header_functions(alloc, left.functions.as_slice())?;
     let functions = mem::replace(&mut left.functions, headers);
-    left.functions = stepped_functions(alloc, &left, functions)?;
+    left.functions = passed_functions(alloc, &left, functions)?;
     Ok(left)
 }

@@ -4,7 +4,8 @@ ghost use Rattle.mir_syntax.specs.Crate.{TypedFunction, crate_of, body_of};
 ghost use Rattle.mir_syntax.specs.Shapes.{shapes_of};
 ghost use Rattle.mir_syntax.specs.Drops.{KnowsDrops};
 ghost use Rattle.mir_syntax.specs.Ids.{IdsInTable, BodyInTable};
-ghost use Rattle.pass_order.specs.Stepped.{IsStepped, FitsAt};
+ghost use Rattle.pass_order.specs.Passes.{after_passes as passed_body};
+ghost use Rattle.pass_order.specs.Fits.{FitsAt};
 
 use cfg_simplify::simple;
 use dead_store::pruned;
@@ -12,15 +13,15 @@ use mir_syntax::{Body, OutOfMemory, Program};
 use std::alloc::Global;
 use trim_locals::trimmed;
 
-/// The body after the steps: its control flow is cleaned, what nobody reads goes, the control flow is cleaned again, and locals that are left
+/// The body after the passes: its control flow is cleaned, what nobody reads goes, the control flow is cleaned again, and locals that are left
 /// without use go. The body fits a function of the program, which need not hold it. `Err` is for want of memory alone, and the body is
 /// spent then.
-pub fn steps(alloc: Global, program: &Program, body: Body) -> Result<Body, OutOfMemory>
+pub fn after_passes(alloc: Global, program: &Program, body: Body) -> Result<Body, OutOfMemory>
     requires knows { KnowsDrops program.now }
     requires ids { IdsInTable program.now }
     requires body_ids { BodyInTable program.now.types body }
     requires fits { (f : ℕ) × (g : TypedFunction) × FitsAt (crate_of program.now) f g (body_of (trees_of program.now.types) body) }
-    ensures stepped { IfOk result (λ left. IsStepped (shapes_of (crate_of program.now)) (body_of (trees_of program.now.types) body) (body_of (trees_of program.now.types) left)) }
+    ensures passed { IfOk result (λ left. body_of (trees_of program.now.types) left ≡ passed_body (shapes_of (crate_of program.now)) (body_of (trees_of program.now.types) body)) }
     ensures in_table { IfOk result (λ left. BodyInTable program.now.types left) }
 {
     let cleaned = simple(alloc, program, body)?;

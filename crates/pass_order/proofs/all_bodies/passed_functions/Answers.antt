@@ -2,23 +2,23 @@ use Rattle.std.proofs.Common.{◌≡◌, ◌<◌, sym, ap, ◌∙◌, subst, len
 use Rattle.std.proofs.lemmas.Grind.{common_steps}
 use Rattle.std.proofs.lemmas.Option.{slice_get_within, slice_get-get_or, get_or_from_slice_get}
 use Rattle.mir_syntax.specs.declared.body.Function.{Function}
-use Rattle.pass_order.specs.Programs.{CanStep, StepsTo}
+use Rattle.pass_order.specs.Programs.{CanPass, PassesTo}
 use Rattle.pass_order.proofs.Going.{going_more}
-use Rattle.pass_order.proofs.all_bodies.stepped_functions.Goals as goal
+use Rattle.pass_order.proofs.all_bodies.passed_functions.Goals as goal
 
-pub step_function-requires-clause-can_step : goal.step_function-requires-clause-can_step
-step_function-requires-clause-can_step c =
+pub pass_function-requires-clause-can_pass : goal.pass_function-requires-clause-can_pass
+pass_function-requires-clause-can_pass c =
     let going = c.loop-function.invariant in
     let long = going.long in
     let i = c.loop-function.function-index in
     let d = c.function-item.result in
     let below : i < length c.args.functions = omega arith in
     let there : slice_get c.args.functions i ≡ Some (get_or c.args.functions i d) = slice_get-get_or c.args.functions i d below in
-    subst (λ (g : Function). CanStep c.args.program.now g.body) (sym (going.rest i d (omega arith))) (c.requires.can_step i (get_or c.args.functions i d) there)
+    subst (λ (g : Function). CanPass c.args.program.now g.body) (sym (going.rest i d (omega arith))) (c.requires.can_pass i (get_or c.args.functions i d) there)
 
 pub loop-function-preserved : goal.loop-function-preserved
 loop-function-preserved c =
-    going_more (StepsTo c.args.program.now) c.args.functions c.loop-function.function-items c.loop-function.function-index c.function-item.result c.step_function.new.function (omega arith) c.loop-function.invariant c.in_ok-step_function.ensures
+    going_more (PassesTo c.args.program.now) c.args.functions c.loop-function.function-items c.loop-function.function-index c.function-item.result c.pass_function.new.function (omega arith) c.loop-function.invariant c.in_ok-pass_function.ensures
 
 pub returns-clause-each : goal.returns-clause-each
 returns-clause-each c = λ i g g2 e e2.
@@ -30,5 +30,5 @@ returns-clause-each c = λ i g g2 e e2.
     let m : i < length c.args.functions = slice_get_within c.args.functions i g e in
     let low : i < c.loop-function.function-index = omega arith in
     let done = going.done i g low m in
-    subst (λ (h : Function). StepsTo c.args.program.now g h) (get_or_from_slice_get items i g2 g at)
-    (subst (λ (h : Function). StepsTo c.args.program.now h (get_or items i g)) (get_or_from_slice_get c.args.functions i g g e) done)
+    subst (λ (h : Function). PassesTo c.args.program.now g h) (get_or_from_slice_get items i g2 g at)
+    (subst (λ (h : Function). PassesTo c.args.program.now h (get_or items i g)) (get_or_from_slice_get c.args.functions i g g e) done)

@@ -1,0 +1,50 @@
+-- The passes in their order keep what each of them keeps.
+use Rattle.std.proofs.Common.{◌≡◌, ◌↔◌, refl, ap, ◌∙◌, List}
+use Rattle.mir_syntax.specs.Crate.{TypedBody}
+use Rattle.mir_syntax.specs.Shapes.{Shape}
+use Rattle.mir_rules.specs.Valid.{with_body, at_function}
+use Rattle.mir_rules.proofs.ValidCrates.{body_formed_at, holds_body}
+use Rattle.cfg_simplify.specs.Simple.{simple}
+use Rattle.cfg_simplify.proofs.PassLaws as cleaning
+use Rattle.dead_store.specs.Pruned.{IsPruned, pruned}
+use Rattle.dead_store.proofs.equal.Once.{one_answer}
+use Rattle.dead_store.proofs.PassLaws as pruning
+use Rattle.trim_locals.specs.Trimmed.{trimmed}
+use Rattle.trim_locals.proofs.PassLaws as trimming
+use Rattle.trim_locals.proofs.Renumbered.{start_stays}
+use Rattle.pass_order.specs.Passes.{passes, after_passes}
+use Rattle.pass_order.proofs.Keeps.{PassKeeps, AllKeep, after_keeps}
+
+pub simple_keeps : PassKeeps (λ (D : List Shape). simple)
+simple_keeps = record { laws = cleaning.laws; args = λ C f b v. refl; start = λ C f b v. refl }
+
+pub pruned_keeps : PassKeeps pruned
+unfolding pruned
+pruned_keeps = record { laws = pruning.laws; args = λ C f b v. refl; start = λ C f b v. refl }
+
+trimmed_keeps : PassKeeps (λ (D : List Shape). trimmed)
+trimmed_keeps = record {
+  laws = trimming.laws;
+  args = λ C f b v. refl;
+  start = λ C f b v. start_stays (at_function C f v.function b) b (body_formed_at (at_function C f v.function b) v.valid f (with_body v.function b) (holds_body C f b v));
+}
+
+all_keep : AllKeep passes
+all_keep = (simple_keeps, (pruned_keeps, (simple_keeps, (trimmed_keeps, tt))))
+
+pub passes_keep : PassKeeps after_passes
+unfolding after_passes
+passes_keep = after_keeps passes all_keep
+
+-- one after another
+pub in_order : (D : List Shape) (b cleaned read joined left : TypedBody) → cleaned ≡ simple b → read ≡ pruned D cleaned → joined ≡ simple read → left ≡ trimmed joined → left ≡ after_passes D b
+unfolding after_passes
+in_order D b cleaned read joined left e1 e2 e3 e4 = e4 ∙ ap trimmed (e3 ∙ ap simple (e2 ∙ ap (pruned D) e1))
+
+-- the definitions one after another have one result
+pub one_result : (D : List Shape) (b c : TypedBody) → ((left : TypedBody) × IsPruned D (simple b) left × (c ≡ trimmed (simple left))) ↔ c ≡ after_passes D b
+unfolding after_passes
+one_result D b c = (
+  λ (left, is, same). same ∙ ap (λ (l : TypedBody). trimmed (simple l)) ((one_answer D (simple b) left).0 is),
+  λ e. (pruned D (simple b), (one_answer D (simple b) (pruned D (simple b))).1 refl, e),
+)

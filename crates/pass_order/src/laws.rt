@@ -1,0 +1,25 @@
+//! The laws of the passes in their order. The function here runs nothing; its contract is the law.
+ghost use Rattle.std.specs.Prelude.{◌≡◌, ◌↔◌, ℕ, List, Some, slice_get};
+ghost use Rattle.mir_syntax.specs.Crate.{TypedBody, TypedFunction, Crate};
+ghost use Rattle.mir_syntax.specs.Shapes.{Shape, shapes_of};
+ghost use Rattle.mir_semantics.specs.Refines.{Refines};
+ghost use Rattle.mir_rules.specs.Calls.{AddsNoCall};
+ghost use Rattle.mir_rules.specs.Drops.{NoDrops};
+ghost use Rattle.mir_rules.specs.Valid.{Valid, Within};
+ghost use Rattle.cfg_simplify.specs.Simple.{simple};
+ghost use Rattle.dead_store.specs.Pruned.{IsPruned};
+ghost use Rattle.trim_locals.specs.Trimmed.{trimmed};
+ghost use Rattle.pass_order.specs.Passes.{after_passes, optimised};
+
+/// A valid crate within the limits stays valid with each of its bodies after the passes, each of which calls only what it called; and where none
+/// of its bodies holds a `drop`, it is refined.
+pub fn optimised_refines()
+    ensures refines { (C : Crate) → Valid C → Within C → ((f : ℕ) (g : TypedFunction) → slice_get C.functions f ≡ Some g → NoDrops g.body) → Refines (optimised C) C }
+    ensures valid { (C : Crate) → Valid C → Within C → Valid (optimised C) }
+    ensures calls { (C : Crate) → Valid C → Within C → (f : ℕ) (g : TypedFunction) → slice_get C.functions f ≡ Some g → AddsNoCall (after_passes (shapes_of C) g.body) g.body }
+{}
+
+/// A body has one result: it is cleaned, pruned by the definition of paths, cleaned again and trimmed.
+pub fn one_result()
+    ensures { (D : List Shape) (b c : TypedBody) → ((left : TypedBody) × IsPruned D (simple b) left × (c ≡ trimmed (simple left))) ↔ c ≡ after_passes D b }
+{}
