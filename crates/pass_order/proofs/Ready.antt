@@ -1,9 +1,7 @@
 -- A body that fits a function has what the passes ask for.
-use Rattle.std.proofs.Common.{◌≡◌, ◌⊎◌, inl, inr, sym, subst, ℕ, ◌<◌, ◌≤◌, ◌^◌, true, nat_lt, List, [], ◌∷◌, map, length, get_or, arith}
-use Rattle.std.proofs.Common.{ltb-true}
+use Rattle.std.proofs.Common.{◌≡◌, subst, ℕ, ◌<◌, ◌^◌, true, nat_lt, List, [], ◌∷◌, length, get_or, arith, ltb-true}
 use Rattle.std.specs.List.{All}
-use Rattle.std.proofs.lemmas.Bool.{cases_lt}
-use Rattle.std.proofs.lemmas.List.{length-map, get_or_past}
+use Rattle.std.proofs.lemmas.List.{length-map}
 use Rattle.std.proofs.lemmas.List.Elements.{All-nil, All-cons}
 use Rattle.std.proofs.lemmas.Option.{slice_get-get_or}
 use Rattle.std.proofs.lemmas.Simd.{map-map}
@@ -11,25 +9,20 @@ use Rattle.mir_syntax.specs.declared.types.Ty.{Ty}
 use Rattle.mir_syntax.specs.declared.body.Place.{Place}
 use Rattle.mir_syntax.specs.declared.body.Stmt.{Stmt}
 use Rattle.mir_syntax.specs.declared.body.Stmt.TheVariants as stmt
-use Rattle.mir_syntax.specs.declared.body.Term.TheVariants.{Unreachable}
 use Rattle.mir_syntax.specs.declared.body.Block.{Block}
 use Rattle.mir_syntax.specs.declared.body.Body.{Body}
 use Rattle.mir_syntax.specs.Tree.{Tree, at_id}
 use Rattle.mir_syntax.specs.Crate.{TypedBody, TypedFunction, Crate, rvalue_of, stmt_of, block_of, body_of}
 use Rattle.mir_syntax.specs.Ids.{BodyInTable}
 use Rattle.mir_syntax.proofs.Lists.{map_there}
-use Rattle.mir_syntax.specs.Parts as parts
 use Rattle.mir_syntax.specs.Parts.{path_formed}
 use Rattle.mir_rules.specs.Formed.{place_formed, rvalue_formed, stmt_formed, body_formed}
 use Rattle.mir_rules.specs.Valid.{with_body, at_function}
 use Rattle.mir_rules.proofs.Lists.{and_true-left}
 use Rattle.mir_rules.proofs.Keeps.{BodyKeeps}
 use Rattle.mir_rules.proofs.ValidCrates.{body_formed_at, keeps, holds_body, stmt_formed_at}
-use Rattle.mir_cfg.specs.Paths as cfg
-use Rattle.cfg_simplify.specs.Edges.{Closed}
+use Rattle.mir_cfg.specs.Paths.{terms_of, Closed}
 use Rattle.cfg_simplify.specs.Simple.{term_of}
-use Rattle.cfg_simplify.specs.Code.{block_term}
-use Rattle.cfg_simplify.proofs.valid.Rearranged.{targets_same}
 use Rattle.cfg_simplify.proofs.valid.Kept as simple
 use Rattle.dead_store.specs.Rounds.{set_locals, BlockSetsBelow, IsReady}
 use Rattle.pass_order.specs.Fits.{FitsAt}
@@ -58,15 +51,8 @@ module _ (C : Crate) (f : ℕ) (g : TypedFunction) (trees : List Tree) (body : B
   few_locals = let few = h.locals in let long = length-map body.locals (at_id trees) in omega (arith, few, long)
 
   -- each edge leads to a block
-  pub closed : Closed (map block_term body.blocks)
+  pub closed : Closed (terms_of body)
   closed = subst Closed (map-map term_of (block_of trees) body.blocks) (simple.closed typed (simple.leads C2 typed formed kept))
-
-  all_exits : cfg.Closed (map block_term body.blocks)
-  all_exits a = go (cases_lt a (length (map block_term body.blocks)))
-    where
-      go : (a < length (map block_term body.blocks)) ⊎ (length (map block_term body.blocks) ≤ a) → All (λ b. b < length (map block_term body.blocks)) (cfg.exits (map block_term body.blocks) a)
-      go (inl l) = subst (All (λ b. b < length (map block_term body.blocks))) (sym (targets_same (get_or (map block_term body.blocks) a Unreachable))) (closed a Unreachable l)
-      go (inr l) = subst (λ t. All (λ b. b < length (map block_term body.blocks)) (parts.targets t)) (sym (get_or_past (map block_term body.blocks) a Unreachable l)) (All-nil (λ b. b < length (map block_term body.blocks)))
 
   -- ---- locals that are written
 
@@ -95,4 +81,4 @@ module _ (C : Crate) (f : ℕ) (g : TypedFunction) (trees : List Tree) (body : B
       set_below s (stmt_formed_at C2 typed formed j i (block_of trees k) (stmt_of trees s) at there)
 
   pub ready : (types : List Ty) → BodyInTable types body → IsReady types body
-  ready types ids = record { ids = ids; closed = all_exits; few_blocks = few_blocks; few_locals = few_locals; sets = sets }
+  ready types ids = record { ids = ids; closed = closed; few_blocks = few_blocks; few_locals = few_locals; sets = sets }
