@@ -105,7 +105,7 @@ module _ (p : Plan) (c : State) (l : IsLawful p) (g : Good p c) (clean : (q : �
 
   -- who has a stack is a worker
   has_seat : (v : ℕ) (e : Entry) (es : List Entry) → c.stack v ≡ e ∷ es → v < c.workers
-  has_seat v e es top = elim (le_cases c.workers v) [ inl le ↦ absurd (let none = g.seated v le in (cc)) | inr lt ↦ lt ]
+  has_seat v e es top = elim (le_cases c.workers v) [ inl le ↦ absurd (let none = (g.seated v le).stack in (cc)) | inr lt ↦ lt ]
     where
       le_cases : (a b : ℕ) → (a ≤ b) ⊎ (b < a)
       le_cases a b = grind (arith, nat_tests)

@@ -1,6 +1,6 @@
 -- A steal keeps what is true of the core.
 use Rattle.std.proofs.Common.{◌≡◌, ◌≢◌, ℕ, ◌<◌, true, false, List, ◌∷◌, ◌⊎◌, inl, inr, refl, sym, subst, ap, ◌∙◌, arith}
-use Rattle.std.specs.Prelude.{Some}
+use Rattle.std.specs.Prelude.{Some, None}
 use Rattle.sched_core.specs.declared.Status.{Status}
 use Rattle.sched_core.specs.declared.Status.TheVariants.{Claimed, Done, Failed, Stolen}
 use Rattle.sched_core.specs.Plan.{Plan, IsLawful, has, Reads}
@@ -8,7 +8,7 @@ use Rattle.sched_core.specs.State.{State, Entry, upd, queries_of, settled, done,
 use Rattle.sched_core.specs.Good.{Good, GivenSeen, Borrows}
 use Rattle.sched_core.proofs.Upd.{upd_other, upd_tells}
 use Rattle.sched_core.proofs.Lists.{borrowers_some}
-use Rattle.sched_core.proofs.Parts.{borrows_at, waits_same}
+use Rattle.sched_core.proofs.Parts.{borrows_at, waits_same, other_set, nothing_at}
 use Rattle.std.proofs.lemmas.Bool.Decides.{nat_tests}
 
 -- a query isn't its own need
@@ -97,6 +97,7 @@ module _ (p : Plan) (c : State) (w s : ℕ) (e : Entry) (es : List Entry) (l : I
     stolen_for = stolen_for;
     taken = taken;
     drawn = drawn;
+    limit = g.limit;
     rooted = g.rooted;
-    seated = g.seated;
+    seated = λ v le. nothing_at c (stolen_by c w s) v (g.seated v le) refl refl (other_set c.wait w None c.workers m.worker v le) refl;
   }

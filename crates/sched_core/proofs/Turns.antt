@@ -100,7 +100,7 @@ module _ (p : Plan) (c : State) (l : IsLawful p) (g : Good p c) (w : ℕ) (lt : 
       tells x y ys h = grind (arith, nat_tests)
 
   root_below : (r : ℕ) → c.root w ≡ Some r → r < p.queries
-  root_below r h = let i = g.rooted w r h in let b = l.roots_below i.0 i.1 in let e = i.2 in omega arith
+  root_below r h = let i = g.rooted w r h in let lt = i.1 in let most = g.limit in let b = l.roots_below i.0 (omega arith) in let e = i.2 in omega arith
 
   pub top_below : (e : Entry) (es : List Entry) → c.stack w ≡ e ∷ es → e.0 < p.queries
   top_below e es top = stack_below (c.root w) (e ∷ es) root_below (subst (λ (xs : List Entry). Chained p (c.root w) xs) top (g.chained w)) e.0 (here e.0 (queries_of es))

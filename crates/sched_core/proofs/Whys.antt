@@ -4,10 +4,10 @@ use Rattle.std.specs.Prelude.{Option, Some, None, IfSome, if◌then◌else◌}
 use Rattle.sched_core.specs.declared.Why.{Why}
 use Rattle.sched_core.specs.declared.Why.TheVariants as w
 use Rattle.sched_core.specs.Plan.{Plan, IsLawful, has, next_need}
-use Rattle.sched_core.specs.State.{State, Entry, is, next, next_of_top}
+use Rattle.sched_core.specs.State.{State, Entry, is, next, next_of_top, done}
 use Rattle.sched_core.specs.Good.{Good}
 use Rattle.sched_core.specs.Turn.{ripe}
-use Rattle.sched_core.specs.Table.{or_else, unless, holds_none, taken, need_or, is_done, is_free, why_publish, why_borrow, why_steal}
+use Rattle.sched_core.specs.Table.{or_else, unless, holds_none, taken, need_or, is_free, why_publish, why_borrow, why_steal}
 use Rattle.sched_core.proofs.Lists.{next_in}
 use Rattle.sched_core.proofs.Ripe.{ripe_is}
 use Rattle.sched_core.proofs.Turns.{top_below}
@@ -38,7 +38,7 @@ module _ (p : Plan) (c : State) (l : IsLawful p) (g : Good p c) (v q : ℕ) (giv
 
   module _ (need steals : Option ℕ) (n : need ≡ next p c v) (st : steals ≡ p.steals q) (s : ℕ) where
     abbrev pub later : Option Why
-    later = or_else (unless (c.seen v s) (w.Unseen s)) (or_else (holds_none (c.borrow v)) (unless (is_done (c.status s)) (w.Status (c.status s))))
+    later = or_else (unless (c.seen v s) (w.Unseen s)) (or_else (holds_none (c.borrow v)) (unless (done (c.status s)) (w.Status (c.status s))))
 
     borrow_reason : why_borrow p c v s (c.stack v) ≡ or_else (unless (is need s && (if◌then◌else◌ {A = Bool} (is steals s) false true)) (w.NotTop s)) later
     borrow_reason =

@@ -25,26 +25,26 @@ neither x y a b e f h = elim h [
 pub steals-requires : goal.steals-requires
 steals-requires g c =
     let p = g.J.Jobs.plan c.args.jobs.now in
-    let laws = (g.met.J.Jobs g.world.𝓛 g.world.𝓜 g.world.𝓡 ((λ s x. x), (λ x. x), (λ x. x), λ x. x)).lawful c.args.jobs.now in
+    let laws = c.requires.core.lawful in
     let s = c.args.self.now in
     let e = c.in-Some.ensures in
     let top = top_at s.stacks.items c.args.w c.index.result.now ((c.in-Some.q, e.0) ∷ e.1.0) (omega arith) c.index.ensures e.1.1 in
-    query_below p (state_of s) laws c.requires.good c.args.w c.in-Some.q e.0 e.1.0 top c.requires.worker
+    query_below p (state_of s) laws c.requires.core.good c.args.w c.in-Some.q e.0 e.1.0 top c.requires.worker
 
 pub returns-then-not-is_stolen : goal.returns-then-not-is_stolen
 returns-then-not-is_stolen g c =
     let p = g.J.Jobs.plan c.args.jobs.now in
-    let laws = (g.met.J.Jobs g.world.𝓛 g.world.𝓜 g.world.𝓡 ((λ s x. x), (λ x. x), (λ x. x), λ x. x)).lawful c.args.jobs.now in
+    let laws = c.requires.core.lawful in
     let s = c.args.self.now in
     let e = c.in-Some.ensures in
     let top = top_at s.stacks.items c.args.w c.index.result.now ((c.in-Some.q, e.0) ∷ e.1.0) (omega arith) c.index.ensures e.1.1 in
-    c.why_lent.ensures ∙ may_lend p (state_of s) laws c.requires.good c.args.w c.in-Some.q e.0 e.1.0 top c.next.result c.steals.result c.next.ensures c.steals.ensures c.args.s (sym c.is_some_of-is_next.ensures ∙ c.if-is_next.true) (sym c.is_some_of-is_stolen.ensures ∙ c.if-not-is_stolen.true)
+    c.why_lent.ensures ∙ may_lend p (state_of s) laws c.requires.core.good c.args.w c.in-Some.q e.0 e.1.0 top c.next.result c.steals.result c.next.ensures c.steals.ensures c.args.s (sym c.is_some_of-is_next.ensures ∙ c.if-is_next.true) (sym c.is_some_of-is_stolen.ensures ∙ c.if-not-is_stolen.true)
 
 pub returns-else-is_next : goal.returns-else-is_next
 returns-else-is_next g c =
     let p = g.J.Jobs.plan c.args.jobs.now in
-    let laws = (g.met.J.Jobs g.world.𝓛 g.world.𝓜 g.world.𝓡 ((λ s x. x), (λ x. x), (λ x. x), λ x. x)).lawful c.args.jobs.now in
+    let laws = c.requires.core.lawful in
     let s = c.args.self.now in
     let e = c.in-Some.ensures in
     let top = top_at s.stacks.items c.args.w c.index.result.now ((c.in-Some.q, e.0) ∷ e.1.0) (omega arith) c.index.ensures e.1.1 in
-    may_not_lend p (state_of s) laws c.requires.good c.args.w c.in-Some.q e.0 e.1.0 top c.next.result c.steals.result c.next.ensures c.steals.ensures c.args.s (neither c.is_some_of-is_next.result c.is_some_of-is_stolen.result _ _ c.is_some_of-is_next.ensures c.is_some_of-is_stolen.ensures c.else-is_next.either)
+    may_not_lend p (state_of s) laws c.requires.core.good c.args.w c.in-Some.q e.0 e.1.0 top c.next.result c.steals.result c.next.ensures c.steals.ensures c.args.s (neither c.is_some_of-is_next.result c.is_some_of-is_stolen.result _ _ c.is_some_of-is_next.ensures c.is_some_of-is_stolen.ensures c.else-is_next.either)
