@@ -49,7 +49,7 @@ one_most : (b : Bool) → (if◌then◌else◌ {A = ℕ} b 1 0) ≤ 1
 one_most true = omega arith
 one_most false = omega arith
 
-borrowers_most : (f : ℕ → Option ℕ) (n s : ℕ) → borrowers f n s ≤ n
+pub borrowers_most : (f : ℕ → Option ℕ) (n s : ℕ) → borrowers f n s ≤ n
 borrowers_most f zero s = omega arith
 borrowers_most f (suc n) s =
     let x : ℕ = if◌then◌else◌ {A = ℕ} (is (f n) s) 1 0 in

@@ -203,7 +203,6 @@ fn drawn(alloc: Global, start: u32, workers: u32) -> Result<List<u32>, OutOfMemo
 }
 
 #[test]
-#[tactic(auto, using(crate::proofs::TestLaws::lawful))]
 fn publish_in_a_new_core_is_illegal(rt: HostRuntime) -> Result<(), Fail> {
     let jobs = Five {
         alloc: rt.alloc(),
@@ -234,7 +233,6 @@ fn one_query_has_a_trail_of_three(rt: HostRuntime) -> Result<(), Fail> {
 }
 
 #[test]
-#[tactic(auto, using(crate::proofs::TestLaws::lawful))]
 fn every_schedule_gives_the_same_answers(rt: HostRuntime) -> Result<(), Fail> {
     let alloc = rt.alloc();
     for workers in 1..4 {
@@ -272,7 +270,6 @@ fn every_schedule_gives_the_same_answers(rt: HostRuntime) -> Result<(), Fail> {
 }
 
 #[test]
-#[tactic(auto, using(crate::proofs::TestLaws::lawful))]
 fn want_of_memory_ends_a_weave(rt: HostRuntime) -> Result<(), Fail> {
     let alloc = rt.alloc();
     for q in 0..5 {
