@@ -74,7 +74,7 @@ returns-clause-loom g c =
     let works = c.carry.new.self.works.items in
     let answers = c.carry.new.self.answers.items in
     step_weaves (g.J.Jobs.is_work c.args.jobs.now) (g.J.Jobs.given c.args.jobs.now) (g.J.Jobs.out c.args.jobs.now) p told c.carry.new.self.core c.act.new.self e works answers c.in_ok-carry.ensures.core
-        c.in_ok-tell.ensures.loom.good legal c.act.ensures c.in_ok-carry.ensures.holds
+    c.in_ok-tell.ensures.loom.good legal c.act.ensures c.in_ok-carry.ensures.holds
 
 pub returns-clause-event : goal.returns-clause-event
 returns-clause-event g c =
