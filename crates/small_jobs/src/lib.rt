@@ -32,9 +32,10 @@ pub struct Reading {
 
 impl Small {
     /// The jobs, of which this query, if any, runs out of memory.
-    #[tactic(auto, using(crate::proofs::Laws::small_carry))]
+    #[tactic(auto, using(crate::proofs::Laws::small_carry, crate::proofs::Laws::small_lawful))]
     pub fn new(fails: Option<u32>) -> Small
-        ensures { result.fails ≡ fails }
+        ensures fails { result.fails ≡ fails }
+        ensures lawful { IsLawful (small_plan result.thief_reads) }
     {
         Small {
             fails,

@@ -29,6 +29,7 @@ fn opened(alloc: Global, fails: Option<u32>) -> Result<(QueryTable<Small>, Seat,
 }
 
 // Draws a root and claims it.
+#[tactic(auto, using(crate::proofs::Laws::carried_one))]
 fn claim_root(table: &QueryTable<Small>, seat: &mut Seat) -> Option<Claim>
     requires seat { IsSeatOf table.now.0 seat.old }
     requires new { IsNew seat.old.token.me.0 }
