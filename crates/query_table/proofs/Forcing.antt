@@ -5,33 +5,32 @@ use Rattle.std.proofs.lemmas.Bool.Decides.{nat_tests}
 use Rattle.atomic_table.specs.Seated.{TableId}
 use Rattle.sched_core.specs.Plan.{Plan, IsLawful, has, next_need}
 use Rattle.sched_core.specs.State.{Entry, below_top, give, next_of_top}
-use Rattle.sched_core.proofs.Lists.{next_in, next_none, next_last, has_snoc, bool_tells}
+use Rattle.sched_core.proofs.Lists.{next_in, next_none, next_last, has_snoc, bool_tells, stolen_in}
 use Rattle.query_table.specs.declared.view.View.{View}
 use Rattle.query_table.specs.declared.table.Seat.{Seat}
-use Rattle.query_table.specs.Rule.{last_root}
+use Rattle.query_table.specs.Rule.{last_root, failed_word}
 use Rattle.query_table.specs.Steps.{without, with_top, claim_view, look_view, borrow_view, release_view, steal_view, publish_view, fail_view, AllSeenAs, IsRipe}
 use Rattle.query_table.specs.Answers.{IsSeatOf}
 use Rattle.query_table.specs.Chain.{Matches, HasTaken, Rising, StandsOn, IsForcing, IsGivingUp, IsIdle}
-use Rattle.query_table.proofs.Lists.{stolen_in}
 use Rattle.query_table.proofs.Chains.{stands_below, stands_alone, stands_more, rising_more, has_first}
 
 -- what both outcomes of a test have
-either_way : {A : Type 0} (b : Bool) (f : View → A) (x y : View) (a : A) → f x ≡ a → f y ≡ a → f (if b then x else y) ≡ a
+pub either_way : {A : Type 0} (b : Bool) (f : View → A) (x y : View) (a : A) → f x ≡ a → f y ≡ a → f (if b then x else y) ≡ a
 either_way true f x y a h k = h
 either_way false f x y a h k = k
 
 -- a look changes neither stack nor borrow, nor what was stolen or drawn
 look_stack : (v : View) (q found : ℕ) → (look_view v q found).stack ≡ v.stack
-look_stack v q found = either_way (nat_lt found 2) (λ w. w.stack) _ _ v.stack refl (either_way (found == 1099511627776) (λ w. w.stack) _ _ v.stack refl refl)
+look_stack v q found = either_way (nat_lt found 2) (λ w. w.stack) _ _ v.stack refl (either_way (found == failed_word) (λ w. w.stack) _ _ v.stack refl refl)
 
 look_borrow : (v : View) (q found : ℕ) → (look_view v q found).borrow ≡ v.borrow
-look_borrow v q found = either_way (nat_lt found 2) (λ w. w.borrow) _ _ v.borrow refl (either_way (found == 1099511627776) (λ w. w.borrow) _ _ v.borrow refl refl)
+look_borrow v q found = either_way (nat_lt found 2) (λ w. w.borrow) _ _ v.borrow refl (either_way (found == failed_word) (λ w. w.borrow) _ _ v.borrow refl refl)
 
 look_thieves : (v : View) (q found : ℕ) → (look_view v q found).thieves ≡ v.thieves
-look_thieves v q found = either_way (nat_lt found 2) (λ w. w.thieves) _ _ v.thieves refl (either_way (found == 1099511627776) (λ w. w.thieves) _ _ v.thieves refl refl)
+look_thieves v q found = either_way (nat_lt found 2) (λ w. w.thieves) _ _ v.thieves refl (either_way (found == failed_word) (λ w. w.thieves) _ _ v.thieves refl refl)
 
 look_drawn : (v : View) (q found : ℕ) → (look_view v q found).drawn ≡ v.drawn
-look_drawn v q found = either_way (nat_lt found 2) (λ w. w.drawn) _ _ v.drawn refl (either_way (found == 1099511627776) (λ w. w.drawn) _ _ v.drawn refl refl)
+look_drawn v q found = either_way (nat_lt found 2) (λ w. w.drawn) _ _ v.drawn refl (either_way (found == failed_word) (λ w. w.drawn) _ _ v.drawn refl refl)
 
 -- a seat whose view kept these is still on its way
 forcing_same : (p : Plan) (table : TableId) (q : ℕ) (s t : Seat) → IsForcing p table q s → IsSeatOf table t
@@ -73,9 +72,9 @@ giving_up p table q t e rest f top = record {
 
 -- after a look that found the need failed
 pub looked_failed : (p : Plan) (table : TableId) (q n : ℕ) (s t : Seat) → IsForcing p table q s → IsSeatOf table t
-    → t.token.me.0 ≡ look_view s.token.me.0 n 1099511627776 → next_of_top p s.token.me.0.stack (Some q) ≡ Some n → IsGivingUp table q t
+    → t.token.me.0 ≡ look_view s.token.me.0 n failed_word → next_of_top p s.token.me.0.stack (Some q) ≡ Some n → IsGivingUp table q t
 looked_failed p table q n s t f sits step next =
-    let looked = forcing_looked p table q n 1099511627776 s t f sits step in
+    let looked = forcing_looked p table q n failed_word s t f sits step in
     let g = looked.0 in record {
       of_table = g.of_table;
       free = g.free;

@@ -1,6 +1,7 @@
 -- What the calls answer, and which seats and tokens belong to a table.
 use Rattle.std.specs.Prelude.{◌≡◌, ◌≢◌, ℕ, ◌<◌, ◌≤◌, false, []}
 use Rattle.atomic_table.specs.Seated.{TableId}
+use Rattle.query_table.specs.Rule.{failed_word}
 use Rattle.query_table.specs.declared.table.Seat.{Seat}
 use Rattle.query_table.specs.declared.token.Claim.{Claim}
 use Rattle.query_table.specs.declared.token.Borrow.{Borrow}
@@ -40,8 +41,8 @@ abbrev pub claim_answer : TableId → ℕ → ℕ → Claimed → ℕ → Type 0
 claim_answer table queries q (Won claim) found = (found ≡ 0) × IsNewClaim table queries q claim
 claim_answer table queries q (Lost word) found = (word ≡ found) × (found ≢ 0)
 
--- not yet exactly where the word was 0 or 1, failed exactly where it was 2^40
+-- not yet exactly where the word was 0 or 1, failed exactly where it was that of a query that failed
 abbrev pub look_answer : Looked → ℕ → Type 0
 look_answer (NotYet word) found = (word ≡ found) × (found < 2)
-look_answer Failed found = found ≡ 1099511627776
-look_answer Done found = (2 ≤ found) × (found ≢ 1099511627776)
+look_answer Failed found = found ≡ failed_word
+look_answer Done found = (2 ≤ found) × (found ≢ failed_word)

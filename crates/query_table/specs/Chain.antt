@@ -18,12 +18,12 @@ Matches R [] items = items ≡ []
 Matches {H = H} R (e ∷ es) items = (h : H) × ((hs : List H) × ((items ≡ hs ++ h ∷ []) × R h e × Matches R es hs))
 
 -- a claim with the work of its query, which was given the needs of the entry
-pub record HeldAs {W : Type 0} (p : Plan) (is_work : ℕ → W → Type 0) (given : W → List ℕ) (table : TableId) (claim : Claim) (work : W) (e : Entry) : Type 0 where
+pub record HeldAs {W : Type 0} (p : Plan) (is_work : ℕ → W → Type 0) (given : ℕ → W → List ℕ) (table : TableId) (claim : Claim) (work : W) (e : Entry) : Type 0 where
   pub of_table : IsClaimOf table p.queries claim
   pub empty : claim.filled ≡ false
   pub begun : is_work claim.query work
   pub query : e.0 ≡ claim.query
-  pub has_given : e.1 ≡ given work
+  pub has_given : e.1 ≡ given claim.query work
   -- what it steals is never given
   pub kept : (s : ℕ) → p.steals e.0 ≡ Some s → has s e.1 ≡ false
 
@@ -78,7 +78,7 @@ pub record HasTaken (p : Plan) (v w : View) (q : ℕ) : Type 0 where
   pub others : without q w.thieves ≡ []
 
 -- what a turn leaves: on its way; or done, with nothing claimed; or giving up
-abbrev pub IsTurn : {H W : Type 0} → Plan → (ℕ → W → Type 0) → (W → List ℕ) → (H → Claim) → (H → W) → TableId → ℕ → Seat → List H → Progress → Type 0
+abbrev pub IsTurn : {H W : Type 0} → Plan → (ℕ → W → Type 0) → (ℕ → W → List ℕ) → (H → Claim) → (H → W) → TableId → ℕ → Seat → List H → Progress → Type 0
 IsTurn p is_work given claim_of work_of table q seat items On =
     IsForcing p table q seat × Matches (λ h e. HeldAs p is_work given table (claim_of h) (work_of h) e) seat.token.me.0.stack items
 IsTurn p is_work given claim_of work_of table q seat items Done = IsIdle table seat × (items ≡ []) × (has q seat.token.me.0.seen ≡ true)

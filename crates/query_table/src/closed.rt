@@ -17,22 +17,23 @@ pub struct Closed<J: Jobs> {
 
 // Contracts see it as the jobs: the answers are the defined ones.
 impl<J: Jobs> Model for Closed<J> {
-    ghost use Rattle.query_table.specs.Closed.{AreRootAnswers};
+    ghost use Rattle.std.specs.Prelude.{◌≡◌};
+    ghost use Rattle.sched_core.specs.Held.{roots_answers};
 
     ghost Value = { J };
 
     ghost view = { λ c. c.jobs };
 
-    ghost invariant = { λ c. AreRootAnswers (J.plan c.jobs) (J.out c.jobs) c.answers };
+    ghost invariant = { λ c. c.answers ≡ roots_answers (J.out c.jobs) (J.plan c.jobs) 0 (J.plan c.jobs).roots };
 }
 
 impl<J: Jobs> Closed<J> {
-    ghost use Rattle.query_table.specs.Closed.{AreRootAnswers};
+    ghost use Rattle.sched_core.specs.Held.{roots_answers};
 
     /// The jobs, and the roots' answers in their order.
     pub fn into_parts(self) -> (J, List<J::Answer>)
         ensures jobs { result.0 ≡ self }
-        ensures answers { AreRootAnswers (J.plan self) (J.out self) result.1 }
+        ensures answers { result.1 ≡ roots_answers (J.out self) (J.plan self) 0 (J.plan self).roots }
     {
         let Closed { jobs, answers } = self;
         (jobs, answers)

@@ -1,6 +1,6 @@
 //! Forcing a root: claims are kept in a list, and each turn looks at the next need of the latest one.
 ghost use Rattle.std.specs.Prelude.{◌≡◌, ◌≢◌, ℕ, ◌<◌, List, [], ◌∷◌, true, false, Some, None, OnOk, OnErr, MatchOption, vec_len};
-ghost use Rattle.sched_core.specs.Plan.{has};
+ghost use Rattle.sched_core.specs.Plan.{IsLawful, has};
 ghost use Rattle.sched_core.specs.State.{next_of_top};
 
 use crate::gate::Gate;
@@ -32,8 +32,9 @@ impl<J: Jobs> QueryTable<J> {
 
     /// The next need of the latest claim, or the root where nothing is claimed.
     fn next_need(&self, seat: &Seat, chain: &[Held<J>], q: u32) -> Option<u32>
-        requires { Matches (λ h e. HeldAs (J.plan self.now.1) (J.is_work self.now.1) J.given self.now.0 h.claim h.work e) seat.now.token.me.0.stack chain.now }
-        ensures { result ≡ next_of_top (J.plan self.now.1) seat.now.token.me.0.stack (Some q) }
+        requires { Matches (λ h e. HeldAs (J.plan self.now.1) (J.is_work self.now.1) (J.given self.now.1) self.now.0 h.claim h.work e) seat.now.token.me.0.stack chain.now }
+        ensures need { result ≡ next_of_top (J.plan self.now.1) seat.now.token.me.0.stack (Some q) }
+        ensures lawful { IsLawful (J.plan self.now.1) }
     {
         let _ = seat;
         match chain.last() {
@@ -69,10 +70,10 @@ impl<J: Jobs> QueryTable<J> {
         need: u32,
     ) -> Progress
         requires seat { IsForcing (J.plan self.now.1) self.now.0 q seat.old }
-        requires chain { Matches (λ h e. HeldAs (J.plan self.now.1) (J.is_work self.now.1) J.given self.now.0 h.claim h.work e) seat.old.token.me.0.stack chain.old.items }
+        requires chain { Matches (λ h e. HeldAs (J.plan self.now.1) (J.is_work self.now.1) (J.given self.now.1) self.now.0 h.claim h.work e) seat.old.token.me.0.stack chain.old.items }
         requires query { need < (J.plan self.now.1).queries }
         requires next { next_of_top (J.plan self.now.1) seat.old.token.me.0.stack (Some q) ≡ Some need }
-        ensures turn { IsTurn (J.plan self.now.1) (J.is_work self.now.1) J.given (λ h. h.claim) (λ h. h.work) self.now.0 q seat.new chain.new.items result }
+        ensures turn { IsTurn (J.plan self.now.1) (J.is_work self.now.1) (J.given self.now.1) (λ h. h.claim) (λ h. h.work) self.now.0 q seat.new chain.new.items result }
         ensures drawn { seat.new.token.me.0.drawn ≡ seat.old.token.me.0.drawn }
     {
         let claim = match self.claim(seat, need) {
@@ -110,12 +111,12 @@ impl<J: Jobs> QueryTable<J> {
         need: u32,
     ) -> Progress
         requires seat { IsForcing (J.plan self.now.1) self.now.0 q seat.old }
-        requires chain { Matches (λ h e. HeldAs (J.plan self.now.1) (J.is_work self.now.1) J.given self.now.0 h.claim h.work e) seat.old.token.me.0.stack (chain.old.items ++ held ∷ []) }
+        requires chain { Matches (λ h e. HeldAs (J.plan self.now.1) (J.is_work self.now.1) (J.given self.now.1) self.now.0 h.claim h.work e) seat.old.token.me.0.stack (chain.old.items ++ held ∷ []) }
         requires room { vec_len chain.old < vec_capacity chain.old }
         requires next { next_of_top (J.plan self.now.1) seat.old.token.me.0.stack (Some q) ≡ Some need }
         requires kept { (J.plan self.now.1).steals held.claim.query ≢ Some need }
         requires seen { has need seat.old.token.me.0.seen ≡ true }
-        ensures turn { IsTurn (J.plan self.now.1) (J.is_work self.now.1) J.given (λ h. h.claim) (λ h. h.work) self.now.0 q seat.new chain.new.items result }
+        ensures turn { IsTurn (J.plan self.now.1) (J.is_work self.now.1) (J.given self.now.1) (λ h. h.claim) (λ h. h.work) self.now.0 q seat.new chain.new.items result }
         ensures drawn { seat.new.token.me.0.drawn ≡ seat.old.token.me.0.drawn }
     {
         let Held { claim, mut work } = held;
@@ -159,9 +160,9 @@ impl<J: Jobs> QueryTable<J> {
         q: u32,
     ) -> Progress
         requires seat { IsForcing (J.plan self.now.1) self.now.0 q seat.old }
-        requires chain { Matches (λ h e. HeldAs (J.plan self.now.1) (J.is_work self.now.1) J.given self.now.0 h.claim h.work e) seat.old.token.me.0.stack (chain.old.items ++ held ∷ []) }
-        requires seen { AllSeenAs (J.plan self.now.1) seat.old.token.me.0 held.claim.query (J.given held.work) }
-        ensures turn { IsTurn (J.plan self.now.1) (J.is_work self.now.1) J.given (λ h. h.claim) (λ h. h.work) self.now.0 q seat.new chain.new.items result }
+        requires chain { Matches (λ h e. HeldAs (J.plan self.now.1) (J.is_work self.now.1) (J.given self.now.1) self.now.0 h.claim h.work e) seat.old.token.me.0.stack (chain.old.items ++ held ∷ []) }
+        requires seen { AllSeenAs (J.plan self.now.1) seat.old.token.me.0 held.claim.query (J.given self.now.1 held.claim.query held.work) }
+        ensures turn { IsTurn (J.plan self.now.1) (J.is_work self.now.1) (J.given self.now.1) (λ h. h.claim) (λ h. h.work) self.now.0 q seat.new chain.new.items result }
         ensures drawn { seat.new.token.me.0.drawn ≡ seat.old.token.me.0.drawn }
     {
         let Held { mut claim, work } = held;
@@ -184,12 +185,14 @@ impl<J: Jobs> QueryTable<J> {
     /// The need, unless the query steals it.
     fn to_read(&self, query: u32, need: Option<u32>) -> Option<u32>
         requires { query < (J.plan self.now.1).queries }
-        ensures { MatchOption result ((need ≡ None) ⊎ ((J.plan self.now.1).steals query ≡ need)) (λ n. (need ≡ Some n) × ((J.plan self.now.1).steals query ≢ Some n)) }
+        ensures read { MatchOption result ((need ≡ None) ⊎ ((J.plan self.now.1).steals query ≡ need)) (λ n. (need ≡ Some n) × ((J.plan self.now.1).steals query ≢ Some n)) }
+        ensures lawful { IsLawful (J.plan self.now.1) }
     {
+        let steals = self.jobs.steals(query);
         let Some(need) = need else {
             return None;
         };
-        match self.jobs.steals(query) {
+        match steals {
             Some(slot) => { if slot == need { None } else { Some(need) } }
             None => Some(need),
         }
@@ -206,10 +209,10 @@ impl<J: Jobs> QueryTable<J> {
         need: Option<u32>,
     ) -> Progress
         requires seat { IsForcing (J.plan self.now.1) self.now.0 q seat.old }
-        requires chain { Matches (λ h e. HeldAs (J.plan self.now.1) (J.is_work self.now.1) J.given self.now.0 h.claim h.work e) seat.old.token.me.0.stack chain.old.items }
+        requires chain { Matches (λ h e. HeldAs (J.plan self.now.1) (J.is_work self.now.1) (J.given self.now.1) self.now.0 h.claim h.work e) seat.old.token.me.0.stack chain.old.items }
         requires next { next_of_top (J.plan self.now.1) seat.old.token.me.0.stack (Some q) ≡ need }
         requires seen { (n : ℕ) → need ≡ Some n → has n seat.old.token.me.0.seen ≡ true }
-        ensures turn { IsTurn (J.plan self.now.1) (J.is_work self.now.1) J.given (λ h. h.claim) (λ h. h.work) self.now.0 q seat.new chain.new.items result }
+        ensures turn { IsTurn (J.plan self.now.1) (J.is_work self.now.1) (J.given self.now.1) (λ h. h.claim) (λ h. h.work) self.now.0 q seat.new chain.new.items result }
         ensures drawn { seat.new.token.me.0.drawn ≡ seat.old.token.me.0.drawn }
     {
         let Some(held) = chain.pop() else {
@@ -231,9 +234,8 @@ impl<J: Jobs> QueryTable<J> {
         q: u32,
     ) -> Progress
         requires seat { IsForcing (J.plan self.now.1) self.now.0 q seat.old }
-        requires chain { Matches (λ h e. HeldAs (J.plan self.now.1) (J.is_work self.now.1) J.given self.now.0 h.claim h.work e) seat.old.token.me.0.stack chain.old.items }
-        requires root { q < (J.plan self.now.1).queries }
-        ensures turn { IsTurn (J.plan self.now.1) (J.is_work self.now.1) J.given (λ h. h.claim) (λ h. h.work) self.now.0 q seat.new chain.new.items result }
+        requires chain { Matches (λ h e. HeldAs (J.plan self.now.1) (J.is_work self.now.1) (J.given self.now.1) self.now.0 h.claim h.work e) seat.old.token.me.0.stack chain.old.items }
+        ensures turn { IsTurn (J.plan self.now.1) (J.is_work self.now.1) (J.given self.now.1) (λ h. h.claim) (λ h. h.work) self.now.0 q seat.new chain.new.items result }
         ensures drawn { seat.new.token.me.0.drawn ≡ seat.old.token.me.0.drawn }
     {
         let Some(need) = self.next_need(seat, chain, q) else {

@@ -5,7 +5,7 @@
 //! each call is one step of it (`specs/Steps.antt`): so a borrowed slot is never stolen and a stolen one never read. The answers lie in a
 //! `StealSlot` for each query, and what is shown or taken is the query's defined answer. The main contracts are those of `QueryTable`: `claim`,
 //! `look`, `borrow`, `release`, `steal`, `publish`, `fail` and `draw`, which take no `Wait` and no memory, and `show`, `take`, `put`, under `Wait`.
-//! `force` (`specs/Chain.antt`) has a drawn root answered by these, and `answers` (`specs/Closed.antt`) closes a table whose roots are done.
+//! `force` (`specs/Chain.antt`) has a drawn root answered by these, and `answers` closes a table whose roots are done.
 #![tactic(auto)]
 
 mod closed;

@@ -67,6 +67,7 @@ pub struct QueryTable<J: Jobs> {
 impl<J: Jobs> Model for QueryTable<J> {
     ghost use Rattle.std.specs.Prelude.{◌≡◌, ◌+◌};
     ghost use Rattle.std.specs.Coded.{coded×};
+    ghost use Rattle.sched_core.specs.Plan.{IsLawful};
     ghost use Rattle.atomic_table.specs.Seated.{TableId, table_id_coded};
 
     ghost Value = { TableId × J };
@@ -75,7 +76,7 @@ impl<J: Jobs> Model for QueryTable<J> {
 
     ghost view = { λ t. (t.table.shared.table_id, t.jobs) };
 
-    ghost invariant = { λ t. (t.table.shared.key.jobs ≡ t.jobs) × (t.table.shared.table_id.words ≡ (J.plan t.jobs).queries + 1) × (t.slots ≡ t.jobs) };
+    ghost invariant = { λ t. (t.table.shared.key.jobs ≡ t.jobs) × (t.table.shared.table_id.words ≡ (J.plan t.jobs).queries + 1) × (t.slots ≡ t.jobs) × IsLawful (J.plan t.jobs) };
 }
 
 /// What a claim answers.
@@ -107,10 +108,11 @@ impl<J: Jobs> QueryTable<J> {
         ensures seat { IsSeatOf self.now.0 seat.new }
         ensures step { (found : ℕ) × (seat.new.token.me.0 ≡ claim_view seat.old.token.me.0 q found) × claim_answer self.now.0 (J.plan self.now.1).queries q result found }
     {
+        let word = q as usize + 1;
         let found = self
             .table
             .shared
-            .compare_exchange::<Claims>(&mut seat.token, q as usize + 1, 0, 1);
+            .compare_exchange::<Claims>(&mut seat.token, word, 0, 1);
         if found != 0 {
             return Claimed::Lost(found);
         }
@@ -355,10 +357,12 @@ impl<J: Jobs + Drop> QueryTable<J> {
     ghost use Rattle.std.specs.Prelude.{IfOk, All, vec_len};
     ghost use Rattle.query_table.specs.Answers.{IsSeatOf};
     ghost use Rattle.query_table.specs.Steps.{IsNew};
+    ghost use Rattle.sched_core.specs.Plan.{IsLawful};
 
-    /// A table in which nothing is claimed, and one seat for each of 1 to 64 workers.
+    /// A table of lawful jobs in which nothing is claimed, and one seat for each of 1 to 64 workers.
     pub fn new(alloc: Global, jobs: J, workers: u32) -> Result<Opened<J>, OutOfMemory>
-        requires { (0 < workers) × (workers ≤ 64) }
+        requires jobs { IsLawful (J.plan jobs) }
+        requires workers { (0 < workers) × (workers ≤ 64) }
         ensures jobs { IfOk result (λ o. o.table.1 ≡ jobs) }
         ensures count { IfOk result (λ o. length o.seats ≡ workers) }
         ensures seats { IfOk result (λ o. All (λ s. IsSeatOf o.table.0 s × IsNew s.token.me.0) o.seats) }
@@ -390,9 +394,11 @@ impl<J: Jobs + Drop> QueryTable<J> {
 }
 
 impl<J: Jobs + Drop> QueryTable<J> {
+    ghost use Rattle.sched_core.specs.Plan.{IsLawful};
+
     /// The answers behind the words, and the jobs.
     pub(crate) fn into_slots(self) -> (Slots<J>, J)
-        ensures { (result.0 ≡ self.1) × (result.1 ≡ self.1) }
+        ensures { (result.0 ≡ self.1) × (result.1 ≡ self.1) × IsLawful (J.plan self.1) }
     {
         let QueryTable {
             table: _,
@@ -418,8 +424,8 @@ impl<J: Jobs> QueryTable<J> {
         claim.filled = true;
     }
 
-    /// The right to read the defined answer of the borrowed slot.
-    pub fn show<R: Wait>(&self, rt: &R, borrow: &Borrow) -> AnswerShown<'_, J>
+    /// The right to read the defined answer of the borrowed slot. It lives no longer than the borrow: it has to be given back before `release`.
+    pub fn show<'a, R: Wait>(&'a self, rt: &R, borrow: &'a Borrow) -> AnswerShown<'a, J>
         requires { IsBorrowOf self.now.0 (J.plan self.now.1).queries borrow.now }
         ensures query { result.shown.query ≡ borrow.now.slot }
         ensures jobs { result.shown.jobs.value ≡ self.now.1 }

@@ -49,7 +49,7 @@ one_most : (b : Bool) → (if◌then◌else◌ {A = ℕ} b 1 0) ≤ 1
 one_most true = omega arith
 one_most false = omega arith
 
-borrowers_most : (f : ℕ → Option ℕ) (n s : ℕ) → borrowers f n s ≤ n
+pub borrowers_most : (f : ℕ → Option ℕ) (n s : ℕ) → borrowers f n s ≤ n
 borrowers_most f zero s = omega arith
 borrowers_most f (suc n) s =
     let x : ℕ = if◌then◌else◌ {A = ℕ} (is (f n) s) 1 0 in
@@ -73,11 +73,11 @@ module _ (p : Plan) (c : State) (g : Good p c) where
 
 -- the core that is left is good too
 pub happens_good : (p : Plan) (l : IsLawful p) (c d : Core) (e : Event) → GoodFor p c → Legal p (state_of c) e → Happens p c d e → GoodFor p d
-happens_good p l c d e g m h = record { sized = h.sized g.sized; rows = h.rows g.rows; good = kept_good p (state_of c) g.good l e (state_of d) m h.state }
+happens_good p l c d e g m h = record { lawful = l; sized = h.sized g.sized; rows = h.rows g.rows; good = kept_good p (state_of c) g.good l e (state_of d) m h.state }
 
 pub root_below : (p : Plan) (c : State) → IsLawful p → Good p c → (w : ℕ) (o : Option ℕ) → c.root w ≡ o → IfSome o (λ r. r < p.queries)
 root_below p c l g w None e = tt
-root_below p c l g w (Some r) e = let i = g.rooted w r e in subst (λ (x : ℕ). x < p.queries) i.2 (l.roots_below i.0 i.1)
+root_below p c l g w (Some r) e = let i = g.rooted w r e in let lt = i.1 in let most = g.limit in subst (λ (x : ℕ). x < p.queries) i.2 (l.roots_below i.0 (omega (arith, lt, most)))
 
 pub no_top : (es : List Entry) (e : Entry) (fs : List Entry) → es ≡ [] → es ≡ e ∷ fs → ⊥
 no_top es e fs h k = (cc)

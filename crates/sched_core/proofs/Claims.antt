@@ -1,6 +1,6 @@
 -- A claim keeps what is true of the core.
 use Rattle.std.proofs.Common.{◌≡◌, ℕ, ◌<◌, true, false, List, [], ◌∷◌, ◌⊎◌, inl, inr, refl, sym, subst, ◌∙◌, arith}
-use Rattle.std.specs.Prelude.{Some}
+use Rattle.std.specs.Prelude.{Some, None}
 use Rattle.sched_core.specs.declared.Status.{Status}
 use Rattle.sched_core.specs.declared.Status.TheVariants.{Claimed, Done, Failed, Stolen}
 use Rattle.sched_core.specs.Plan.{Plan, has, Reads}
@@ -8,7 +8,7 @@ use Rattle.sched_core.specs.State.{State, Entry, upd, queries_of, next_of_top, s
 use Rattle.sched_core.specs.Good.{Good, IsOnce, Chained, GivenSeen, Borrows}
 use Rattle.sched_core.proofs.Upd.{upd_other, upd_tells, upd_at}
 use Rattle.sched_core.proofs.Lists.{bool_tells, next_stands}
-use Rattle.sched_core.proofs.Parts.{borrows_at, waits_else, seated_set}
+use Rattle.sched_core.proofs.Parts.{borrows_at, waits_else, other_set, nothing_at}
 use Rattle.std.proofs.lemmas.Bool.Decides.{nat_tests}
 
 module _ (p : Plan) (c : State) (w q : ℕ) (g : Good p c) (m : MayClaim p c w q) where
@@ -98,6 +98,7 @@ module _ (p : Plan) (c : State) (w q : ℕ) (g : Good p c) (m : MayClaim p c w q
     stolen_for = stolen_for;
     taken = taken;
     drawn = drawn;
+    limit = g.limit;
     rooted = g.rooted;
-    seated = seated_set p c w new g.seated m.worker;
+    seated = λ v le. nothing_at c (claimed_by c w q) v (g.seated v le) (other_set c.stack w new c.workers m.worker v le) refl (other_set c.wait w None c.workers m.worker v le) refl;
   }

@@ -8,7 +8,7 @@ use Rattle.sched_core.specs.State.{State, Entry, upd, queries_of, settled, done,
 use Rattle.sched_core.specs.Good.{Good, IsOnce, Chained, GivenSeen, Borrows}
 use Rattle.sched_core.proofs.Upd.{upd_same, upd_other, upd_tells, upd_at}
 use Rattle.sched_core.proofs.Lists.{next_stands, has_snoc, one, borrowers_set}
-use Rattle.sched_core.proofs.Parts.{borrows_at, waits_else, waits_same, seated_set}
+use Rattle.sched_core.proofs.Parts.{borrows_at, waits_else, waits_same, other_set, nothing_at}
 use Rattle.std.proofs.lemmas.Bool.Decides.{nat_tests}
 
 -- the number of borrowers of s changes from b to a
@@ -131,8 +131,9 @@ module _ (p : Plan) (c : State) (w s : ℕ) (e : Entry) (es : List Entry) (b : �
     stolen_for = stolen_for p c s (b + 1) b st g m.done is_more;
     taken = taken p c s (b + 1) b st g m.done is_more;
     drawn = drawn p c s (b + 1) b st g m.done is_more;
+    limit = g.limit;
     rooted = g.rooted;
-    seated = g.seated;
+    seated = λ v le. nothing_at c (borrowed_by c w s) v (g.seated v le) refl (other_set c.borrow w (Some s) c.workers m.worker v le) (other_set c.wait w None c.workers m.worker v le) refl;
   }
 
 queries_give : (s : ℕ) (es : List Entry) → queries_of (give s es) ≡ queries_of es
@@ -207,6 +208,7 @@ module _ (p : Plan) (c : State) (w s : ℕ) (g : Good p c) (m : MayRelease p c w
     stolen_for = stolen_for p c s (b' - 1) b' st' g back.done is_less;
     taken = taken p c s (b' - 1) b' st' g back.done is_less;
     drawn = drawn p c s (b' - 1) b' st' g back.done is_less;
+    limit = g.limit;
     rooted = g.rooted;
-    seated = seated_set p c w given_up g.seated back.worker;
+    seated = λ v le. nothing_at c (released_by c w s) v (g.seated v le) (other_set c.stack w given_up c.workers back.worker v le) (other_set c.borrow w None c.workers back.worker v le) (other_set c.wait w None c.workers back.worker v le) refl;
   }

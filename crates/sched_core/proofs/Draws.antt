@@ -7,7 +7,7 @@ use Rattle.sched_core.specs.State.{State, Entry, upd, done, WaitFits, MayDraw, d
 use Rattle.sched_core.specs.Good.{Good, Chained}
 use Rattle.sched_core.proofs.Upd.{upd_same, upd_other, upd_tells, upd_at}
 use Rattle.sched_core.proofs.Lists.{nat_cases}
-use Rattle.sched_core.proofs.Parts.{borrows_at, root_done}
+use Rattle.sched_core.proofs.Parts.{borrows_at, root_done, other_set, nothing_at}
 
 module _ (p : Plan) (c : State) (w : ℕ) (l : IsLawful p) (g : Good p c) (m : MayDraw p c w) where
   abbrev drawn_root : Option ℕ
@@ -26,10 +26,10 @@ module _ (p : Plan) (c : State) (w : ℕ) (l : IsLawful p) (g : Good p c) (m : M
       there : (v ≢ w) × (upd c.wait w None v ≡ c.wait v) → WaitFits p (c.stack v) (root v) r
       there e = subst (λ (o : Option ℕ). WaitFits p (c.stack v) o r) (sym (upd_other c.root w drawn_root v e.0)) (g.waiting v r (sym e.1 ∙ h))
 
-  rooted : (v r : ℕ) → root v ≡ Some r → (i : ℕ) × (i < p.roots) × (p.root i ≡ r)
+  rooted : (v r : ℕ) → root v ≡ Some r → (i : ℕ) × (i < c.drawn + 1) × (p.root i ≡ r)
   rooted v r h = elim (upd_tells c.root w drawn_root v) [
-    | inl e ↦ (c.drawn, m.left, (let same : Some (p.root c.drawn) ≡ Some r = sym e.1 ∙ h in cc))
-    | inr e ↦ g.rooted v r (sym e.1 ∙ h)
+    | inl e ↦ (c.drawn, omega arith, (let same : Some (p.root c.drawn) ≡ Some r = sym e.1 ∙ h in cc))
+    | inr e ↦ let old = g.rooted v r (sym e.1 ∙ h) in let lt = old.1 in (old.0, omega arith, old.2)
   ]
 
   Drawn : ℕ → Type 0
@@ -66,6 +66,7 @@ module _ (p : Plan) (c : State) (w : ℕ) (l : IsLawful p) (g : Good p c) (m : M
     stolen_for = g.stolen_for;
     taken = g.taken;
     drawn = drawn;
+    limit = let left = m.left in omega arith;
     rooted = rooted;
-    seated = g.seated;
+    seated = λ v le. nothing_at c (drawn_by p c w) v (g.seated v le) refl refl (other_set c.wait w None c.workers m.worker v le) (other_set c.root w drawn_root c.workers m.worker v le);
   }

@@ -8,7 +8,7 @@ use Rattle.sched_core.specs.State.{State, Entry, upd, queries_of, settled, done,
 use Rattle.sched_core.specs.Good.{Good, IsOnce, Chained, GivenSeen, Borrows}
 use Rattle.sched_core.proofs.Upd.{upd_same, upd_other, upd_tells, upd_at}
 use Rattle.sched_core.proofs.Lists.{borrowers_none}
-use Rattle.sched_core.proofs.Parts.{borrows_at, waits_else, more, more_tells, more_keeps, given_more, seated_set}
+use Rattle.sched_core.proofs.Parts.{borrows_at, waits_else, more, more_tells, more_keeps, given_more, other_set, nothing_at}
 use Rattle.std.proofs.lemmas.Bool.Decides.{nat_tests}
 use Rattle.sched_core.proofs.Steals.{top_claimed}
 
@@ -149,8 +149,9 @@ module _ (p : Plan) (c : State) (w : ℕ) (e : Entry) (es : List Entry) (l : IsL
         stolen_for = stolen_for p c w e es (Done 0) l g m.top f un us refl;
         taken = taken p c w e es (Done 0) l g m.top f un us refl (λ _. m.taken);
         drawn = drawn p c w e es (Done 0) l g m.top f un us refl (inl refl);
+        limit = g.limit;
         rooted = g.rooted;
-        seated = seated_set p c w (below_top (c.stack w)) g.seated m.worker;
+        seated = λ v le. nothing_at c (published_by c w e.0) v (g.seated v le) (other_set c.stack w (below_top (c.stack w)) c.workers m.worker v le) refl (other_set c.wait w None c.workers m.worker v le) refl;
       }
 
   pub fail_keeps : MayFail p c w e es → Good p (failed_by c w e.0)
@@ -172,6 +173,7 @@ module _ (p : Plan) (c : State) (w : ℕ) (e : Entry) (es : List Entry) (l : IsL
     stolen_for = stolen_for p c w e es Failed l g m.top f un us refl;
     taken = taken p c w e es Failed l g m.top f un us refl (λ h. absurd (cc));
     drawn = drawn p c w e es Failed l g m.top f un us refl (inr refl);
+    limit = g.limit;
     rooted = g.rooted;
-    seated = seated_set p c w (below_top (c.stack w)) g.seated m.worker;
+    seated = λ v le. nothing_at c (failed_by c w e.0) v (g.seated v le) (other_set c.stack w (below_top (c.stack w)) c.workers m.worker v le) refl (other_set c.wait w None c.workers m.worker v le) refl;
   }

@@ -11,7 +11,7 @@ use Rattle.sched_core.specs.Good.{Good}
 use Rattle.sched_core.specs.Turn.{Useful}
 use Rattle.sched_core.specs.Work.{sum_below, missing, open_work, weight, is_free_hand, unseen, work_left}
 use Rattle.sched_core.proofs.Upd.{upd_same, upd_other}
-use Rattle.sched_core.proofs.Lists.{bool_tells, nat_cases, next_out}
+use Rattle.sched_core.proofs.Lists.{bool_tells, nat_cases, next_out, has_last}
 use Rattle.sched_core.proofs.Steals.{top_claimed}
 use Rattle.sched_core.proofs.Turns.{top_below}
 use Rattle.std.proofs.lemmas.Bool.Decides.{nat_tests}
@@ -61,10 +61,6 @@ missing_more (n ∷ ns) given s = let r : missing ns (given ++ s ∷ []) ≤ mis
       | inl t ↦ (let t' = keeps t in grind arith)
       | inr f ↦ elim (bool_tells (has n (given ++ s ∷ []))) [ inl t ↦ (grind arith) | inr g ↦ (grind arith) ]
     ]
-
-has_last : (xs : List ℕ) (s : ℕ) → has s (xs ++ s ∷ []) ≡ true
-has_last [] s = grind (arith, nat_tests)
-has_last (x ∷ xs) s = let r = has_last xs s in grind (arith, nat_tests)
 
 missing_less : (ns given : List ℕ) (s : ℕ) → has s ns ≡ true → has s given ≡ false → missing ns (given ++ s ∷ []) < missing ns given
 missing_less [] given s h o = absurd (cc)

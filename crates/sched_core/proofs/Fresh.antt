@@ -4,7 +4,7 @@ use Rattle.std.specs.Prelude.{Option, Some, None, slice_get, replicate, Vec}
 use Rattle.sched_core.specs.declared.Status.TheVariants.{Unclaimed}
 use Rattle.sched_core.specs.declared.state.Standing.{Standing}
 use Rattle.sched_core.specs.declared.state.Core.{Core}
-use Rattle.sched_core.specs.Plan.{Plan}
+use Rattle.sched_core.specs.Plan.{Plan, IsLawful}
 use Rattle.sched_core.specs.State.{start}
 use Rattle.sched_core.specs.Good.{Good}
 use Rattle.sched_core.specs.Shown.{state_of, stack_of, row_at, Ready, IsBlank, IsEmptyRow, GoodFor}
@@ -28,7 +28,7 @@ row_long m [] w lt h = absurd (omega arith)
 row_long m (x ∷ xs) zero lt h = ap length h ∙ alike_long m false
 row_long m (x ∷ xs) (suc w) lt h = row_long m xs w (omega arith) h
 
-module _ (p : Plan) (c : Core) (n m : ℕ) (few : n ≤ 64) (queries : m ≡ p.queries)
+module _ (p : Plan) (lawful : IsLawful p) (c : Core) (n m : ℕ) (few : n ≤ 64) (queries : m ≡ p.queries)
     (status : c.status.items ≡ replicate m Unclaimed) (stacks : (length c.stacks.items ≡ n) × ((w : ℕ) → IsEmptyRow (slice_get c.stacks.items w)))
     (borrow : c.borrow.items ≡ replicate n None) (seen : (length c.seen.items ≡ n) × ((w : ℕ) → IsBlank m (slice_get c.seen.items w)))
     (gone : (length c.gone.items ≡ n) × ((w : ℕ) → IsBlank m (slice_get c.gone.items w)))
@@ -51,6 +51,7 @@ module _ (p : Plan) (c : Core) (n m : ℕ) (few : n ≤ 64) (queries : m ≡ p.q
 
   pub fresh_good : GoodFor p c
   fresh_good = record {
+    lawful = lawful;
     sized = record {
       few = omega (arith, workers, few);
       status = ap length status ∙ (alike_long m Unclaimed ∙ queries);

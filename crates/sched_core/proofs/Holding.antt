@@ -64,7 +64,7 @@ less_is (Done b) t nay e = absurd (nay (b - 1) (sym e))
 less_is Failed t nay e = e
 less_is Stolen t nay e = e
 
-module _ {W A : Type 0} (is_work : ℕ → W → Type 0) (given : W → List ℕ) (out : ℕ → A) where
+module _ {W A : Type 0} (is_work : ℕ → W → Type 0) (given : ℕ → W → List ℕ) (out : ℕ → A) where
   works_else : (works : List (Option W)) (q : ℕ) (x : Option W) (es : List Entry) → has q (queries_of es) ≡ false → HasWorks is_work given works es → HasWorks is_work given (slice_set works q x) es
   works_else works q x [] nay h = tt
   works_else works q x (e ∷ es) nay h =
@@ -88,7 +88,7 @@ module _ {W A : Type 0} (is_work : ℕ → W → Type 0) (given : W → List ℕ
       | inr o ↦ o
     ]
 
-    pub hold_claim : (w q : ℕ) → MayClaim p c w q → (x : W) → is_work q x → given x ≡ [] → Holds is_work given out p (claimed_by c w q) (slice_set works q (Some x)) answers
+    pub hold_claim : (w q : ℕ) → MayClaim p c w q → (x : W) → is_work q x → given q x ≡ [] → Holds is_work given out p (claimed_by c w q) (slice_set works q (Some x)) answers
     hold_claim w q m x iw gx = record {
       works_long = set_length works q (Some x) ∙ h.works_long;
       answers_long = h.answers_long;
@@ -153,7 +153,7 @@ module _ {W A : Type 0} (is_work : ℕ → W → Type 0) (given : W → List ℕ
     }
 
     pub hold_release : (w s : ℕ) (e : Entry) (es : List Entry) → c.stack w ≡ e ∷ es → (y : W) → is_work e.0 y
-        → ((x : W) → slice_get works e.0 ≡ Some (Some x) → given y ≡ given x ++ s ∷ []) → e.0 < p.queries → Holds is_work given out p (released_by c w s) (slice_set works e.0 (Some y)) answers
+        → ((x : W) → slice_get works e.0 ≡ Some (Some x) → given e.0 y ≡ given e.0 x ++ s ∷ []) → e.0 < p.queries → Holds is_work given out p (released_by c w s) (slice_set works e.0 (Some y)) answers
     hold_release w s e es top y iw gy small = record {
       works_long = set_length works e.0 (Some y) ∙ h.works_long;
       answers_long = h.answers_long;

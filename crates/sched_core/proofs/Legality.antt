@@ -9,8 +9,8 @@ use Rattle.sched_core.specs.declared.Why.{Why}
 use Rattle.sched_core.specs.declared.Why.TheVariants as w
 use Rattle.sched_core.specs.Plan.{Plan, next_need}
 use Rattle.sched_core.specs.State.{State, Entry, is, next, untouched, WaitFits, Legal}
-use Rattle.sched_core.specs.State.{all_seen, is_stolen}
-use Rattle.sched_core.specs.Table.{or_else, unless, is_root, is_empty, claimed_here, is_done, is_free, within, holds_none, taken, why, why_borrow, why_steal, why_publish, why_fail, why_draw}
+use Rattle.sched_core.specs.State.{all_seen, is_stolen, done}
+use Rattle.sched_core.specs.Table.{or_else, unless, is_root, is_empty, claimed_here, is_free, within, holds_none, taken, why, why_borrow, why_steal, why_publish, why_fail, why_draw}
 use Rattle.sched_core.proofs.Lists.{bool_tells, nat_cases}
 use Rattle.sched_core.proofs.Turns.{is_tells, is_here, untouched_tells, stolen_tells, all_seen_tells, all_seen_from}
 use Rattle.std.proofs.lemmas.Bool.Decides.{nat_tests}
@@ -86,7 +86,7 @@ claimed_not v (Done b) h = refl
 claimed_not v Failed h = refl
 claimed_not v Stolen h = refl
 
-done_tells : (st : Status) → is_done st ≡ true → (b : ℕ) × (st ≡ Done b)
+done_tells : (st : Status) → done st ≡ true → (b : ℕ) × (st ≡ Done b)
 done_tells Unclaimed h = absurd (cc)
 done_tells (Claimed u) h = absurd (cc)
 done_tells (Done b) h = (b, refl)
@@ -125,7 +125,7 @@ module _ (p : Plan) (c : State) where
       let n = and_tells (is (next_need (p.needs e.0) e.1) s) (if is (p.steals e.0) s then false else true) (unless_none _ (w.NotTop s) a.0) in
       let b = or_none (unless (c.seen v s) (w.Unseen s)) _ a.1 in
       let d = or_none (holds_none (c.borrow v)) _ b.1 in
-      let k = done_tells (c.status s) (unless_none (is_done (c.status s)) (w.Status (c.status s)) d.1) in (
+      let k = done_tells (c.status s) (unless_none (done (c.status s)) (w.Status (c.status s)) d.1) in (
         e,
         es,
         k.0,
@@ -272,7 +272,7 @@ module _ (p : Plan) (c : State) where
   legal_no_reason (Borrow v s) m = let k = m.3 in let e = m.0 in both_none _ _ (in_range v c.workers k.worker) (both_none _ _ (in_range s p.queries k.query)
       (at_top (why_borrow p c v s) v m.0 m.1 None k.top
       (both_none _ _ (no_unless _ (w.NotTop s) (and_true (is (next_need (p.needs e.0) e.1) s) _ (is_here (next_need (p.needs e.0) e.1) s k.next) (flip_true (is (p.steals e.0) s) (is_not (p.steals e.0) s k.kept))))
-      (both_none _ _ (no_unless (c.seen v s) (w.Unseen s) k.seen) (both_none _ _ (ap holds_none k.free) (no_unless (is_done (c.status s)) (w.Status (c.status s)) (ap is_done k.done)))))))
+      (both_none _ _ (no_unless (c.seen v s) (w.Unseen s) k.seen) (both_none _ _ (ap holds_none k.free) (no_unless (done (c.status s)) (w.Status (c.status s)) (ap done k.done)))))))
   legal_no_reason (Release v s) m = both_none _ _ (in_range v c.workers m.worker) (both_none _ _ (in_range s p.queries m.query) (no_unless (is (c.borrow v) s) (w.Holds s) (is_here (c.borrow v) s m.borrows)))
   legal_no_reason (Steal v s) m = let k = m.2 in let e = m.0 in both_none _ _ (in_range v c.workers k.worker) (both_none _ _ (in_range s p.queries k.query)
       (at_top (why_steal p c v s) v m.0 m.1 None k.top

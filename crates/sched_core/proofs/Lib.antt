@@ -25,3 +25,4 @@ pub mod Rounds
 pub mod Taking
 pub mod Weaving
 pub mod TestJobs
+pub mod TestLaws

@@ -2,7 +2,7 @@
 use Rattle.std.proofs.Common.{◌≡◌, ◌≢◌, ℕ, zero, suc, ◌+◌, ◌<◌, ◌≤◌, Bool, true, false, List, [], ◌∷◌, ◌++◌, ◌⊎◌, inl, inr, refl, sym, subst, ap, arith}
 use Rattle.std.specs.Prelude.{Option, Some, None, if◌then◌else◌}
 use Rattle.std.proofs.lemmas.Bool.Decides.{nat_tests}
-use Rattle.sched_core.specs.Plan.{Plan, has, next_need}
+use Rattle.sched_core.specs.Plan.{Plan, IsLawful, has, next_need}
 use Rattle.sched_core.specs.State.{Entry, upd, next_of_top, is, borrowers}
 use Rattle.sched_core.specs.Good.{Stands}
 use Rattle.sched_core.proofs.Upd.{upd_same, upd_other, upd_tells}
@@ -17,6 +17,17 @@ nat_cases a b = grind (arith, nat_tests)
 
 pub has_tells : (x : ℕ) (y : ℕ) (ys : List ℕ) → has x (y ∷ ys) ≡ true → (x ≡ y) ⊎ (has x ys ≡ true)
 has_tells x y ys h = grind (arith, nat_tests)
+
+pub has_first : (x : ℕ) (ys : List ℕ) → has x (x ∷ ys) ≡ true
+has_first x ys = grind (arith, nat_tests)
+
+pub has_last : (xs : List ℕ) (s : ℕ) → has s (xs ++ s ∷ []) ≡ true
+has_last [] s = grind (arith, nat_tests)
+has_last (x ∷ xs) s = let r = has_last xs s in grind (arith, nat_tests)
+
+-- what a query steals is one of its needs
+pub stolen_in : (p : Plan) → IsLawful p → (q s : ℕ) → p.steals q ≡ Some s → has s (p.needs q) ≡ true
+stolen_in p l q s h = let k = l.stolen_last s q h in subst (λ (xs : List ℕ). has s xs ≡ true) (sym k.1) (has_last k.0 s)
 
 pub next_in : (ns given : List ℕ) (q : ℕ) → next_need ns given ≡ Some q → has q ns ≡ true
 next_in [] given q h = absurd (cc)

@@ -10,7 +10,7 @@ use Rattle.sched_core.specs.State.{State, Entry, next_of_top, settled, done, unt
 use Rattle.sched_core.specs.Good.{Good, GivenSeen}
 use Rattle.sched_core.specs.State.{all_seen, is_stolen}
 use Rattle.sched_core.specs.Turn.{drawing, turn_empty, ending, turn_top, turn_free, turn_of, turn, Useful}
-use Rattle.sched_core.proofs.Lists.{next_in, next_none, nat_cases}
+use Rattle.sched_core.proofs.Lists.{next_in, next_none, nat_cases, stolen_in}
 use Rattle.sched_core.proofs.Parts.{root_done}
 use Rattle.sched_core.proofs.Waiting.{Top, owner_top}
 use Rattle.sched_core.proofs.Turns.{all_seen_from}
@@ -72,11 +72,7 @@ module _ (p : Plan) (c : State) (l : IsLawful p) (g : Good p c) (clean : (q : �
   none_seen w e es top n =
       let given = next_none (p.needs e.0) e.1 n in
       let seen = subst (λ (xs : List Entry). GivenSeen (c.seen w) xs) top (g.given w) in
-      ((λ m h _. given m h), (λ s t. let k = l.stolen_last s e.0 t in seen.0 s (given s (subst (λ (xs : List ℕ). has s xs ≡ true) (sym k.1) (last k.0 s)))))
-    where
-      last : (xs : List ℕ) (s : ℕ) → has s (xs ++ s ∷ []) ≡ true
-      last [] s = grind (arith, nat_tests)
-      last (x ∷ xs) s = let r = last xs s in grind (arith, nat_tests)
+      ((λ m h _. given m h), (λ s t. seen.0 s (given s (stolen_in p l e.0 s t))))
 
   top_tells : (w : ℕ) (e : Entry) (es : List Entry) → c.stack w ≡ e ∷ es → (o : Option ℕ) → next_need (p.needs e.0) e.1 ≡ o → Tells w (turn_top p c w e o)
   top_tells w e es top None n = pick w (all_seen p c w e) (ending c w (p.steals e.0)) None (λ _. ends_tells w (p.steals e.0))
@@ -105,7 +101,7 @@ module _ (p : Plan) (c : State) (l : IsLawful p) (g : Good p c) (clean : (q : �
 
   -- who has a stack is a worker
   has_seat : (v : ℕ) (e : Entry) (es : List Entry) → c.stack v ≡ e ∷ es → v < c.workers
-  has_seat v e es top = elim (le_cases c.workers v) [ inl le ↦ absurd (let none = g.seated v le in (cc)) | inr lt ↦ lt ]
+  has_seat v e es top = elim (le_cases c.workers v) [ inl le ↦ absurd (let none = (g.seated v le).stack in (cc)) | inr lt ↦ lt ]
     where
       le_cases : (a b : ℕ) → (a ≤ b) ⊎ (b < a)
       le_cases a b = grind (arith, nat_tests)

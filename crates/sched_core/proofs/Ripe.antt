@@ -6,20 +6,16 @@ use Rattle.sched_core.specs.State.{State, Entry, is, AllSeen}
 use Rattle.sched_core.specs.Good.{Good, GivenSeen}
 use Rattle.sched_core.specs.State.{all_seen}
 use Rattle.sched_core.specs.Turn.{ripe}
-use Rattle.sched_core.proofs.Lists.{bool_tells, next_in, next_out, next_none, next_last, has_snoc}
+use Rattle.sched_core.proofs.Lists.{bool_tells, next_in, next_out, next_none, next_last, has_snoc, stolen_in}
 use Rattle.sched_core.proofs.Turns.{is_tells, is_here, all_seen_from, all_seen_tells}
 use Rattle.std.proofs.lemmas.Bool.Decides.{nat_tests}
-
-last : (xs : List ℕ) (s : ℕ) → has s (xs ++ s ∷ []) ≡ true
-last [] s = grind (arith, nat_tests)
-last (x ∷ xs) s = let r = last xs s in grind (arith, nat_tests)
 
 module _ (p : Plan) (c : State) (l : IsLawful p) (g : Good p c) (v : ℕ) (e : Entry) (es : List Entry) (top : c.stack v ≡ e ∷ es) where
   none_left : next_need (p.needs e.0) e.1 ≡ None → AllSeen p c v e
   none_left n =
       let given = next_none (p.needs e.0) e.1 n in
       let seen = subst (λ (xs : List Entry). GivenSeen (c.seen v) xs) top (g.given v) in
-      ((λ m h _. given m h), (λ s t. let k = l.stolen_last s e.0 t in seen.0 s (given s (subst (λ (xs : List ℕ). has s xs ≡ true) (sym k.1) (last k.0 s)))))
+      ((λ m h _. given m h), (λ s t. seen.0 s (given s (stolen_in p l e.0 s t))))
 
   last_left : (q : ℕ) → next_need (p.needs e.0) e.1 ≡ Some q → p.steals e.0 ≡ Some q → c.seen v q ≡ true → AllSeen p c v e
   last_left q n t s =

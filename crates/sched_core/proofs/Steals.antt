@@ -1,14 +1,14 @@
 -- A steal keeps what is true of the core.
 use Rattle.std.proofs.Common.{◌≡◌, ◌≢◌, ℕ, ◌<◌, true, false, List, ◌∷◌, ◌⊎◌, inl, inr, refl, sym, subst, ap, ◌∙◌, arith}
-use Rattle.std.specs.Prelude.{Some}
+use Rattle.std.specs.Prelude.{Some, None}
 use Rattle.sched_core.specs.declared.Status.{Status}
 use Rattle.sched_core.specs.declared.Status.TheVariants.{Claimed, Done, Failed, Stolen}
 use Rattle.sched_core.specs.Plan.{Plan, IsLawful, has, Reads}
 use Rattle.sched_core.specs.State.{State, Entry, upd, queries_of, settled, done, untouched, borrowers, AllSeen, MaySteal, stolen_by}
 use Rattle.sched_core.specs.Good.{Good, GivenSeen, Borrows}
 use Rattle.sched_core.proofs.Upd.{upd_other, upd_tells}
-use Rattle.sched_core.proofs.Lists.{borrowers_some}
-use Rattle.sched_core.proofs.Parts.{borrows_at, waits_same}
+use Rattle.sched_core.proofs.Lists.{borrowers_some, has_first}
+use Rattle.sched_core.proofs.Parts.{borrows_at, waits_same, other_set, nothing_at}
 use Rattle.std.proofs.lemmas.Bool.Decides.{nat_tests}
 
 -- a query isn't its own need
@@ -25,10 +25,7 @@ module _ (p : Plan) (c : State) (l : IsLawful p) (g : Good p c) where
       g.seen w r (given.0 r (all.0 r need kept))
 
   pub top_claimed : (w : ℕ) (e : Entry) (es : List Entry) → c.stack w ≡ e ∷ es → c.status e.0 ≡ Claimed w
-  top_claimed w e es top = g.standing w e.0 (subst (λ (xs : List Entry). has e.0 (queries_of xs) ≡ true) (sym top) (first e.0 (queries_of es)))
-    where
-      first : (x : ℕ) (xs : List ℕ) → has x (x ∷ xs) ≡ true
-      first x xs = grind (arith, nat_tests)
+  top_claimed w e es top = g.standing w e.0 (subst (λ (xs : List Entry). has e.0 (queries_of xs) ≡ true) (sym top) (has_first e.0 (queries_of es)))
 
 module _ (p : Plan) (c : State) (w s : ℕ) (e : Entry) (es : List Entry) (l : IsLawful p) (g : Good p c) (m : MaySteal p c w s e es) where
   abbrev status : ℕ → Status
@@ -97,6 +94,7 @@ module _ (p : Plan) (c : State) (w s : ℕ) (e : Entry) (es : List Entry) (l : I
     stolen_for = stolen_for;
     taken = taken;
     drawn = drawn;
+    limit = g.limit;
     rooted = g.rooted;
-    seated = g.seated;
+    seated = λ v le. nothing_at c (stolen_by c w s) v (g.seated v le) refl refl (other_set c.wait w None c.workers m.worker v le) refl;
   }

@@ -8,7 +8,7 @@ use Rattle.sched_core.specs.State.{State, Entry, start}
 use Rattle.sched_core.specs.Plan.{Plan, has, next_need}
 use Rattle.sched_core.specs.TestJobs.{reads, stolen, chosen, out, own, gathered, IsWork}
 
-chosen_is : (far : Bool) → (1 < chosen far) × (chosen far < 4)
+pub chosen_is : (far : Bool) → (1 < chosen far) × (chosen far < 4)
 chosen_is false = (omega arith, omega arith)
 chosen_is true = (omega arith, omega arith)
 

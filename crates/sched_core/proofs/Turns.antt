@@ -10,7 +10,7 @@ use Rattle.sched_core.specs.State.{State, Entry, queries_of, next_of_top, untouc
 use Rattle.sched_core.specs.Good.{Good, Chained}
 use Rattle.sched_core.specs.State.{all_given, seen_if, all_seen, is_stolen}
 use Rattle.sched_core.specs.Turn.{drawing, turn_empty, ending, turn_top, turn_free, turn_of, turn}
-use Rattle.sched_core.proofs.Lists.{bool_tells, next_stands, next_in, next_last, has_snoc}
+use Rattle.sched_core.proofs.Lists.{bool_tells, next_stands, next_in, next_last, has_snoc, stolen_in, has_first, has_tells}
 use Rattle.sched_core.proofs.Waiting.{top_least, read_is_done, stolen_is_free}
 use Rattle.std.proofs.lemmas.Bool.Decides.{nat_tests}
 
@@ -90,23 +90,14 @@ module _ (p : Plan) (c : State) (l : IsLawful p) (g : Good p c) (w : ℕ) (lt : 
   stack_below root (e ∷ []) r h q k = let is_it : q ≡ e.0 = grind (arith, nat_tests) in let b = r e.0 h.0 in omega arith
   stack_below root (e ∷ (f ∷ fs)) r h q k =
       let below = stack_below root (f ∷ fs) r h.1 in
-      let first = l.needs_below f.0 e.0 (below f.0 (here f.0 (queries_of fs))) h.0.0 in
-      elim (tells q e.0 (queries_of (f ∷ fs)) k) [ inl i ↦ (omega arith) | inr i ↦ below q i ]
-    where
-      here : (x : ℕ) (ys : List ℕ) → has x (x ∷ ys) ≡ true
-      here x ys = grind (arith, nat_tests)
-
-      tells : (x y : ℕ) (ys : List ℕ) → has x (y ∷ ys) ≡ true → (x ≡ y) ⊎ (has x ys ≡ true)
-      tells x y ys h = grind (arith, nat_tests)
+      let first = l.needs_below f.0 e.0 (below f.0 (has_first f.0 (queries_of fs))) h.0.0 in
+      elim (has_tells q e.0 (queries_of (f ∷ fs)) k) [ inl i ↦ (omega arith) | inr i ↦ below q i ]
 
   root_below : (r : ℕ) → c.root w ≡ Some r → r < p.queries
-  root_below r h = let i = g.rooted w r h in let b = l.roots_below i.0 i.1 in let e = i.2 in omega arith
+  root_below r h = let i = g.rooted w r h in let lt = i.1 in let most = g.limit in let b = l.roots_below i.0 (omega arith) in let e = i.2 in omega arith
 
   pub top_below : (e : Entry) (es : List Entry) → c.stack w ≡ e ∷ es → e.0 < p.queries
-  top_below e es top = stack_below (c.root w) (e ∷ es) root_below (subst (λ (xs : List Entry). Chained p (c.root w) xs) top (g.chained w)) e.0 (here e.0 (queries_of es))
-    where
-      here : (x : ℕ) (ys : List ℕ) → has x (x ∷ ys) ≡ true
-      here x ys = grind (arith, nat_tests)
+  top_below e es top = stack_below (c.root w) (e ∷ es) root_below (subst (λ (xs : List Entry). Chained p (c.root w) xs) top (g.chained w)) e.0 (has_first e.0 (queries_of es))
 
   LegalIf : Option Event → Type 0
   LegalIf o = (e : Event) → o ≡ Some e → Legal p c e
@@ -170,12 +161,7 @@ module _ (p : Plan) (c : State) (l : IsLawful p) (g : Good p c) (w : ℕ) (lt : 
             ))
           where
             s_below : (s : ℕ) → p.steals e.0 ≡ Some s → s < p.queries
-            s_below s h = let n = l.stolen_last s e.0 h in
-                l.needs_below e.0 s (top_below e es top) (subst (λ (xs : List ℕ). has s xs ≡ true) (sym n.1) (last n.0 s))
-              where
-                last : (xs : List ℕ) (s : ℕ) → has s (xs ++ s ∷ []) ≡ true
-                last [] s = grind (arith, nat_tests)
-                last (x ∷ xs) s = let r = last xs s in grind (arith, nat_tests)
+            s_below s h = l.needs_below e.0 s (top_below e es top) (stolen_in p l e.0 s h)
 
     -- where the next need is what the top steals, and it was seen, all needs are seen
     all_but_last : (q : ℕ) → next_need (p.needs e.0) e.1 ≡ Some q → p.steals e.0 ≡ Some q → c.seen w q ≡ true → AllSeen p c w e

@@ -6,7 +6,7 @@ use Rattle.sched_core.specs.declared.Status.TheVariants.{Unclaimed, Claimed, Don
 use Rattle.sched_core.specs.Plan.{Plan, IsLawful, has, next_need, Reads}
 use Rattle.sched_core.specs.State.{State, Entry, queries_of, next_of_top, settled, borrowers, AllSeen}
 use Rattle.sched_core.specs.Good.{Good, Chained}
-use Rattle.sched_core.proofs.Lists.{next_stands, borrowers_none}
+use Rattle.sched_core.proofs.Lists.{next_stands, borrowers_none, has_tells}
 use Rattle.std.proofs.lemmas.Bool.Decides.{nat_tests}
 use Rattle.sched_core.specs.State.{is}
 use Rattle.sched_core.specs.Waits.{WaitsFor, Chain}
@@ -45,10 +45,7 @@ module _ (p : Plan) (c : State) (l : IsLawful p) (g : Good p c) where
   top_least root e (f ∷ fs) q h k =
       let less = l.no_cycle f.0 e.0 h.0.0 in
       let rest = top_least root f fs q h.1 in
-      elim (tells q e.0 (queries_of (f ∷ fs)) k) [ inl i ↦ (let r = ap p.rank i in omega arith) | inr i ↦ (let r = rest i in omega arith) ]
-    where
-      tells : (x y : ℕ) (ys : List ℕ) → has x (y ∷ ys) ≡ true → (x ≡ y) ⊎ (has x ys ≡ true)
-      tells x y ys h = grind (arith, nat_tests)
+      elim (has_tells q e.0 (queries_of (f ∷ fs)) k) [ inl i ↦ (let r = ap p.rank i in omega arith) | inr i ↦ (let r = rest i in omega arith) ]
 
   unfoldable pub Top : ℕ → (ℕ → Type 0) → Type 0
   Top v P = (e : Entry) × (es : List Entry) × (c.stack v ≡ e ∷ es) × P (p.rank e.0)

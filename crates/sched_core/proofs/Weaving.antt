@@ -6,13 +6,14 @@ use Rattle.sched_core.specs.declared.Event.TheVariants.{Release, Publish}
 use Rattle.sched_core.specs.declared.state.Standing.{Standing}
 use Rattle.sched_core.specs.declared.state.Core.{Core}
 use Rattle.sched_core.specs.Plan.{Plan, IsLawful, has, next_need}
-use Rattle.sched_core.specs.State.{State, Entry, next, next_of_top, after, on_top, published_by, done, start, MayPublish}
+use Rattle.sched_core.specs.State.{State, Entry, next, next_of_top, after, on_top, published_by, done, start, Legal, MayPublish}
 use Rattle.sched_core.specs.Good.{Good}
 use Rattle.sched_core.specs.Turn.{turn, moved}
 use Rattle.sched_core.specs.Work.{trail_of, trail_from}
-use Rattle.sched_core.specs.Shown.{state_of, stack_of, row_at, Ready, Says, IsTold, GoodFor}
+use Rattle.sched_core.specs.Shown.{state_of, stack_of, row_at, Ready, Says, IsTold, GoodFor, Happens}
 use Rattle.sched_core.specs.Held.{HasWorks, Holds, Weaves, without, roots_answers}
 use Rattle.sched_core.proofs.Listed.{alike_long}
+use Rattle.sched_core.proofs.Acts.{happens_good}
 use Rattle.sched_core.proofs.Steals.{top_claimed}
 use Rattle.sched_core.proofs.Holding.{hold_release, hold_publish}
 
@@ -30,22 +31,22 @@ publish_as p c w e f es fs m top =
     let s = same_top (c.stack w) e f es fs m.top top in
     subst (λ (x : Entry). MayPublish p c w x fs) s.0 (subst (λ (xs : List Entry). MayPublish p c w e xs) s.1 m)
 
-module _ {W A : Type 0} (is_work : ℕ → W → Type 0) (given : W → List ℕ) (out : ℕ → A) (p : Plan) (l : IsLawful p) (c : State) (g : Good p c) (works : List (Option W)) (answers : List (Option A)) (h : Holds is_work given out p c works answers) (w q : ℕ) (gave : List ℕ) (es : List Entry) (top : c.stack w ≡ (q, gave) ∷ es) where
+module _ {W A : Type 0} (is_work : ℕ → W → Type 0) (given : ℕ → W → List ℕ) (out : ℕ → A) (p : Plan) (l : IsLawful p) (c : State) (g : Good p c) (works : List (Option W)) (answers : List (Option A)) (h : Holds is_work given out p c works answers) (w q : ℕ) (gave : List ℕ) (es : List Entry) (top : c.stack w ≡ (q, gave) ∷ es) where
   -- the work of the top
-  pub top_work : (x : W) × (slice_get works q ≡ Some (Some x)) × is_work q x × (given x ≡ gave)
+  pub top_work : (x : W) × (slice_get works q ≡ Some (Some x)) × is_work q x × (given q x ≡ gave)
   top_work = (subst (λ (xs : List Entry). HasWorks is_work given works xs) top (h.worked w)).0
 
   work_is : (x y : W) → slice_get works q ≡ Some (Some x) → slice_get works q ≡ Some (Some y) → x ≡ y
   work_is x y a b = (cc)
 
-  pub next_is : (x : W) → slice_get works q ≡ Some (Some x) → (is_work q x) × (next_need (p.needs q) (given x) ≡ next p c w)
+  pub next_is : (x : W) → slice_get works q ≡ Some (Some x) → (is_work q x) × (next_need (p.needs q) (given q x) ≡ next p c w)
   next_is x at =
       let t = top_work in
       let same = work_is t.0 x t.1 at in
-      (subst (is_work q) same t.2, ap (next_need (p.needs q)) (sym (ap given same) ∙ t.3) ∙ sym (ap (λ xs. next_of_top p xs (c.root w)) top))
+      (subst (is_work q) same t.2, ap (next_need (p.needs q)) (sym (ap (given q) same) ∙ t.3) ∙ sym (ap (λ xs. next_of_top p xs (c.root w)) top))
 
   -- what a release gives
-  pub given_next : (s : ℕ) → c.borrow w ≡ Some s → ((x : W) × (slice_get works q ≡ Some (Some x)) × is_work q x × (next_need (p.needs q) (given x) ≡ Some s)) × (p.steals q ≢ Some s) × (slice_get answers s ≡ Some (Some (out s)))
+  pub given_next : (s : ℕ) → c.borrow w ≡ Some s → ((x : W) × (slice_get works q ≡ Some (Some x)) × is_work q x × (next_need (p.needs q) (given q x) ≡ Some s)) × (p.steals q ≢ Some s) × (slice_get answers s ≡ Some (Some (out s)))
   given_next s b =
       let r = g.borrowed w s b in
       let t = top_work in
@@ -54,12 +55,12 @@ module _ {W A : Type 0} (is_work : ℕ → W → Type 0) (given : W → List ℕ
       let next = subst (λ (e : Entry). next_need (p.needs e.0) e.1 ≡ Some s) same.0 r.next in
       ((t.0, t.1, t.2, ap (next_need (p.needs q)) t.3 ∙ next), reads, h.answered s (ap done r.done))
 
-  pub after_release : (s : ℕ) → q < p.queries → (y : W) → is_work q y → ((x : W) → slice_get works q ≡ Some (Some x) → given y ≡ given x ++ s ∷ []) → Holds is_work given out p (after p c (Release w s)) (slice_set works q (Some y)) answers
+  pub after_release : (s : ℕ) → q < p.queries → (y : W) → is_work q y → ((x : W) → slice_get works q ≡ Some (Some x) → given q y ≡ given q x ++ s ∷ []) → Holds is_work given out p (after p c (Release w s)) (slice_set works q (Some y)) answers
   after_release s small y iw gy = hold_release is_work given out p l c g works answers h w s (q, gave) es top y iw gy small
 
   -- what a publish finishes
   module _ (m : MayPublish p c w (q, gave) es) where
-    pub finish_ready : (x : W) × (slice_get works q ≡ Some (Some x)) × is_work q x × ((n : ℕ) → has n (p.needs q) ≡ true → p.steals q ≢ Some n → has n (given x) ≡ true)
+    pub finish_ready : (x : W) × (slice_get works q ≡ Some (Some x)) × is_work q x × ((n : ℕ) → has n (p.needs q) ≡ true → p.steals q ≢ Some n → has n (given q x) ≡ true)
     finish_ready = let t = top_work in (t.0, t.1, t.2, λ n i k. subst (λ (ns : List ℕ). has n ns ≡ true) (sym t.3) (m.all_seen.0 n i k))
 
     pub taken_there : (o : Option ℕ) → p.steals q ≡ o → IfSome o (λ s. slice_get answers s ≡ Some (Some (out s)))
@@ -71,7 +72,7 @@ module _ {W A : Type 0} (is_work : ℕ → W → Type 0) (given : W → List ℕ
         subst (λ (xs : List Entry). Holds is_work given out p (on_top c xs (λ d r. published_by d w r)) (slice_set works q None) (slice_set (without (p.steals q) answers) q (Some (out q)))) (sym top)
         (hold_publish is_work given out p l c g works answers h w (q, gave) es m small)
 
-module _ {W A : Type 0} (is_work : ℕ → W → Type 0) (given : W → List ℕ) (out : ℕ → A) (p : Plan) where
+module _ {W A : Type 0} (is_work : ℕ → W → Type 0) (given : ℕ → W → List ℕ) (out : ℕ → A) (p : Plan) where
   -- works and answers over an equal state and equal lists
   pub holds_as : (c d : State) (works works2 : List (Option W)) (answers answers2 : List (Option A)) → d ≡ c → works2 ≡ works → answers2 ≡ answers → Holds is_work given out p c works answers → Holds is_work given out p d works2 answers2
   holds_as c d works works2 answers answers2 e f k h =
@@ -101,7 +102,7 @@ rest_none [] (suc k) h = refl
 rest_none (x ∷ xs) zero h = absurd (omega arith)
 rest_none (x ∷ xs) (suc k) h = rest_none xs k (omega arith)
 
-module _ {W A : Type 0} (is_work : ℕ → W → Type 0) (given : W → List ℕ) (out : ℕ → A) (p : Plan) where
+module _ {W A : Type 0} (is_work : ℕ → W → Type 0) (given : ℕ → W → List ℕ) (out : ℕ → A) (p : Plan) where
   pub start_weaves : (core : Core) (n m : ℕ) (works : List (Option W)) (answers : List (Option A)) → GoodFor p core → state_of core ≡ start n → m ≡ p.queries → works ≡ replicate m None → answers ≡ replicate m None → Weaves is_work given out p core works answers
   start_weaves core n m works answers g s k e f = record {
     good = g;
@@ -116,6 +117,7 @@ module _ {W A : Type 0} (is_work : ℕ → W → Type 0) (given : W → List ℕ
         });
   }
 
+module _ {A : Type 0} (out : ℕ → A) (p : Plan) where
   -- the roots' answers, as they are taken from their places
   pub answers_more : (i n : ℕ) (taken : List A) (x : A) → x ≡ out (p.root i) → roots_answers out p 0 n ≡ taken ++ roots_answers out p i (n - i) → i < n → roots_answers out p 0 n ≡ (taken ++ (x ∷ [])) ++ roots_answers out p (i + 1) (n - (i + 1))
   answers_more i n taken x e h lt =
@@ -135,20 +137,20 @@ pub trail_more : (trail : List Event) (x : Event) (rest : List Event) → trail 
 trail_more [] x rest = refl
 trail_more (e ∷ es) x rest = ap (λ us. e ∷ us) (trail_more es x rest)
 
-module _ {W A : Type 0} (is_work : ℕ → W → Type 0) (given : W → List ℕ) (out : ℕ → A) (p : Plan) where
+module _ {W A : Type 0} (is_work : ℕ → W → Type 0) (given : ℕ → W → List ℕ) (out : ℕ → A) (p : Plan) where
   -- a core that was told its next need weaves on
   pub told_weaves : (c d : Core) (works : List (Option W)) (answers : List (Option A)) → Weaves is_work given out p c works answers → state_of d ≡ state_of c
       → (w : ℕ) (need : Option ℕ) {E : Type 0} (result : Result (Unit {0}) E) → OnOk result ((q : Plan) → need ≡ next q (state_of c) w → GoodFor q c → GoodFor q d) → need ≡ next p (state_of c) w → OnOk result (Weaves is_work given out p d works answers)
   told_weaves c d works answers h same w need (Ok u) k n = record { good = k p n h.good; holds = subst (λ (s : State). Holds is_work given out p s works answers) (sym same) h.holds }
   told_weaves c d works answers h same w need (Err e) k n = tt
 
-  pub begun : (d : State) (works works2 : List (Option W)) (answers : List (Option A)) (q : ℕ) {E : Type 0} (result : Result (Unit {0}) E) → OnOk result ((x : W) × (works2 ≡ slice_set works q (Some x)) × is_work q x × (given x ≡ []))
-      → ((x : W) → is_work q x → given x ≡ [] → Holds is_work given out p d (slice_set works q (Some x)) answers) → OnOk result (Holds is_work given out p d works2 answers)
+  pub begun : (d : State) (works works2 : List (Option W)) (answers : List (Option A)) (q : ℕ) {E : Type 0} (result : Result (Unit {0}) E) → OnOk result ((x : W) × (works2 ≡ slice_set works q (Some x)) × is_work q x × (given q x ≡ []))
+      → ((x : W) → is_work q x → given q x ≡ [] → Holds is_work given out p d (slice_set works q (Some x)) answers) → OnOk result (Holds is_work given out p d works2 answers)
   begun d works works2 answers q (Ok u) k f = subst (λ (xs : List (Option W)). Holds is_work given out p d xs answers) (sym k.1) (f k.0 k.2 k.3)
   begun d works works2 answers q (Err e) k f = tt
 
-  pub gave : (d : State) (works works2 : List (Option W)) (answers : List (Option A)) (q s : ℕ) {E : Type 0} (result : Result (Unit {0}) E) → OnOk result ((y : W) × (works2 ≡ slice_set works q (Some y)) × is_work q y × ((x : W) → slice_get works q ≡ Some (Some x) → given y ≡ given x ++ s ∷ []))
-      → ((y : W) → is_work q y → ((x : W) → slice_get works q ≡ Some (Some x) → given y ≡ given x ++ s ∷ []) → Holds is_work given out p d (slice_set works q (Some y)) answers) → OnOk result (Holds is_work given out p d works2 answers)
+  pub gave : (d : State) (works works2 : List (Option W)) (answers : List (Option A)) (q s : ℕ) {E : Type 0} (result : Result (Unit {0}) E) → OnOk result ((y : W) × (works2 ≡ slice_set works q (Some y)) × is_work q y × ((x : W) → slice_get works q ≡ Some (Some x) → given q y ≡ given q x ++ s ∷ []))
+      → ((y : W) → is_work q y → ((x : W) → slice_get works q ≡ Some (Some x) → given q y ≡ given q x ++ s ∷ []) → Holds is_work given out p d (slice_set works q (Some y)) answers) → OnOk result (Holds is_work given out p d works2 answers)
   gave d works works2 answers q s (Ok u) k f = subst (λ (xs : List (Option W)). Holds is_work given out p d xs answers) (sym k.1) (f k.0 k.2 k.3)
   gave d works works2 answers q s (Err e) k f = tt
 
@@ -161,13 +163,13 @@ pub told_told : (p : Plan) (c : State) (d : Core) (w : ℕ) (need : Option ℕ) 
 told_told p c d w need (Ok u) k n = k p n
 told_told p c d w need (Err e) k n = tt
 
-module _ {W A : Type 0} (is_work : ℕ → W → Type 0) (given : W → List ℕ) (out : ℕ → A) (p : Plan) where
+module _ {W A : Type 0} (is_work : ℕ → W → Type 0) (given : ℕ → W → List ℕ) (out : ℕ → A) (p : Plan) where
   -- a core that did the event weaves on
-  pub step_weaves : (told carried stepped : Core) (e : Event) (works : List (Option W)) (answers : List (Option A)) → carried ≡ told → GoodFor p stepped → state_of stepped ≡ after p (state_of carried) e
+  pub step_weaves : (told carried stepped : Core) (e : Event) (works : List (Option W)) (answers : List (Option A)) → carried ≡ told → GoodFor p told → Legal p (state_of told) e → Happens p carried stepped e
       → Holds is_work given out p (after p (state_of told) e) works answers → Weaves is_work given out p stepped works answers
-  step_weaves told carried stepped e works answers same g s h = record {
-    good = g;
-    holds = subst (λ (c : State). Holds is_work given out p c works answers) (sym (s ∙ ap (λ (k : Core). after p (state_of k) e) same)) h;
+  step_weaves told carried stepped e works answers same g m h k = record {
+    good = happens_good p g.lawful told stepped e g m (subst (λ (x : Core). Happens p x stepped e) same h);
+    holds = subst (λ (c : State). Holds is_work given out p c works answers) (sym (h.state ∙ ap (λ (x : Core). after p (state_of x) e) same)) k;
   }
 
 -- a place with nothing in it

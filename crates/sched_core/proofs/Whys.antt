@@ -1,14 +1,14 @@
 -- The reasons as the code finds them.
-use Rattle.std.proofs.Common.{◌≡◌, ℕ, ◌<◌, Bool, true, false, List, [], ◌∷◌, ◌++◌, sym, subst, ap, ◌∙◌, arith, ◌&&◌}
-use Rattle.std.specs.Prelude.{Option, Some, None, IfSome, if◌then◌else◌}
+use Rattle.std.proofs.Common.{refl, ◌≡◌, ℕ, ◌<◌, Bool, true, false, List, [], ◌∷◌, ◌++◌, sym, subst, ap, ◌∙◌, arith, ◌&&◌}
+use Rattle.std.specs.Prelude.{Option, Some, None, IfSome, if◌then◌else◌, unwrap_or}
 use Rattle.sched_core.specs.declared.Why.{Why}
 use Rattle.sched_core.specs.declared.Why.TheVariants as w
 use Rattle.sched_core.specs.Plan.{Plan, IsLawful, has, next_need}
-use Rattle.sched_core.specs.State.{State, Entry, is, next, next_of_top}
+use Rattle.sched_core.specs.State.{State, Entry, is, next, next_of_top, done}
 use Rattle.sched_core.specs.Good.{Good}
 use Rattle.sched_core.specs.Turn.{ripe}
-use Rattle.sched_core.specs.Table.{or_else, unless, holds_none, taken, need_or, is_done, is_free, why_publish, why_borrow, why_steal}
-use Rattle.sched_core.proofs.Lists.{next_in}
+use Rattle.sched_core.specs.Table.{or_else, unless, holds_none, taken, need_or, is_free, why_publish, why_borrow, why_steal}
+use Rattle.sched_core.proofs.Lists.{next_in, stolen_in}
 use Rattle.sched_core.proofs.Ripe.{ripe_is}
 use Rattle.sched_core.proofs.Turns.{top_below}
 use Rattle.std.proofs.lemmas.Bool.Decides.{nat_tests}
@@ -38,7 +38,7 @@ module _ (p : Plan) (c : State) (l : IsLawful p) (g : Good p c) (v q : ℕ) (giv
 
   module _ (need steals : Option ℕ) (n : need ≡ next p c v) (st : steals ≡ p.steals q) (s : ℕ) where
     abbrev pub later : Option Why
-    later = or_else (unless (c.seen v s) (w.Unseen s)) (or_else (holds_none (c.borrow v)) (unless (is_done (c.status s)) (w.Status (c.status s))))
+    later = or_else (unless (c.seen v s) (w.Unseen s)) (or_else (holds_none (c.borrow v)) (unless (done (c.status s)) (w.Status (c.status s))))
 
     borrow_reason : why_borrow p c v s (c.stack v) ≡ or_else (unless (is need s && (if◌then◌else◌ {A = Bool} (is steals s) false true)) (w.NotTop s)) later
     borrow_reason =
@@ -77,12 +77,12 @@ module _ (p : Plan) (c : State) (l : IsLawful p) (g : Good p c) (v q : ℕ) (giv
     need_below None e m k = tt
     need_below (Some n) e m k = let i = next_in (p.needs q) given n (sym next_is ∙ sym e) in let b = l.needs_below q n query_below i in omega arith
 
-    last : (xs : List ℕ) (s : ℕ) → has s (xs ++ s ∷ []) ≡ true
-    last [] s = grind (arith, nat_tests)
-    last (x ∷ xs) s = let r = last xs s in grind (arith, nat_tests)
-
     pub steals_below : (steals : Option ℕ) → steals ≡ p.steals q → (m : ℕ) → m ≡ p.queries → IfSome steals (λ s. s < m)
     steals_below None e m k = tt
     steals_below (Some s) e m k =
-        let n = l.stolen_last s q (sym e) in
-        let b = l.needs_below q s query_below (subst (λ (xs : List ℕ). has s xs ≡ true) (sym n.1) (last n.0 s)) in omega arith
+        let b = l.needs_below q s query_below (stolen_in p l q s (sym e)) in omega arith
+
+-- a need, or 0
+pub or_need : (o : Option ℕ) → unwrap_or o 0 ≡ need_or o
+or_need None = refl
+or_need (Some n) = refl

@@ -7,12 +7,12 @@ use Rattle.sched_core.specs.Shown.{state_of, GoodFor}
 use Rattle.sched_core.specs.State.{State, Entry, done}
 
 -- each claimed query has a work that was begun for it and was given what its entry says
-abbrev pub HasWorks : {W : Type 0} → (ℕ → W → Type 0) → (W → List ℕ) → List (Option W) → List Entry → Type 0
+abbrev pub HasWorks : {W : Type 0} → (ℕ → W → Type 0) → (ℕ → W → List ℕ) → List (Option W) → List Entry → Type 0
 HasWorks is_work given works [] = Unit {0}
 HasWorks {W} is_work given works (e ∷ es) =
-    ((x : W) × (slice_get works e.0 ≡ Some (Some x)) × is_work e.0 x × (given x ≡ e.1)) × HasWorks is_work given works es
+    ((x : W) × (slice_get works e.0 ≡ Some (Some x)) × is_work e.0 x × (given e.0 x ≡ e.1)) × HasWorks is_work given works es
 
-pub record Holds {W A : Type 0} (is_work : ℕ → W → Type 0) (given : W → List ℕ) (out : ℕ → A) (p : Plan) (c : State) (works : List (Option W)) (answers : List (Option A)) : Type 0 where
+pub record Holds {W A : Type 0} (is_work : ℕ → W → Type 0) (given : ℕ → W → List ℕ) (out : ℕ → A) (p : Plan) (c : State) (works : List (Option W)) (answers : List (Option A)) : Type 0 where
   pub works_long : length works ≡ p.queries
   pub answers_long : length answers ≡ p.queries
   pub worked : (w : ℕ) → HasWorks is_work given works (c.stack w)
@@ -27,7 +27,7 @@ without None answers = answers
 without (Some s) answers = slice_set answers s None
 
 -- the core is good and the works and answers are those of its state
-pub record Weaves {W A : Type 0} (is_work : ℕ → W → Type 0) (given : W → List ℕ) (out : ℕ → A) (p : Plan) (c : Core) (works : List (Option W)) (answers : List (Option A)) : Type 0 where
+pub record Weaves {W A : Type 0} (is_work : ℕ → W → Type 0) (given : ℕ → W → List ℕ) (out : ℕ → A) (p : Plan) (c : Core) (works : List (Option W)) (answers : List (Option A)) : Type 0 where
   pub good : GoodFor p c
   pub holds : Holds is_work given out p (state_of c) works answers
 

@@ -8,4 +8,3 @@ pub mod Table
 pub mod Shown
 pub mod Held
 pub mod TestJobs
-pub mod TestLaws

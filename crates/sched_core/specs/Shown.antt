@@ -5,7 +5,7 @@ use Rattle.sched_core.specs.declared.Event.{Event}
 use Rattle.sched_core.specs.declared.Event.TheVariants.{Claim, Look, Borrow, Release, Steal, Publish, Fail, Draw}
 use Rattle.sched_core.specs.declared.state.Standing.{Standing}
 use Rattle.sched_core.specs.declared.state.Core.{Core}
-use Rattle.sched_core.specs.Plan.{Plan, next_need}
+use Rattle.sched_core.specs.Plan.{Plan, IsLawful, next_need}
 use Rattle.sched_core.specs.State.{State, Entry, after}
 use Rattle.sched_core.specs.Good.{Good}
 
@@ -82,8 +82,9 @@ abbrev pub IsEmptyRow : {Z : Type 0} → Option (Vec Standing Z) → Type 0
 IsEmptyRow None = Unit {0}
 IsEmptyRow (Some row) = (row.items ≡ []) × (row.len < row.cap)
 
--- the core is good for a plan: its lists are as long as they are to be, its rows have room, and its state is good
+-- the core is good for a lawful plan: its lists are as long as they are to be, its rows have room, and its state is good
 pub record GoodFor (p : Plan) (c : Core) : Type 0 where
+  pub lawful : IsLawful p
   pub sized : IsSized p c
   pub rows : AreReady p c
   pub good : Good p (state_of c)

@@ -7,7 +7,7 @@ use Rattle.sched_core.specs.declared.Event.TheVariants.{Claim, Look, Borrow, Rel
 use Rattle.sched_core.specs.declared.Why.{Why}
 use Rattle.sched_core.specs.declared.Why.TheVariants as w
 use Rattle.sched_core.specs.Plan.{Plan, next_need}
-use Rattle.sched_core.specs.State.{State, Entry, is, next, untouched, all_seen, is_stolen}
+use Rattle.sched_core.specs.State.{State, Entry, is, next, untouched, done, is_stolen, all_seen}
 
 -- the first that isn't none
 abbrev pub or_else : Option Why → Option Why → Option Why
@@ -33,13 +33,6 @@ claimed_here w (Claimed v) = v == w
 claimed_here w (Done b) = false
 claimed_here w Failed = false
 claimed_here w Stolen = false
-
-abbrev pub is_done : Status → Bool
-is_done Unclaimed = false
-is_done (Claimed w) = false
-is_done (Done b) = true
-is_done Failed = false
-is_done Stolen = false
 
 abbrev pub is_free : Status → Bool
 is_free Unclaimed = false
@@ -72,7 +65,7 @@ abbrev pub why_borrow : Plan → State → ℕ → ℕ → List Entry → Option
 why_borrow p c v s [] = Some (w.NotTop s)
 why_borrow p c v s (e ∷ es) =
     or_else (unless (is (next_need (p.needs e.0) e.1) s && (if is (p.steals e.0) s then false else true)) (w.NotTop s))
-    (or_else (unless (c.seen v s) (w.Unseen s)) (or_else (holds_none (c.borrow v)) (unless (is_done (c.status s)) (w.Status (c.status s)))))
+    (or_else (unless (c.seen v s) (w.Unseen s)) (or_else (holds_none (c.borrow v)) (unless (done (c.status s)) (w.Status (c.status s)))))
 
 abbrev pub why_steal : Plan → State → ℕ → ℕ → List Entry → Option Why
 why_steal p c v s [] = Some (w.NotTop s)

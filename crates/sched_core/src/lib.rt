@@ -8,7 +8,7 @@
 //! every schedule it returns, with the roots' defined answers and the events of the schedule's turns).
 #![tactic(auto)]
 
-ghost use Rattle.sched_core.specs.Plan.{Plan, IsLawful, next_need, has};
+ghost use Rattle.sched_core.specs.Plan.{Plan, next_need, has};
 ghost use Rattle.std.specs.Prelude.{◌≡◌, ◌≢◌, ◌<◌, ℕ, true, List, [], ◌∷◌, ◌++◌, Some, None, IfOk, OnOk, MatchOption};
 
 use mir_syntax::OutOfMemory;
@@ -31,6 +31,10 @@ pub use loom::{Woven, weave};
 pub use state::Core;
 
 /// What can be asked, what each query needs and steals, and how it is answered. Queries are the numbers below `queries`.
+///
+/// `Core::new`, `weave` and the table of words ask of the jobs that they are handed that their plan is lawful (`IsLawful` of
+/// `specs/Plan.antt`). It is asked of these jobs alone, not of every value of the type: jobs may carry it as a fact of their own. Its laws
+/// range over all numbers, also those that are no query and no root: a plan needs and steals nothing past its queries.
 pub trait Jobs: Sync {
     /// What a query is answered with.
     type Answer: Drop + Send + Sync;
@@ -46,8 +50,8 @@ pub trait Jobs: Sync {
     // The work is one that was begun for this query.
     ghost is_work: { Self → ℕ → Self.Work → Type 0 };
 
-    // The needs that a work was given, in order.
-    ghost given: { Self.Work → List ℕ };
+    // The needs that a work of this query was given, in order.
+    ghost given: { Self → ℕ → Self.Work → List ℕ };
 
     /// How many queries there are.
     fn queries(&self) -> u32
@@ -70,12 +74,12 @@ pub trait Jobs: Sync {
     /// Begins to answer the query.
     fn begin(&self, q: u32) -> Result<Self::Work, OutOfMemory>
         requires { q < (plan self.now).queries }
-        ensures { IfOk result (λ work. is_work self.now q work × (given work ≡ [])) };
+        ensures { IfOk result (λ work. is_work self.now q work × (given self.now q work ≡ [])) };
 
     /// The next need that the work wasn't given. `None` where it was given all.
     fn next(&self, q: u32, work: &Self::Work) -> Option<u32>
         requires { (q < (plan self.now).queries) × is_work self.now q work.now }
-        ensures { result ≡ next_need ((plan self.now).needs q) (given work.now) };
+        ensures { result ≡ next_need ((plan self.now).needs q) (given self.now q work.now) };
 
     /// Gives the work the answer of its next need. After an error the work can only be dropped.
     fn give(
@@ -86,9 +90,9 @@ pub trait Jobs: Sync {
         answer: &Self::Answer,
     ) -> Result<(), OutOfMemory>
         requires work { (q < (plan self.now).queries) × is_work self.now q work.old }
-        requires need { (next_need ((plan self.now).needs q) (given work.old) ≡ Some need) × ((plan self.now).steals q ≢ Some need) }
+        requires need { (next_need ((plan self.now).needs q) (given self.now q work.old) ≡ Some need) × ((plan self.now).steals q ≢ Some need) }
         requires answer { answer.now ≡ out self.now need }
-        ensures { OnOk result (is_work self.now q work.new × (given work.new ≡ given work.old ++ need ∷ [])) };
+        ensures { OnOk result (is_work self.now q work.new × (given self.now q work.new ≡ given self.now q work.old ++ need ∷ [])) };
 
     /// Answers the query, once every need was given but the slot that it steals, whose answer it takes.
     fn finish(
@@ -98,12 +102,9 @@ pub trait Jobs: Sync {
         taken: Option<Self::Answer>,
     ) -> Result<Self::Answer, OutOfMemory>
         requires work { (q < (plan self.now).queries) × is_work self.now q work }
-        requires needs { (n : ℕ) → has n ((plan self.now).needs q) ≡ true → (plan self.now).steals q ≢ Some n → has n (given work) ≡ true }
+        requires needs { (n : ℕ) → has n ((plan self.now).needs q) ≡ true → (plan self.now).steals q ≢ Some n → has n (given self.now q work) ≡ true }
         requires taken { MatchOption ((plan self.now).steals q) (taken ≡ None) (λ s. taken ≡ Some (out self.now s)) }
         ensures { IfOk result (λ answer. answer ≡ out self.now q) };
-
-    // The plan is one that a schedule can answer.
-    ghost lawful: { (jobs : Self) → IsLawful (plan jobs) };
 }
 
 /// What has become of a query.

@@ -1,6 +1,6 @@
 //! All workers on one thread, in the order of a schedule.
 ghost use Rattle.std.specs.Prelude.{◌≡◌, ◌≢◌, ℕ, ◌+◌, ◌-◌, ◌<◌, ◌≤◌, List, [], ◌∷◌, ◌++◌, All, length, slice_get, slice_set, replicate, Option, Some, None, IfOk, OnOk, IfSome, MatchOption, option_to_list, true, false};
-ghost use Rattle.sched_core.specs.Plan.{Plan, has, next_need};
+ghost use Rattle.sched_core.specs.Plan.{Plan, IsLawful, has, next_need};
 ghost use Rattle.sched_core.specs.State.{State, done, start, Legal, next, after};
 ghost use Rattle.sched_core.specs.Turn.{turn, moved};
 ghost use Rattle.sched_core.specs.Work.{trail_of, work_left};
@@ -51,7 +51,7 @@ fn begin_work<J: Jobs>(
     q: u32,
 ) -> Result<(), OutOfMemory>
     requires { (q < (J.plan jobs.now).queries) × (q < length works.old.items) }
-    ensures { OnOk result ((x : J.Work) × (works.new.items ≡ slice_set works.old.items q (Some x)) × J.is_work jobs.now q x × (J.given x ≡ [])) }
+    ensures { OnOk result ((x : J.Work) × (works.new.items ≡ slice_set works.old.items q (Some x)) × J.is_work jobs.now q x × (J.given jobs.now q x ≡ [])) }
 {
     let work = jobs.begin(q)?;
     works[q as usize] = Some(work);
@@ -67,9 +67,9 @@ fn give_need<J: Jobs>(
     need: u32,
 ) -> Result<(), OutOfMemory>
     requires query { (q < (J.plan jobs.now).queries) × ((J.plan jobs.now).steals q ≢ Some need) }
-    requires work { (x : J.Work) × (slice_get works.old.items q ≡ Some (Some x)) × J.is_work jobs.now q x × (next_need ((J.plan jobs.now).needs q) (J.given x) ≡ Some need) }
+    requires work { (x : J.Work) × (slice_get works.old.items q ≡ Some (Some x)) × J.is_work jobs.now q x × (next_need ((J.plan jobs.now).needs q) (J.given jobs.now q x) ≡ Some need) }
     requires answer { slice_get answers.now.items need ≡ Some (Some (J.out jobs.now need)) }
-    ensures { OnOk result ((y : J.Work) × (works.new.items ≡ slice_set works.old.items q (Some y)) × J.is_work jobs.now q y × ((x : J.Work) → slice_get works.old.items q ≡ Some (Some x) → J.given y ≡ J.given x ++ need ∷ [])) }
+    ensures { OnOk result ((y : J.Work) × (works.new.items ≡ slice_set works.old.items q (Some y)) × J.is_work jobs.now q y × ((x : J.Work) → slice_get works.old.items q ≡ Some (Some x) → J.given jobs.now q y ≡ J.given jobs.now q x ++ need ∷ [])) }
 {
     let Some(Some(answer)) = answers.get(need as usize) else {
         unreachable!();
@@ -102,7 +102,7 @@ fn finish_work<J: Jobs>(
     q: u32,
 ) -> Result<(), OutOfMemory>
     requires query { (q < (J.plan jobs.now).queries) × (q < length answers.old.items) }
-    requires work { (x : J.Work) × (slice_get works.old.items q ≡ Some (Some x)) × J.is_work jobs.now q x × ((n : ℕ) → has n ((J.plan jobs.now).needs q) ≡ true → (J.plan jobs.now).steals q ≢ Some n → has n (J.given x) ≡ true) }
+    requires work { (x : J.Work) × (slice_get works.old.items q ≡ Some (Some x)) × J.is_work jobs.now q x × ((n : ℕ) → has n ((J.plan jobs.now).needs q) ≡ true → (J.plan jobs.now).steals q ≢ Some n → has n (J.given jobs.now q x) ≡ true) }
     requires taken { IfSome ((J.plan jobs.now).steals q) (λ s. slice_get answers.old.items s ≡ Some (Some (J.out jobs.now s))) }
     ensures works { OnOk result (works.new.items ≡ slice_set works.old.items q None) }
     ensures answers { OnOk result (answers.new.items ≡ slice_set (without ((J.plan jobs.now).steals q) answers.old.items) q (Some (J.out jobs.now q))) }
@@ -128,8 +128,9 @@ fn note(trail: &mut List<Event>, event: Option<Event>) -> Result<(), OutOfMemory
 
 impl<J: Jobs> Loom<J> {
     fn new(alloc: Global, jobs: &J, workers: u32) -> Result<Loom<J>, OutOfMemory>
-        requires { (1 ≤ workers) × (workers ≤ 64) }
-        ensures { IfOk result (λ loom. Weaves (J.is_work jobs.now) J.given (J.out jobs.now) (J.plan jobs.now) loom.core loom.works.items loom.answers.items × (state_of loom.core ≡ start workers)) }
+        requires jobs { IsLawful (J.plan jobs.now) }
+        requires workers { (1 ≤ workers) × (workers ≤ 64) }
+        ensures { IfOk result (λ loom. Weaves (J.is_work jobs.now) (J.given jobs.now) (J.out jobs.now) (J.plan jobs.now) loom.core loom.works.items loom.answers.items × (state_of loom.core ≡ start workers)) }
     {
         let queries = jobs.queries() as usize;
         Ok(Loom {
@@ -141,9 +142,9 @@ impl<J: Jobs> Loom<J> {
 
     // The core is told the next need of the worker's top, where it wasn't yet.
     fn tell(&mut self, jobs: &J, w: u32) -> Result<(), OutOfMemory>
-        requires loom { Weaves (J.is_work jobs.now) J.given (J.out jobs.now) (J.plan jobs.now) self.old.core self.old.works.items self.old.answers.items }
+        requires loom { Weaves (J.is_work jobs.now) (J.given jobs.now) (J.out jobs.now) (J.plan jobs.now) self.old.core self.old.works.items self.old.answers.items }
         requires worker { w < length self.old.core.borrow.items }
-        ensures loom { OnOk result (Weaves (J.is_work jobs.now) J.given (J.out jobs.now) (J.plan jobs.now) self.new.core self.new.works.items self.new.answers.items) }
+        ensures loom { OnOk result (Weaves (J.is_work jobs.now) (J.given jobs.now) (J.out jobs.now) (J.plan jobs.now) self.new.core self.new.works.items self.new.answers.items) }
         ensures state { state_of self.new.core ≡ state_of self.old.core }
         ensures told { OnOk result (IsTold (J.plan jobs.now) self.new.core w) }
     {
@@ -161,9 +162,9 @@ impl<J: Jobs> Loom<J> {
 
     // The works and answers move as the event says, before the core does.
     fn carry(&mut self, jobs: &J, event: Event) -> Result<(), OutOfMemory>
-        requires loom { Weaves (J.is_work jobs.now) J.given (J.out jobs.now) (J.plan jobs.now) self.old.core self.old.works.items self.old.answers.items }
+        requires loom { Weaves (J.is_work jobs.now) (J.given jobs.now) (J.out jobs.now) (J.plan jobs.now) self.old.core self.old.works.items self.old.answers.items }
         requires legal { Legal (J.plan jobs.now) (state_of self.old.core) event × ((w : ℕ) → event ≢ Fail w) }
-        ensures holds { OnOk result (Holds (J.is_work jobs.now) J.given (J.out jobs.now) (J.plan jobs.now) (after (J.plan jobs.now) (state_of self.old.core) event) self.new.works.items self.new.answers.items) }
+        ensures holds { OnOk result (Holds (J.is_work jobs.now) (J.given jobs.now) (J.out jobs.now) (J.plan jobs.now) (after (J.plan jobs.now) (state_of self.old.core) event) self.new.works.items self.new.answers.items) }
         ensures core { self.new.core ≡ self.old.core }
     {
         match event {
@@ -186,9 +187,9 @@ impl<J: Jobs> Loom<J> {
 
     // One turn of a worker. `None` where it passes.
     fn turn(&mut self, jobs: &J, w: u32) -> Result<Option<Event>, OutOfMemory>
-        requires loom { Weaves (J.is_work jobs.now) J.given (J.out jobs.now) (J.plan jobs.now) self.old.core self.old.works.items self.old.answers.items }
+        requires loom { Weaves (J.is_work jobs.now) (J.given jobs.now) (J.out jobs.now) (J.plan jobs.now) self.old.core self.old.works.items self.old.answers.items }
         requires worker { w < length self.old.core.borrow.items }
-        ensures loom { OnOk result (Weaves (J.is_work jobs.now) J.given (J.out jobs.now) (J.plan jobs.now) self.new.core self.new.works.items self.new.answers.items) }
+        ensures loom { OnOk result (Weaves (J.is_work jobs.now) (J.given jobs.now) (J.out jobs.now) (J.plan jobs.now) self.new.core self.new.works.items self.new.answers.items) }
         ensures event { IfOk result (λ event. (event ≡ turn (J.plan jobs.now) (state_of self.old.core) w) × (state_of self.new.core ≡ moved (J.plan jobs.now) (state_of self.old.core) event)) }
     {
         self.tell(jobs, w)?;
@@ -196,17 +197,15 @@ impl<J: Jobs> Loom<J> {
             return Ok(None);
         };
         self.carry(jobs, event)?;
-        match self.core.step(jobs, event) {
-            Ok(()) => Ok(Some(event)),
-            Err(_) => unreachable!(),
-        }
+        self.core.act(jobs, event);
+        Ok(Some(event))
     }
 
     // One turn of each worker, while a root isn't done.
     fn round(&mut self, jobs: &J) -> Result<(), OutOfMemory>
-        requires loom { Weaves (J.is_work jobs.now) J.given (J.out jobs.now) (J.plan jobs.now) self.old.core self.old.works.items self.old.answers.items }
+        requires loom { Weaves (J.is_work jobs.now) (J.given jobs.now) (J.out jobs.now) (J.plan jobs.now) self.old.core self.old.works.items self.old.answers.items }
         requires undone { (0 < length self.old.core.borrow.items) × ((i : ℕ) × (i < (J.plan jobs.now).roots) × (done ((state_of self.old.core).status ((J.plan jobs.now).root i)) ≡ false)) }
-        ensures loom { OnOk result (Weaves (J.is_work jobs.now) J.given (J.out jobs.now) (J.plan jobs.now) self.new.core self.new.works.items self.new.answers.items) }
+        ensures loom { OnOk result (Weaves (J.is_work jobs.now) (J.given jobs.now) (J.out jobs.now) (J.plan jobs.now) self.new.core self.new.works.items self.new.answers.items) }
         ensures workers { OnOk result (length self.new.core.borrow.items ≡ length self.old.core.borrow.items) }
         ensures roots { OnOk result (RootsStay (J.plan jobs.now) (state_of self.old.core) (state_of self.new.core)) }
         ensures less { OnOk result (work_left (J.plan jobs.now) (state_of self.new.core) < work_left (J.plan jobs.now) (state_of self.old.core)) }
@@ -220,9 +219,9 @@ impl<J: Jobs> Loom<J> {
 
     // The workers take turns until the root is done.
     fn work_on(&mut self, jobs: &J, i: u32) -> Result<(), OutOfMemory>
-        requires loom { Weaves (J.is_work jobs.now) J.given (J.out jobs.now) (J.plan jobs.now) self.old.core self.old.works.items self.old.answers.items }
+        requires loom { Weaves (J.is_work jobs.now) (J.given jobs.now) (J.out jobs.now) (J.plan jobs.now) self.old.core self.old.works.items self.old.answers.items }
         requires root { (i < (J.plan jobs.now).roots) × (0 < length self.old.core.borrow.items) }
-        ensures loom { OnOk result (Weaves (J.is_work jobs.now) J.given (J.out jobs.now) (J.plan jobs.now) self.new.core self.new.works.items self.new.answers.items) }
+        ensures loom { OnOk result (Weaves (J.is_work jobs.now) (J.given jobs.now) (J.out jobs.now) (J.plan jobs.now) self.new.core self.new.works.items self.new.answers.items) }
         ensures workers { OnOk result (length self.new.core.borrow.items ≡ length self.old.core.borrow.items) }
         ensures roots { OnOk result (RootsStay (J.plan jobs.now) (state_of self.old.core) (state_of self.new.core)) }
         ensures done { OnOk result (done ((state_of self.new.core).status ((J.plan jobs.now).root i)) ≡ true) }
@@ -241,9 +240,9 @@ impl<J: Jobs> Loom<J> {
         jobs: &J,
         schedule: &[u32],
     ) -> Result<List<Event>, OutOfMemory>
-        requires loom { Weaves (J.is_work jobs.now) J.given (J.out jobs.now) (J.plan jobs.now) self.old.core self.old.works.items self.old.answers.items }
+        requires loom { Weaves (J.is_work jobs.now) (J.given jobs.now) (J.out jobs.now) (J.plan jobs.now) self.old.core self.old.works.items self.old.answers.items }
         requires schedule { All (λ w. w < length self.old.core.borrow.items) schedule.now }
-        ensures loom { OnOk result (Weaves (J.is_work jobs.now) J.given (J.out jobs.now) (J.plan jobs.now) self.new.core self.new.works.items self.new.answers.items) }
+        ensures loom { OnOk result (Weaves (J.is_work jobs.now) (J.given jobs.now) (J.out jobs.now) (J.plan jobs.now) self.new.core self.new.works.items self.new.answers.items) }
         ensures workers { OnOk result (length self.new.core.borrow.items ≡ length self.old.core.borrow.items) }
         ensures trail { IfOk result (λ trail. trail ≡ trail_of (J.plan jobs.now) (state_of self.old.core) schedule.now) }
     {
@@ -257,9 +256,9 @@ impl<J: Jobs> Loom<J> {
 
     // The workers take turns until all roots are done.
     fn finish(&mut self, jobs: &J) -> Result<(), OutOfMemory>
-        requires loom { Weaves (J.is_work jobs.now) J.given (J.out jobs.now) (J.plan jobs.now) self.old.core self.old.works.items self.old.answers.items }
+        requires loom { Weaves (J.is_work jobs.now) (J.given jobs.now) (J.out jobs.now) (J.plan jobs.now) self.old.core self.old.works.items self.old.answers.items }
         requires workers { 0 < length self.old.core.borrow.items }
-        ensures loom { OnOk result (Weaves (J.is_work jobs.now) J.given (J.out jobs.now) (J.plan jobs.now) self.new.core self.new.works.items self.new.answers.items) }
+        ensures loom { OnOk result (Weaves (J.is_work jobs.now) (J.given jobs.now) (J.out jobs.now) (J.plan jobs.now) self.new.core self.new.works.items self.new.answers.items) }
         ensures done { OnOk result ((i : ℕ) → i < (J.plan jobs.now).roots → done ((state_of self.new.core).status ((J.plan jobs.now).root i)) ≡ true) }
     {
         for i in 0..jobs.roots() {
@@ -270,7 +269,7 @@ impl<J: Jobs> Loom<J> {
 
     // The roots' answers, which are all there, leave their places.
     fn answers(self, alloc: Global, jobs: &J) -> Result<List<J::Answer>, OutOfMemory>
-        requires loom { Weaves (J.is_work jobs.now) J.given (J.out jobs.now) (J.plan jobs.now) self.core self.works.items self.answers.items }
+        requires loom { Weaves (J.is_work jobs.now) (J.given jobs.now) (J.out jobs.now) (J.plan jobs.now) self.core self.works.items self.answers.items }
         requires done { (i : ℕ) → i < (J.plan jobs.now).roots → done ((state_of self.core).status ((J.plan jobs.now).root i)) ≡ true }
         ensures { IfOk result (λ answers. answers ≡ roots_answers (J.out jobs.now) (J.plan jobs.now) 0 (J.plan jobs.now).roots) }
     {
@@ -286,7 +285,7 @@ impl<J: Jobs> Loom<J> {
     }
 }
 
-/// Answers the roots by so many workers (1 to 64) on one thread. The schedule is the workers' numbers in the order of their turns; after its end
+/// Answers the roots of lawful jobs by so many workers (1 to 64) on one thread. The schedule is the workers' numbers in the order of their turns; after its end
 /// the workers take turns in order until all roots are done.
 ///
 /// The answers are the defined ones whatever the schedule, and the trail is that of the schedule's turns from a new core.
@@ -296,6 +295,7 @@ pub fn weave<J: Jobs>(
     workers: u32,
     schedule: &[u32],
 ) -> Result<Woven<J::Answer>, OutOfMemory>
+    requires jobs { IsLawful (J.plan jobs.now) }
     requires workers { (1 ≤ workers) × (workers ≤ 64) }
     requires schedule { All (λ w. w < workers) schedule.now }
     ensures answers { IfOk result (λ woven. woven.answers ≡ roots_answers (J.out jobs.now) (J.plan jobs.now) 0 (J.plan jobs.now).roots) }

@@ -8,9 +8,8 @@ use crate::{Event, Jobs, Status, Why};
 impl Core {
     ghost use Rattle.sched_core.specs.Plan.{Plan};
     ghost use Rattle.sched_core.specs.State.{is, done};
-    ghost use Rattle.sched_core.specs.Good.{Good};
-    ghost use Rattle.sched_core.specs.Shown.{state_of, IsSized, IsTold, row_at, worker_of};
-    ghost use Rattle.sched_core.specs.Table.{why, within, why_claim, why_look, why_borrow, why_steal, or_else, is_done, is_free, why_publish, why_fail, why_draw, holds_none, taken, unless};
+    ghost use Rattle.sched_core.specs.Shown.{state_of, IsSized, IsTold, GoodFor, row_at, worker_of};
+    ghost use Rattle.sched_core.specs.Table.{why, within, why_claim, why_look, why_borrow, why_steal, or_else, is_free, why_publish, why_fail, why_draw, holds_none, taken, unless};
     ghost use Rattle.sched_core.specs.Turn.{ripe};
 
     // Whether all needs of the top are seen, by its next need.
@@ -52,10 +51,9 @@ impl Core {
 
     // The first reason why a publish isn't legal.
     pub(crate) fn why_publish<J: Jobs>(&self, jobs: &J, w: u32) -> Option<Why>
-        requires sized { IsSized (J.plan jobs.now) self.now }
+        requires core { GoodFor (J.plan jobs.now) self.now }
         requires worker { w < length self.now.borrow.items }
         requires told { IsTold (J.plan jobs.now) self.now w }
-        requires good { Good (J.plan jobs.now) (state_of self.now) }
         ensures { result ≡ why_publish (J.plan jobs.now) (state_of self.now) w ((state_of self.now).stack w) }
     {
         let Some(q) = top_of(&self.stacks[w as usize]) else {
@@ -157,7 +155,7 @@ impl Core {
     pub(crate) fn why_lent(&self, w: u32, s: u32) -> Option<Why>
         requires worker { (w < length self.now.borrow.items) × (w < length self.now.seen.items) }
         requires query { (s < length (row_at (slice_get self.now.seen.items w))) × (s < length self.now.status.items) }
-        ensures { result ≡ or_else (unless ((state_of self.now).seen w s) (Why.Unseen s)) (or_else (holds_none ((state_of self.now).borrow w)) (unless (is_done ((state_of self.now).status s)) (Why.Status ((state_of self.now).status s)))) }
+        ensures { result ≡ or_else (unless ((state_of self.now).seen w s) (Why.Unseen s)) (or_else (holds_none ((state_of self.now).borrow w)) (unless (done ((state_of self.now).status s)) (Why.Status ((state_of self.now).status s)))) }
     {
         if !marked(&self.seen[w as usize], s) {
             return Some(Why::Unseen(s));
@@ -184,11 +182,10 @@ impl Core {
 
     // The first reason why a borrow isn't legal.
     pub(crate) fn why_borrow<J: Jobs>(&self, jobs: &J, w: u32, s: u32) -> Option<Why>
-        requires sized { IsSized (J.plan jobs.now) self.now }
+        requires core { GoodFor (J.plan jobs.now) self.now }
         requires worker { w < length self.now.borrow.items }
         requires query { s < (J.plan jobs.now).queries }
         requires told { IsTold (J.plan jobs.now) self.now w }
-        requires good { Good (J.plan jobs.now) (state_of self.now) }
         ensures { result ≡ why_borrow (J.plan jobs.now) (state_of self.now) w s ((state_of self.now).stack w) }
     {
         let Some(q) = top_of(&self.stacks[w as usize]) else {
@@ -205,11 +202,10 @@ impl Core {
 
     // The first reason why a steal isn't legal.
     pub(crate) fn why_steal<J: Jobs>(&self, jobs: &J, w: u32, s: u32) -> Option<Why>
-        requires sized { IsSized (J.plan jobs.now) self.now }
+        requires core { GoodFor (J.plan jobs.now) self.now }
         requires worker { w < length self.now.borrow.items }
         requires query { s < (J.plan jobs.now).queries }
         requires told { IsTold (J.plan jobs.now) self.now w }
-        requires good { Good (J.plan jobs.now) (state_of self.now) }
         ensures { result ≡ why_steal (J.plan jobs.now) (state_of self.now) w s ((state_of self.now).stack w) }
     {
         let Some(q) = top_of(&self.stacks[w as usize]) else {
@@ -254,9 +250,8 @@ impl Core {
 
     // The first reason why an event isn't legal.
     pub(crate) fn why<J: Jobs>(&self, jobs: &J, event: Event) -> Option<Why>
-        requires sized { IsSized (J.plan jobs.now) self.now }
+        requires core { GoodFor (J.plan jobs.now) self.now }
         requires told { worker_of event < length self.now.borrow.items → IsTold (J.plan jobs.now) self.now (worker_of event) }
-        requires good { Good (J.plan jobs.now) (state_of self.now) }
         ensures { result ≡ why (J.plan jobs.now) (state_of self.now) event }
     {
         match event {

@@ -43,7 +43,7 @@ pub(crate) fn is_a_root<J: Jobs>(jobs: &J, q: u32) -> bool
 }
 
 impl Core {
-    ghost use Rattle.sched_core.specs.Plan.{Plan};
+    ghost use Rattle.sched_core.specs.Plan.{Plan, IsLawful};
     ghost use Rattle.sched_core.specs.State.{next, after, Legal, start};
     ghost use Rattle.sched_core.specs.Good.{Good};
     ghost use Rattle.sched_core.specs.Table.{why};
@@ -67,9 +67,10 @@ impl Core {
         Ok(())
     }
 
-    /// A core with nothing claimed, seen or drawn, for 1 to 64 workers.
+    /// A core with nothing claimed, seen or drawn, for lawful jobs and 1 to 64 workers.
     pub fn new<J: Jobs>(alloc: Global, jobs: &J, workers: u32) -> Result<Core, OutOfMemory>
-        requires { (1 ≤ workers) × (workers ≤ 64) }
+        requires jobs { IsLawful (J.plan jobs.now) }
+        requires workers { (1 ≤ workers) × (workers ≤ 64) }
         ensures { IfOk result (λ core. GoodFor (J.plan jobs.now) core × (state_of core ≡ start workers)) }
     {
         let queries = jobs.queries() as usize;
@@ -109,7 +110,7 @@ impl Core {
     }
 
     // A legal event happens.
-    fn act<J: Jobs>(&mut self, jobs: &J, event: Event)
+    pub(crate) fn act<J: Jobs>(&mut self, jobs: &J, event: Event)
         requires core { GoodFor (J.plan jobs.now) self.old }
         requires told { IsTold (J.plan jobs.now) self.old (worker_of event) }
         requires legal { Legal (J.plan jobs.now) (state_of self.old) event }

@@ -1,7 +1,6 @@
 ghost use Rattle.std.specs.Prelude.{◌≡◌, ◌≢◌, ◌<◌, ◌≤◌, ℕ, true, All, List, [], ◌∷◌, Some, None, IfOk, MatchOption, if◌then◌else◌};
 ghost use Rattle.sched_core.specs.Plan.{has};
 ghost use Rattle.sched_core.specs.TestJobs.{plan, out, own, stolen, IsWork, few};
-ghost use Rattle.sched_core.specs.TestLaws.{lawful, few_lawful};
 
 use crate::{Core, Event, Illegal, Jobs, Why, weave};
 use mir_syntax::{List, OutOfMemory};
@@ -52,7 +51,7 @@ impl Jobs for Five {
 
     ghost is_work = { λ jobs q work. IsWork jobs.far q work.given work.items };
 
-    ghost given = { λ work. work.given };
+    ghost given = { λ _ _ work. work.given };
 
     fn queries(&self) -> u32 {
         5
@@ -117,8 +116,6 @@ impl Jobs for Five {
         answer.push(self.own(q))?;
         Ok(answer)
     }
-
-    ghost lawful = { λ jobs. lawful jobs.far };
 }
 
 // One query, which is the root, or two, of which the root reads the other. Each answers 7.
@@ -144,7 +141,7 @@ impl Jobs for Few {
 
     ghost is_work = { λ _ q work. Unit {0} };
 
-    ghost given = { λ work. if work.given then 0 ∷ [] else [] };
+    ghost given = { λ _ _ work. if work.given then 0 ∷ [] else [] };
 
     fn queries(&self) -> u32 {
         if self.two { 2 } else { 1 }
@@ -189,8 +186,6 @@ impl Jobs for Few {
     {
         Ok(7)
     }
-
-    ghost lawful = { λ jobs. few_lawful jobs.two };
 }
 
 // 60 workers' numbers, drawn by a linear generator.
@@ -226,6 +221,7 @@ fn publish_in_a_new_core_is_illegal(rt: HostRuntime) -> Result<(), Fail> {
 }
 
 #[test]
+#[tactic(auto, using(crate::proofs::TestLaws::few_lawful))]
 fn one_query_has_a_trail_of_three(rt: HostRuntime) -> Result<(), Fail> {
     let woven = weave(rt.alloc(), &Few { two: false }, 1, [0, 0, 0, 0].as_slice())?;
     assert_eq!(rt; woven.answers.as_slice(), [7].as_slice());

@@ -8,16 +8,14 @@ use crate::{Event, Jobs, Status};
 impl Core {
     ghost use Rattle.sched_core.specs.Plan.{Plan};
     ghost use Rattle.sched_core.specs.State.{is};
-    ghost use Rattle.sched_core.specs.Good.{Good};
-    ghost use Rattle.sched_core.specs.Shown.{state_of, row_at, IsSized, IsTold};
+    ghost use Rattle.sched_core.specs.Shown.{state_of, row_at, IsSized, IsTold, GoodFor};
     ghost use Rattle.sched_core.specs.Turn.{turn, turn_empty, turn_need, claim_or_look, ended};
 
     // The event of the worker's turn. `None` where it passes.
     pub(crate) fn turn<J: Jobs>(&self, jobs: &J, w: u32) -> Option<Event>
-        requires sized { IsSized (J.plan jobs.now) self.now }
+        requires core { GoodFor (J.plan jobs.now) self.now }
         requires worker { w < length self.now.borrow.items }
         requires told { IsTold (J.plan jobs.now) self.now w }
-        requires good { Good (J.plan jobs.now) (state_of self.now) }
         ensures { result ≡ turn (J.plan jobs.now) (state_of self.now) w }
     {
         if let Some(s) = self.borrow[w as usize] {

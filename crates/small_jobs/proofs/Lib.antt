@@ -1,2 +1,4 @@
+pub mod Laws
+pub mod Works
 pub mod Race
 pub mod Sent

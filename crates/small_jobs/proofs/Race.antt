@@ -9,12 +9,9 @@ use Rattle.query_table.specs.declared.table.Seat.{Seat}
 use Rattle.query_table.specs.declared.token.Claim.{Claim}
 use Rattle.query_table.specs.Steps.{claim_view, look_view, fail_view}
 use Rattle.query_table.specs.Answers.{IsSeatOf}
+use Rattle.query_table.specs.Rule.{failed_word}
+use Rattle.query_table.proofs.Forcing.{either_way}
 use Rattle.small_jobs.specs.Race.{HasClaimed}
-
--- what both outcomes of a test have
-either_way : {A : Type 0} (b : Bool) (f : View → A) (x y : View) (a : A) → f x ≡ a → f y ≡ a → f (if b then x else y) ≡ a
-either_way true f x y a h k = h
-either_way false f x y a h k = k
 
 -- what its second outcome has
 else_way : {A : Type 0} (b : Bool) (f : View → A) (x y : View) (a : A) → b ≡ false → f y ≡ a → f (if b then x else y) ≡ a
@@ -25,8 +22,8 @@ not_nought : (n : ℕ) → n ≢ 0 → (n == 0) ≡ false
 not_nought n ne = grind (arith, nat_tests)
 
 -- after the claim of query 1 was lost
-pub still : (table : TableId) (found : ℕ) (root : Claim) (s u : Seat) → HasClaimed table root s → IsSeatOf table u → u.token.me.0 ≡ claim_view s.token.me.0 1 found → found ≢ 0 → HasClaimed table root u
-still table found root s u h sits step ne = record {
+pub still : (table : TableId) (r found : ℕ) (root : Claim) (s u : Seat) → HasClaimed table r root s → IsSeatOf table u → u.token.me.0 ≡ claim_view s.token.me.0 1 found → found ≢ 0 → HasClaimed table r root u
+still table r found root s u h sits step ne = record {
   of_table = sits;
   own = h.own;
   stack = ap (λ x. x.stack) step ∙ else_way (found == 0) (λ w. w.stack) _ _ s.token.me.0.stack (not_nought found ne) refl ∙ h.stack;
@@ -36,22 +33,22 @@ still table found root s u h sits step ne = record {
 }
 
 -- after a look
-pub looked : (table : TableId) (found : ℕ) (root : Claim) (s u : Seat) → HasClaimed table root s → IsSeatOf table u → u.token.me.0 ≡ look_view s.token.me.0 1 found → HasClaimed table root u
-looked table found root s u h sits step =
+pub looked : (table : TableId) (r found : ℕ) (root : Claim) (s u : Seat) → HasClaimed table r root s → IsSeatOf table u → u.token.me.0 ≡ look_view s.token.me.0 1 found → HasClaimed table r root u
+looked table r found root s u h sits step =
     let v = s.token.me.0 in
     record {
       of_table = sits;
       own = h.own;
-      stack = ap (λ x. x.stack) step ∙ either_way (nat_lt found 2) (λ w. w.stack) _ _ v.stack refl (either_way (found == 1099511627776) (λ w. w.stack) _ _ v.stack refl refl) ∙ h.stack;
-      free = ap (λ x. x.borrow) step ∙ either_way (nat_lt found 2) (λ w. w.borrow) _ _ v.borrow refl (either_way (found == 1099511627776) (λ w. w.borrow) _ _ v.borrow refl refl) ∙ h.free;
+      stack = ap (λ x. x.stack) step ∙ either_way (nat_lt found 2) (λ w. w.stack) _ _ v.stack refl (either_way (found == failed_word) (λ w. w.stack) _ _ v.stack refl refl) ∙ h.stack;
+      free = ap (λ x. x.borrow) step ∙ either_way (nat_lt found 2) (λ w. w.borrow) _ _ v.borrow refl (either_way (found == failed_word) (λ w. w.borrow) _ _ v.borrow refl refl) ∙ h.free;
       next = h.next;
       other = h.other;
     }
 
 -- after the claim of query 1 was won
-pub won_stack : (table : TableId) (found : ℕ) (root one : Claim) (s u : Seat) → HasClaimed table root s → u.token.me.0 ≡ claim_view s.token.me.0 1 found → found ≡ 0 → one.query ≡ 1
+pub won_stack : (table : TableId) (r found : ℕ) (root one : Claim) (s u : Seat) → HasClaimed table r root s → u.token.me.0 ≡ claim_view s.token.me.0 1 found → found ≡ 0 → one.query ≡ 1
     → u.token.me.0.stack ≡ (one.query, []) ∷ (root.query, []) ∷ []
-won_stack table found root one s u h step nought is =
+won_stack table r found root one s u h step nought is =
     let won : u.token.me.0 ≡ claim_view s.token.me.0 1 0 = step ∙ ap (claim_view s.token.me.0 1) nought in
     ap (λ x. x.stack) won ∙ ap (λ (es : List Entry). (1, []) ∷ es) h.stack ∙ ap (λ (q : ℕ). (q, []) ∷ (root.query, []) ∷ []) (sym is)
 

@@ -18,7 +18,7 @@ fn opened(alloc: Global, fails: Option<u32>) -> Result<(QueryTable<Small>, Seat,
     ensures first { IfOk result (λ o. IsSeatOf o.0.0 o.1 × IsNew o.1.token.me.0) }
     ensures second { IfOk result (λ o. IsSeatOf o.0.0 o.2 × IsNew o.2.token.me.0) }
 {
-    let Opened { table, mut seats } = QueryTable::new(alloc, Small { fails }, 2)?;
+    let Opened { table, mut seats } = QueryTable::new(alloc, Small::new(fails), 2)?;
     let Some(first) = seats.pop() else {
         return Err(OutOfMemory);
     };
@@ -29,10 +29,11 @@ fn opened(alloc: Global, fails: Option<u32>) -> Result<(QueryTable<Small>, Seat,
 }
 
 // Draws a root and claims it.
+#[tactic(auto, using(crate::proofs::Laws::carried_one))]
 fn claim_root(table: &QueryTable<Small>, seat: &mut Seat) -> Option<Claim>
     requires seat { IsSeatOf table.now.0 seat.old }
     requires new { IsNew seat.old.token.me.0 }
-    ensures { IfSome result (λ claim. HasClaimed table.now.0 claim seat.new) }
+    ensures { IfSome result (λ claim. HasClaimed table.now.0 table.now.1.thief_reads claim seat.new) }
 {
     let root = table.draw(seat)?;
     match table.claim(seat, root) {
@@ -43,7 +44,7 @@ fn claim_root(table: &QueryTable<Small>, seat: &mut Seat) -> Option<Claim>
 
 // Claims query 1, looks at it where the claim is lost, and gives all up. What was found where it is lost.
 fn lose(table: &QueryTable<Small>, seat: &mut Seat, root: Claim) -> Option<(u64, Looked)>
-    requires { HasClaimed table.now.0 root seat.old }
+    requires { HasClaimed table.now.0 table.now.1.thief_reads root seat.old }
 {
     match table.claim(seat, 1) {
         Claimed::Won(claim) => {
@@ -67,8 +68,8 @@ fn race(
     root: Claim,
     other: Claim,
 ) -> (bool, Option<(u64, Looked)>)
-    requires first { HasClaimed table.now.0 root first.old }
-    requires second { HasClaimed table.now.0 other second.old }
+    requires first { HasClaimed table.now.0 table.now.1.thief_reads root first.old }
+    requires second { HasClaimed table.now.0 table.now.1.thief_reads other second.old }
 {
     let claimed = table.claim(first, 1);
     let found = lose(table, second, other);
@@ -171,11 +172,11 @@ fn two_threads_have_the_woven_answers(rt: HostRuntime) -> Result<(), Fail> {
         let (seat, one, two) = force_both(&rt, alloc, &table, first, second);
         assert!(rt; one.is_some_and(|one| one.1) && two.is_some_and(|two| two.1));
         let answers = answers(&rt, alloc, table, seat)?.ok_or("a root isn't done")?;
-        assert_eq!(rt; answers.as_slice(), [7, 8].as_slice());
+        assert_eq!(rt; answers.as_slice(), [18, 24].as_slice());
         let Woven {
             answers: woven,
             trail: _,
-        } = weave(alloc, &Small { fails: None }, 2, [].as_slice())?;
+        } = weave(alloc, &Small::new(None), 2, [].as_slice())?;
         assert_eq!(rt; answers.as_slice(), woven.as_slice());
     }
     Ok(())

@@ -1,9 +1,10 @@
-//! A value in place that is put once, shown to many and taken once, as the result of a query is in rustc (`Steal`).
+//! A value in place that is put, shown to many and taken, as the result of a query is in rustc (`Steal`).
 //!
 //! A `StealSlot` has a tag, fixed when it is made, that says which values fit it. Its contract: `fill` takes a value that fits, and what
 //! `show` lends and `take` gives fits the tag (`Fits` of `counted_slot`). Contracts see a slot, and a right to read it, as its tag. A slot is
 //! over one counted word of `counted_slot`, so no value is read while it is written or taken. Waiting calls are under `Wait`: a `fill` of a
-//! slot that is full, and a `show` or a `take` of one that stays empty, never return.
+//! slot that stays full, and a `show` or a `take` of one that stays empty, never return. A slot is empty again once its value was taken, and
+//! may then be filled again: no clause says that a slot is filled once. Where that is to hold, as in `query_table`, whoever fills says it.
 #![tactic(auto)]
 
 ghost use Rattle.std.specs.Prelude.{◌≡◌, ◌+◌};
@@ -56,7 +57,7 @@ impl<T: Fits> StealSlot<T> {
         }
     }
 
-    /// Puts the value. Where one is there already, it waits for ever.
+    /// Puts the value, once the slot is empty: where a value is there, it waits until that was taken. A slot may be filled again after a `take`.
     pub fn fill<R: Wait>(&self, rt: &R, value: T)
         requires { T.fits self.now value }
     {
@@ -99,7 +100,7 @@ impl<T: Fits> StealSlot<T> {
         unreachable!();
     }
 
-    /// Waits for a value that nobody reads, and takes it out.
+    /// Waits for a value that nobody reads, and takes it out. The slot is empty again, and may be filled again.
     pub fn take<R: Wait>(&self, rt: &R) -> T
         ensures { T.fits self.now result }
     {

@@ -19,5 +19,5 @@ returns g c =
       c.give.new.work,
       set_twice works c.args.q c.take.new.self (Some c.give.new.work),
       c.in_ok-give.ensures.0,
-      λ x there. c.in_ok-give.ensures.1 ∙ ap (λ w. g.J.Jobs.given w ++ c.args.need ∷ []) (same_work works c.args.q c.in-Some.work x at there),
+      λ x there. c.in_ok-give.ensures.1 ∙ ap (λ w. g.J.Jobs.given c.args.jobs.now c.args.q w ++ c.args.need ∷ []) (same_work works c.args.q c.in-Some.work x at there),
     )

@@ -14,7 +14,7 @@ no_answer xs q r o y a b e f = (cc)
 pub loop-i-init : goal.loop-i-init
 loop-i-init g c =
     let p = g.J.Jobs.plan c.args.jobs.now in
-    let laws = (g.met.J.Jobs g.world.𝓛 g.world.𝓜 g.world.𝓡 ((λ s x. x), (λ x. x), (λ x. x), λ x. x)).lawful c.args.jobs.now in
+    let laws = c.requires.loom.good.lawful in
     let out = g.J.Jobs.out c.args.jobs.now in
     let all : p.roots - 0 ≡ p.roots = omega arith in (
       c.requires.loom.holds.answers_long,
@@ -25,7 +25,7 @@ loop-i-init g c =
 pub index_mut-requires : goal.index_mut-requires
 index_mut-requires g c =
     let p = g.J.Jobs.plan c.args.jobs.now in
-    let laws = (g.met.J.Jobs g.world.𝓛 g.world.𝓜 g.world.𝓡 ((λ s x. x), (λ x. x), (λ x. x), λ x. x)).lawful c.args.jobs.now in
+    let laws = c.requires.loom.good.lawful in
     let inv = c.loop-i.invariant in
     let small : c.loop-i.i < p.roots = omega arith in
     let below = laws.roots_below c.loop-i.i small in
@@ -36,7 +36,7 @@ index_mut-requires g c =
 pub unreachable-requires : goal.unreachable-requires
 unreachable-requires g c =
     let p = g.J.Jobs.plan c.args.jobs.now in
-    let laws = (g.met.J.Jobs g.world.𝓛 g.world.𝓜 g.world.𝓡 ((λ s x. x), (λ x. x), (λ x. x), λ x. x)).lawful c.args.jobs.now in
+    let laws = c.requires.loom.good.lawful in
     let inv = c.loop-i.invariant in
     let small : c.loop-i.i < p.roots = omega arith in
     let root = c.root.ensures in
@@ -50,7 +50,7 @@ unreachable-requires g c =
 pub loop-i-preserved : goal.loop-i-preserved
 loop-i-preserved g c =
     let p = g.J.Jobs.plan c.args.jobs.now in
-    let laws = (g.met.J.Jobs g.world.𝓛 g.world.𝓜 g.world.𝓡 ((λ s x. x), (λ x. x), (λ x. x), λ x. x)).lawful c.args.jobs.now in
+    let laws = c.requires.loom.good.lawful in
     let out = g.J.Jobs.out c.args.jobs.now in
     let inv = c.loop-i.invariant in
     let small : c.loop-i.i < p.roots = omega arith in
@@ -63,12 +63,12 @@ loop-i-preserved g c =
     let is = is_answer c.loop-i.places.items c.root.result (p.root c.loop-i.i) c.index_mut.result.now c.in-Some.answer (out (p.root c.loop-i.i)) at here (sym c.in-Some.ensures.value) there in (
       set_length c.loop-i.places.items c.root.result c.take.new.self ∙ inv.0,
       λ k le lt. set_else c.loop-i.places.items c.root.result (p.root k) c.take.new.self (λ e. let same = laws.distinct_roots k c.loop-i.i lt small (e ∙ root) in omega (arith, same, le)) ∙ inv.1 k (omega (arith, le)) lt,
-      answers_more (g.J.Jobs.is_work c.args.jobs.now) g.J.Jobs.given out p c.loop-i.i p.roots c.loop-i.answers c.in-Some.answer is inv.2 small ∙ ap (λ xs. xs ++ roots_answers out p (c.loop-i.i + 1) (p.roots - (c.loop-i.i + 1))) (sym c.in_ok-push.ensures.ok),
+      answers_more out p c.loop-i.i p.roots c.loop-i.answers c.in-Some.answer is inv.2 small ∙ ap (λ xs. xs ++ roots_answers out p (c.loop-i.i + 1) (p.roots - (c.loop-i.i + 1))) (sym c.in_ok-push.ensures.ok),
     )
 
 pub returns : goal.returns
 returns g c =
     let p = g.J.Jobs.plan c.args.jobs.now in
-    let laws = (g.met.J.Jobs g.world.𝓛 g.world.𝓜 g.world.𝓡 ((λ s x. x), (λ x. x), (λ x. x), λ x. x)).lawful c.args.jobs.now in
+    let laws = c.requires.loom.good.lawful in
     let out = g.J.Jobs.out c.args.jobs.now in
     answers_end out p c.loop-i.i p.roots c.loop-i.answers c.loop-i.invariant.2 (omega arith)

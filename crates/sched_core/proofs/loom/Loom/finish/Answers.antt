@@ -14,7 +14,7 @@ work_on-requires-clause-loom g c = λ κs h. c.loop-i.invariant.0
 pub work_on-requires-clause-root : goal.work_on-requires-clause-root
 work_on-requires-clause-root g c =
     let p = g.J.Jobs.plan c.args.jobs.now in
-    let laws = (g.met.J.Jobs g.world.𝓛 g.world.𝓜 g.world.𝓡 ((λ s x. x), (λ x. x), (λ x. x), λ x. x)).lawful c.args.jobs.now in
+    let laws = c.requires.loom.good.lawful in
     let inv = c.loop-i.invariant in
     let small : c.loop-i.i < p.roots = omega arith in
     let some : 0 < length c.loop-i.self.core.borrow.items = (let k = inv.1 in let r = c.requires.workers in omega (arith, k, r)) in
@@ -23,7 +23,7 @@ work_on-requires-clause-root g c =
 pub loop-i-preserved : goal.loop-i-preserved
 loop-i-preserved g c =
     let p = g.J.Jobs.plan c.args.jobs.now in
-    let laws = (g.met.J.Jobs g.world.𝓛 g.world.𝓜 g.world.𝓡 ((λ s x. x), (λ x. x), (λ x. x), λ x. x)).lawful c.args.jobs.now in
+    let laws = c.requires.loom.good.lawful in
     let inv = c.loop-i.invariant in
     let small : c.loop-i.i < p.roots = omega arith in (
       c.in_ok-work_on.ensures.loom,

@@ -13,7 +13,7 @@ below_as x n m e h = subst (λ (k : ℕ). x < k) (sym e) h
 pub loop-w-init : goal.loop-w-init
 loop-w-init g c =
     let p = g.J.Jobs.plan c.args.jobs.now in
-    let laws = (g.met.J.Jobs g.world.𝓛 g.world.𝓜 g.world.𝓡 ((λ s x. x), (λ x. x), (λ x. x), λ x. x)).lawful c.args.jobs.now in
+    let laws = c.requires.loom.good.lawful in
     (c.requires.loom, refl, sym (ap (λ (es : List Event). es ++ trail_of p (state_of c.args.self.now.core) c.args.schedule.now) c.new-trail.ensures))
 
 pub turn-requires-clause-loom : goal.turn-requires-clause-loom
@@ -25,7 +25,7 @@ turn-requires-clause-worker g c = λ κs h. below_as _ _ _ c.loop-w.invariant.1 
 pub loop-w-preserved : goal.loop-w-preserved
 loop-w-preserved g c =
     let p = g.J.Jobs.plan c.args.jobs.now in
-    let laws = (g.met.J.Jobs g.world.𝓛 g.world.𝓜 g.world.𝓡 ((λ s x. x), (λ x. x), (λ x. x), λ x. x)).lawful c.args.jobs.now in
+    let laws = c.requires.loom.good.lawful in
     let inv = c.loop-w.invariant in
     let d = state_of c.loop-w.self.core in
     let ev = c.in_ok-event.ensures.event in
@@ -46,5 +46,5 @@ returns-clause-workers g c =
 pub returns-clause-trail : goal.returns-clause-trail
 returns-clause-trail g c =
     let p = g.J.Jobs.plan c.args.jobs.now in
-    let laws = (g.met.J.Jobs g.world.𝓛 g.world.𝓜 g.world.𝓡 ((λ s x. x), (λ x. x), (λ x. x), λ x. x)).lawful c.args.jobs.now in
+    let laws = c.requires.loom.good.lawful in
     follow_end p (state_of c.loop-w.self.core) c.args.schedule.now c.loop-w.w-index (trail_of p (state_of c.args.self.now.core) c.args.schedule.now) c.loop-w.trail c.loop-w.invariant.2 (omega arith)

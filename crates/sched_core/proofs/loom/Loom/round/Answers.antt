@@ -8,7 +8,7 @@ use Rattle.sched_core.proofs.loom.Loom.round.Goals as goal
 pub loop-w-init : goal.loop-w-init
 loop-w-init g c =
     let p = g.J.Jobs.plan c.args.jobs.now in
-    let laws = (g.met.J.Jobs g.world.𝓛 g.world.𝓜 g.world.𝓡 ((λ s x. x), (λ x. x), (λ x. x), λ x. x)).lawful c.args.jobs.now in
+    let laws = c.requires.loom.good.lawful in
     (c.requires.loom, refl, λ i lt h. h, inr (((state_of c.args.self.now.core).wait, refl), λ v small e t u. absurd (omega (arith, small))))
 
 pub turn-requires-clause-loom : goal.turn-requires-clause-loom
@@ -21,7 +21,7 @@ turn-requires-clause-worker g c =
 pub loop-w-preserved : goal.loop-w-preserved
 loop-w-preserved g c =
     let p = g.J.Jobs.plan c.args.jobs.now in
-    let laws = (g.met.J.Jobs g.world.𝓛 g.world.𝓜 g.world.𝓡 ((λ s x. x), (λ x. x), (λ x. x), λ x. x)).lawful c.args.jobs.now in
+    let laws = c.requires.loom.good.lawful in
     let inv = c.loop-w.invariant in
     let first = state_of c.args.self.now.core in
     let d = state_of c.loop-w.self.core in
@@ -49,7 +49,7 @@ returns-clause-roots g c =
 pub returns-clause-less : goal.returns-clause-less
 returns-clause-less g c =
     let p = g.J.Jobs.plan c.args.jobs.now in
-    let laws = (g.met.J.Jobs g.world.𝓛 g.world.𝓜 g.world.𝓡 ((λ s x. x), (λ x. x), (λ x. x), λ x. x)).lawful c.args.jobs.now in
+    let laws = c.requires.loom.good.lawful in
     let inv = c.loop-w.invariant in
     let first = state_of c.args.self.now.core in
     let d = state_of c.loop-w.self.core in

@@ -7,7 +7,7 @@ use Rattle.sched_core.proofs.loom.Loom.round.Given as goal
 abbrev pub invariant-loop-w : goal.invariant-loop-w
 invariant-loop-w g l =
     let p = g.J.Jobs.plan l.jobs in
-    Weaves (g.J.Jobs.is_work l.jobs) g.J.Jobs.given (g.J.Jobs.out l.jobs) p l.self.core l.self.works.items l.self.answers.items
+    Weaves (g.J.Jobs.is_work l.jobs) (g.J.Jobs.given l.jobs) (g.J.Jobs.out l.jobs) p l.self.core l.self.works.items l.self.answers.items
     × (length l.self.core.borrow.items ≡ length l.initial.self.core.borrow.items)
     × RootsStay p (state_of l.initial.self.core) (state_of l.self.core)
     × SoFar p (state_of l.initial.self.core) (state_of l.self.core) l.w

@@ -9,11 +9,11 @@ use Rattle.sched_core.proofs.loom.Loom.tell.Goals as goal
 pub returns-clause-loom : goal.returns-clause-loom
 returns-clause-loom g c =
     let p = g.J.Jobs.plan c.args.jobs.now in
-    let laws = (g.met.J.Jobs g.world.𝓛 g.world.𝓜 g.world.𝓡 ((λ s x. x), (λ x. x), (λ x. x), λ x. x)).lawful c.args.jobs.now in
+    let laws = c.requires.loom.good.lawful in
     let s = c.args.self.now in
     let is_work = g.J.Jobs.is_work c.args.jobs.now in
     let out = g.J.Jobs.out c.args.jobs.now in
-    let given : g.row.J-Work.Denot → List ℕ = g.J.Jobs.given in
+    let given : ℕ → g.row.J-Work.Denot → List ℕ = g.J.Jobs.given c.args.jobs.now in
     let good = c.requires.loom.good in
     let holds = c.requires.loom.holds in
     let e = c.in-Some.ensures in
@@ -26,11 +26,11 @@ returns-clause-loom g c =
 pub returns-clause-told : goal.returns-clause-told
 returns-clause-told g c =
     let p = g.J.Jobs.plan c.args.jobs.now in
-    let laws = (g.met.J.Jobs g.world.𝓛 g.world.𝓜 g.world.𝓡 ((λ s x. x), (λ x. x), (λ x. x), λ x. x)).lawful c.args.jobs.now in
+    let laws = c.requires.loom.good.lawful in
     let s = c.args.self.now in
     let is_work = g.J.Jobs.is_work c.args.jobs.now in
     let out = g.J.Jobs.out c.args.jobs.now in
-    let given : g.row.J-Work.Denot → List ℕ = g.J.Jobs.given in
+    let given : ℕ → g.row.J-Work.Denot → List ℕ = g.J.Jobs.given c.args.jobs.now in
     let good = c.requires.loom.good in
     let holds = c.requires.loom.holds in
     let e = c.in-Some.ensures in

@@ -10,7 +10,7 @@ loop-self-init g c =
 pub is_done-requires : goal.is_done-requires
 is_done-requires g c =
     let p = g.J.Jobs.plan c.args.jobs.now in
-    let laws = (g.met.J.Jobs g.world.𝓛 g.world.𝓜 g.world.𝓡 ((λ s x. x), (λ x. x), (λ x. x), λ x. x)).lawful c.args.jobs.now in
+    let laws = c.requires.loom.good.lawful in
     let inv = c.loop-self.invariant in
     let small = laws.roots_below c.args.i c.requires.root.0 in
     let root = c.root-root.ensures in
@@ -23,7 +23,7 @@ round-requires-clause-loom g c = λ κs h. c.loop-self.invariant.0
 pub round-requires-clause-undone : goal.round-requires-clause-undone
 round-requires-clause-undone g c =
     let p = g.J.Jobs.plan c.args.jobs.now in
-    let laws = (g.met.J.Jobs g.world.𝓛 g.world.𝓜 g.world.𝓡 ((λ s x. x), (λ x. x), (λ x. x), λ x. x)).lawful c.args.jobs.now in
+    let laws = c.requires.loom.good.lawful in
     let inv = c.loop-self.invariant in
     let undone : done ((state_of c.loop-self.self.core).status c.root-root.result) ≡ false = sym c.is_done.ensures ∙ c.loop-self-test.true in
     let some : 0 < length c.loop-self.self.core.borrow.items = (let k = inv.1 in let r = c.requires.root.1 in omega (arith, k, r)) in
@@ -36,7 +36,7 @@ loop-self-smaller g c =
 pub loop-self-preserved : goal.loop-self-preserved
 loop-self-preserved g c =
     let p = g.J.Jobs.plan c.args.jobs.now in
-    let laws = (g.met.J.Jobs g.world.𝓛 g.world.𝓜 g.world.𝓡 ((λ s x. x), (λ x. x), (λ x. x), λ x. x)).lawful c.args.jobs.now in
+    let laws = c.requires.loom.good.lawful in
     let inv = c.loop-self.invariant in
     (c.in_ok-round.ensures.loom, c.in_ok-round.ensures.workers ∙ inv.1, λ i lt h. c.in_ok-round.ensures.roots i lt (inv.2 i lt h))
 

@@ -49,7 +49,7 @@ put_release-requires-clause-room g c =
 pub put_publish-requires-clause-query : goal.put_publish-requires-clause-query
 put_publish-requires-clause-query g c =
     let p = g.J.Jobs.plan c.args.jobs.now in
-    let laws = (g.met.J.Jobs g.world.𝓛 g.world.𝓜 g.world.𝓡 ((λ s x. x), (λ x. x), (λ x. x), λ x. x)).lawful c.args.jobs.now in
+    let laws = c.requires.core.lawful in
     let s = c.args.self.now in
     let m = legal_as p s c.args.event c.requires.legal c.requires.told (Publish c.in-Publish.w) c.in-Publish.is in
     let e = c.in-Some.ensures in
@@ -70,7 +70,7 @@ unreachable-requires g c =
 pub put_fail-requires-clause-query : goal.put_fail-requires-clause-query
 put_fail-requires-clause-query g c =
     let p = g.J.Jobs.plan c.args.jobs.now in
-    let laws = (g.met.J.Jobs g.world.𝓛 g.world.𝓜 g.world.𝓡 ((λ s x. x), (λ x. x), (λ x. x), λ x. x)).lawful c.args.jobs.now in
+    let laws = c.requires.core.lawful in
     let s = c.args.self.now in
     let m = legal_as p s c.args.event c.requires.legal c.requires.told (Fail c.in-Fail.w) c.in-Fail.is in
     let e = c.in-Some-top_of.ensures in

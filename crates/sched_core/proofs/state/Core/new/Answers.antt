@@ -18,6 +18,6 @@ returns g c =
       told = c.in_ok-filled-5.field-0;
       drawn = 0;
     } in (
-      fresh_good p core c.args.workers c.queries-queries.result c.requires.1 c.queries-queries.ensures c.in_ok-filled.ensures c.in_ok-empty_rows.ensures c.in_ok-filled-2.ensures c.in_ok-blank_rows.ensures c.in_ok-blank_rows-2.ensures c.in_ok-filled-3.ensures c.in_ok-filled-4.ensures c.in_ok-filled-5.ensures refl,
-      fresh_state p core c.args.workers c.queries-queries.result c.requires.1 c.queries-queries.ensures c.in_ok-filled.ensures c.in_ok-empty_rows.ensures c.in_ok-filled-2.ensures c.in_ok-blank_rows.ensures c.in_ok-blank_rows-2.ensures c.in_ok-filled-3.ensures c.in_ok-filled-4.ensures c.in_ok-filled-5.ensures refl,
+      fresh_good p c.requires.jobs core c.args.workers c.queries-queries.result c.requires.workers.1 c.queries-queries.ensures c.in_ok-filled.ensures c.in_ok-empty_rows.ensures c.in_ok-filled-2.ensures c.in_ok-blank_rows.ensures c.in_ok-blank_rows-2.ensures c.in_ok-filled-3.ensures c.in_ok-filled-4.ensures c.in_ok-filled-5.ensures refl,
+      fresh_state p c.requires.jobs core c.args.workers c.queries-queries.result c.requires.workers.1 c.queries-queries.ensures c.in_ok-filled.ensures c.in_ok-empty_rows.ensures c.in_ok-filled-2.ensures c.in_ok-blank_rows.ensures c.in_ok-blank_rows-2.ensures c.in_ok-filled-3.ensures c.in_ok-filled-4.ensures c.in_ok-filled-5.ensures refl,
     )

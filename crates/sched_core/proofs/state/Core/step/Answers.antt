@@ -10,7 +10,7 @@ act-requires-clause-legal g c κs within = no_reason_legal (g.J.Jobs.plan c.args
 pub returns-clause-core : goal.returns-clause-core
 returns-clause-core g c =
     let p = g.J.Jobs.plan c.args.jobs.now in
-    let laws = (g.met.J.Jobs g.world.𝓛 g.world.𝓜 g.world.𝓡 ((λ s x. x), (λ x. x), (λ x. x), λ x. x)).lawful c.args.jobs.now in
+    let laws = c.requires.core.lawful in
     happens_good p laws c.args.self.now _ c.args.event c.requires.core (no_reason_legal p (state_of c.args.self.now) c.args.event (sym c.why.ensures ∙ c.in_default.is)) c.act.ensures
 
 pub returns-clause-ok : goal.returns-clause-ok

@@ -59,6 +59,7 @@ returns-in-Err-clause-err c = λ p.
     let lt : c.args.worker < length s.stacks.items = omega arith in
     let stacks = stacks_same s c.args.worker c.make_room.new.row lt c.index_mut.result.now c.index_mut.ensures.value c.make_room.ensures.stack in (
       λ g. record {
+        lawful = g.lawful;
         sized = record {
           few = g.sized.few;
           status = g.sized.status;
@@ -101,6 +102,7 @@ returns-in-Ok-clause-core c = λ p n g.
     let stacks = stacks_same s c.args.worker c.make_room.new.row lt c.index_mut.result.now c.index_mut.ensures.value c.make_room.ensures.stack in
     let need = need_is s c.args.worker c.make_room.new.row lt c.index_mut.result.now c.index_mut.ensures.value c.make_room.ensures.stack p c.args.need n in
     record {
+      lawful = g.lawful;
       sized = record {
         few = g.sized.few;
         status = g.sized.status;

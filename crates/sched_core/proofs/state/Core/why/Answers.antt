@@ -6,5 +6,5 @@ use Rattle.sched_core.proofs.state.Core.why.Goals as goal
 
 pub why_draw-requires-clause-rooted : goal.why_draw-requires-clause-rooted
 why_draw-requires-clause-rooted g c =
-    let laws = (g.met.J.Jobs g.world.𝓛 g.world.𝓜 g.world.𝓡 ((λ s x. x), (λ x. x), (λ x. x), λ x. x)).lawful c.args.jobs.now in
-    let r : IfSome (slice_index_or c.args.self.now.root.items c.in-Draw.w None) (λ r. r < (g.J.Jobs.plan c.args.jobs.now).queries) = root_below (g.J.Jobs.plan c.args.jobs.now) (state_of c.args.self.now) laws c.requires.good c.in-Draw.w (slice_index_or c.args.self.now.root.items c.in-Draw.w None) refl in λ κs h. r
+    let laws = c.requires.core.lawful in
+    let r : IfSome (slice_index_or c.args.self.now.root.items c.in-Draw.w None) (λ r. r < (g.J.Jobs.plan c.args.jobs.now).queries) = root_below (g.J.Jobs.plan c.args.jobs.now) (state_of c.args.self.now) laws c.requires.core.good c.in-Draw.w (slice_index_or c.args.self.now.root.items c.in-Draw.w None) refl in λ κs h. r

@@ -1,20 +1,13 @@
 use Rattle.std.proofs.Common.{◌≡◌, ℕ, ◌<◌, true, false, List, ◌∷◌, length, sym, ap, ◌∙◌, refl, arith, slice_index_or, inl, inr}
 use Rattle.std.specs.Prelude.{if◌then◌else◌, ◌&&◌, ◌⊎◌, Bool, Option, Some, None, slice_get, Vec, unwrap_or}
+use Rattle.sched_core.proofs.Acts.{stack_at}
 use Rattle.sched_core.specs.declared.state.Standing.{Standing}
 use Rattle.sched_core.specs.State.{Entry}
 use Rattle.sched_core.specs.Table.{need_or}
 use Rattle.sched_core.specs.Shown.{state_of, stack_of, row_at}
 use Rattle.sched_core.proofs.Listed.{item_at}
-use Rattle.sched_core.proofs.Whys.{may_lend, may_not_lend, query_below}
+use Rattle.sched_core.proofs.Whys.{may_lend, may_not_lend, query_below, or_need}
 use Rattle.sched_core.proofs.state.Core.why_borrow.Goals as goal
-
--- the row of w shows its stack
-top_at : {Z : Type 0} (stacks : List (Vec Standing Z)) (w : ℕ) (row : Vec Standing Z) (es : List Entry) → w < length stacks → row ≡ slice_index_or stacks w row → stack_of row.items ≡ es → stack_of (row_at (slice_get stacks w)) ≡ es
-top_at stacks w row es lt at h = ap (λ o. stack_of (row_at o)) (item_at stacks w row lt at) ∙ h
-
-or_need : (o : Option ℕ) → unwrap_or o 0 ≡ need_or o
-or_need None = refl
-or_need (Some n) = refl
 
 neither : (x y a b : Bool) → x ≡ a → y ≡ b → ((x ≡ true) × (y ≡ true)) ⊎ (x ≡ false) → (a && (if◌then◌else◌ {A = Bool} b false true)) ≡ false
 neither x y a b e f h = elim h [
@@ -25,26 +18,26 @@ neither x y a b e f h = elim h [
 pub steals-requires : goal.steals-requires
 steals-requires g c =
     let p = g.J.Jobs.plan c.args.jobs.now in
-    let laws = (g.met.J.Jobs g.world.𝓛 g.world.𝓜 g.world.𝓡 ((λ s x. x), (λ x. x), (λ x. x), λ x. x)).lawful c.args.jobs.now in
+    let laws = c.requires.core.lawful in
     let s = c.args.self.now in
     let e = c.in-Some.ensures in
-    let top = top_at s.stacks.items c.args.w c.index.result.now ((c.in-Some.q, e.0) ∷ e.1.0) (omega arith) c.index.ensures e.1.1 in
-    query_below p (state_of s) laws c.requires.good c.args.w c.in-Some.q e.0 e.1.0 top c.requires.worker
+    let top = stack_at s.stacks.items c.args.w c.index.result.now ((c.in-Some.q, e.0) ∷ e.1.0) (omega arith) c.index.ensures e.1.1 in
+    query_below p (state_of s) laws c.requires.core.good c.args.w c.in-Some.q e.0 e.1.0 top c.requires.worker
 
 pub returns-then-not-is_stolen : goal.returns-then-not-is_stolen
 returns-then-not-is_stolen g c =
     let p = g.J.Jobs.plan c.args.jobs.now in
-    let laws = (g.met.J.Jobs g.world.𝓛 g.world.𝓜 g.world.𝓡 ((λ s x. x), (λ x. x), (λ x. x), λ x. x)).lawful c.args.jobs.now in
+    let laws = c.requires.core.lawful in
     let s = c.args.self.now in
     let e = c.in-Some.ensures in
-    let top = top_at s.stacks.items c.args.w c.index.result.now ((c.in-Some.q, e.0) ∷ e.1.0) (omega arith) c.index.ensures e.1.1 in
-    c.why_lent.ensures ∙ may_lend p (state_of s) laws c.requires.good c.args.w c.in-Some.q e.0 e.1.0 top c.next.result c.steals.result c.next.ensures c.steals.ensures c.args.s (sym c.is_some_of-is_next.ensures ∙ c.if-is_next.true) (sym c.is_some_of-is_stolen.ensures ∙ c.if-not-is_stolen.true)
+    let top = stack_at s.stacks.items c.args.w c.index.result.now ((c.in-Some.q, e.0) ∷ e.1.0) (omega arith) c.index.ensures e.1.1 in
+    c.why_lent.ensures ∙ may_lend p (state_of s) laws c.requires.core.good c.args.w c.in-Some.q e.0 e.1.0 top c.next.result c.steals.result c.next.ensures c.steals.ensures c.args.s (sym c.is_some_of-is_next.ensures ∙ c.if-is_next.true) (sym c.is_some_of-is_stolen.ensures ∙ c.if-not-is_stolen.true)
 
 pub returns-else-is_next : goal.returns-else-is_next
 returns-else-is_next g c =
     let p = g.J.Jobs.plan c.args.jobs.now in
-    let laws = (g.met.J.Jobs g.world.𝓛 g.world.𝓜 g.world.𝓡 ((λ s x. x), (λ x. x), (λ x. x), λ x. x)).lawful c.args.jobs.now in
+    let laws = c.requires.core.lawful in
     let s = c.args.self.now in
     let e = c.in-Some.ensures in
-    let top = top_at s.stacks.items c.args.w c.index.result.now ((c.in-Some.q, e.0) ∷ e.1.0) (omega arith) c.index.ensures e.1.1 in
-    may_not_lend p (state_of s) laws c.requires.good c.args.w c.in-Some.q e.0 e.1.0 top c.next.result c.steals.result c.next.ensures c.steals.ensures c.args.s (neither c.is_some_of-is_next.result c.is_some_of-is_stolen.result _ _ c.is_some_of-is_next.ensures c.is_some_of-is_stolen.ensures c.else-is_next.either)
+    let top = stack_at s.stacks.items c.args.w c.index.result.now ((c.in-Some.q, e.0) ∷ e.1.0) (omega arith) c.index.ensures e.1.1 in
+    may_not_lend p (state_of s) laws c.requires.core.good c.args.w c.in-Some.q e.0 e.1.0 top c.next.result c.steals.result c.next.ensures c.steals.ensures c.args.s (neither c.is_some_of-is_next.result c.is_some_of-is_stolen.result _ _ c.is_some_of-is_next.ensures c.is_some_of-is_stolen.ensures c.else-is_next.either)

@@ -1,13 +1,10 @@
--- For the tests only: the plan of the tests is lawful.
+-- For the tests only: the plans of the tests are lawful.
 use Rattle.std.specs.Prelude.{◌≡◌, ℕ, zero, suc, ◌+◌, ◌<◌, Bool, true, false, List, [], ◌∷◌, ◌++◌, Some, refl}
 use Rattle.std.proofs.Common.{arith, sym, subst, ◌∙◌}
 use Rattle.std.proofs.lemmas.Bool.Decides.{nat_tests}
+use Rattle.sched_core.proofs.TestJobs.{chosen_is}
 use Rattle.sched_core.specs.Plan.{IsLawful, Reads, has}
 use Rattle.sched_core.specs.TestJobs.{plan, stolen, chosen, few, few_reads}
-
-chosen_is : (far : Bool) → (1 < chosen far) × (chosen far < 4)
-chosen_is false = (omega arith, omega arith)
-chosen_is true = (omega arith, omega arith)
 
 falls : (far : Bool) (q n : ℕ) → has n ((plan far).needs q) ≡ true → n < q
 falls far zero n h = absurd (cc)
