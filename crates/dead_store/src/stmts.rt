@@ -7,7 +7,6 @@ ghost use Rattle.liveness.specs.Rows.{before_all};
 ghost use Rattle.dead_store.specs.Rounds.{set_locals, SetsBelow, is_idle as idle_place, goes as goes_by, staying};
 
 use bit_rows::BitRows;
-use escape_info::is_behind_a_reference;
 use liveness::back;
 use mir_syntax::{List, OutOfMemory, Place, Stmt};
 use std::alloc::Global;
@@ -20,7 +19,7 @@ fn is_idle(place: &Place, lent: &BitRows, live: &BitRows, row: u32) -> bool
     requires live_bit { place.now.local < length (row_at live.now row) }
     ensures { result ≡ idle_place (row_at lent.now 0) (row_at live.now row) place.now }
 {
-    !is_behind_a_reference(place) && !lent.get(0, place.local) && !live.get(row, place.local)
+    !place.has_deref() && !lent.get(0, place.local) && !live.get(row, place.local)
 }
 
 /// Whether a statement goes, given the locals that are live after it.

@@ -12,32 +12,18 @@ ghost use Rattle.mir_syntax.specs.Crate.{crate_of, body_of, stmt_of, rvalue_of, 
 ghost use Rattle.mir_syntax.specs.Shapes.{shapes_of};
 ghost use Rattle.mir_syntax.specs.Drops.{KnowsDrops};
 ghost use Rattle.mir_syntax.specs.Ids.{IdsInTable, BodyInTable};
-ghost use Rattle.mir_syntax.specs.Parts.{has_deref};
 ghost use Rattle.escape_info.specs.Borrowed.{if_direct, lent_by, lent, bare_lent, dropped, lent_in, place_needs_drop as needs_drop_at, borrowed};
 
 use bit_rows::BitRows;
-use mir_syntax::{Body, OutOfMemory, Place, Program, Proj, Rvalue, Stmt, Term};
+use mir_syntax::{Body, OutOfMemory, Place, Program, Rvalue, Stmt, Term};
 use std::alloc::Global;
-
-/// Whether a place has a dereference.
-#[tactic(auto, using(mir_syntax::proofs::Parts::deref_other))]
-pub fn is_behind_a_reference(place: &Place) -> bool
-    ensures { result ≡ has_deref place.now.proj }
-{
-    for proj in place.proj.as_slice() {
-        if let Proj::Deref = proj {
-            return true;
-        }
-    }
-    false
-}
 
 /// Marks the local of a place that isn't behind a reference.
 fn mark_direct(rows: &mut BitRows, place: &Place)
     requires { 0 < length rows.old }
     ensures { rows.new ≡ set rows.old 0 (marked (row_at rows.old 0) (if_direct place.now)) }
 {
-    if !is_behind_a_reference(place) {
+    if !place.has_deref() {
         rows.write(0, place.local, true);
     }
 }

@@ -3,7 +3,6 @@ pub mod Paths
 pub mod Through
 pub mod Solved
 pub mod Filling
-pub mod Destructors
 pub mod Ends
 pub mod Whole
 pub mod Growing

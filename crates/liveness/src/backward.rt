@@ -1,26 +1,13 @@
 ghost use Rattle.std.specs.Prelude.{◌≡◌, ◌<◌, [], ◌∷◌, ◌++◌, List, set, length};
 ghost use Rattle.std.specs.List.{flat_map};
 ghost use Rattle.bit_rows.specs.Rows.{row_at, marked};
-ghost use Rattle.mir_syntax.specs.Parts.{is_direct as path_is_direct};
 ghost use Rattle.mir_syntax.specs.Tree.{Tree};
 ghost use Rattle.mir_syntax.specs.Crate.{stmt_of};
 ghost use Rattle.liveness.specs.Live.{operand_locals, written_reads, whole};
 ghost use Rattle.liveness.specs.Rows.{cleared, before_stmt, bare_rvalue_reads};
 
 use bit_rows::BitRows;
-use mir_syntax::{Operand, Place, Proj, Rvalue, Stmt};
-
-pub(crate) fn is_direct(place: &Place) -> bool
-    ensures { result ≡ path_is_direct place.now.proj }
-{
-    for proj in place.proj.as_slice() {
-        match proj {
-            Proj::Field(_) => {}
-            Proj::Downcast(_) | Proj::Deref => return false,
-        }
-    }
-    true
-}
+use mir_syntax::{Operand, Place, Rvalue, Stmt};
 
 /// Adds to a row the local that an operand reads.
 pub fn read_operand(operand: &Operand, rows: &mut BitRows, row: u32)
@@ -76,7 +63,7 @@ pub(crate) fn read_written(place: &Place, rows: &mut BitRows, row: u32)
     requires { row < length rows.old }
     ensures { rows.new ≡ set rows.old row (marked (row_at rows.old row) (written_reads place.now)) }
 {
-    if !is_direct(place) {
+    if !place.is_direct() {
         rows.write(row, place.local, true);
     }
 }

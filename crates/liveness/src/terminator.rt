@@ -2,45 +2,17 @@
 ghost use Rattle.std.specs.Prelude.{◌≡◌, ◌<◌, ◌||◌, not, set, length, IsTrue, false, true};
 ghost use Rattle.std.specs.List.{flat_map};
 ghost use Rattle.bit_rows.specs.Rows.{row_at, marked};
-ghost use Rattle.mir_syntax.specs.Parts.{is_direct as path_is_direct};
 ghost use Rattle.mir_syntax.specs.Tree.{trees_of};
 ghost use Rattle.mir_syntax.specs.Crate.{crate_of, body_of};
-ghost use Rattle.mir_syntax.specs.Shapes.{shapes_of, goes_through_destructor};
+ghost use Rattle.mir_syntax.specs.Shapes.{shapes_of};
 ghost use Rattle.mir_syntax.specs.Drops.{KnowsDrops};
 ghost use Rattle.mir_syntax.specs.Ids.{IdsInTable, BodyInTable};
 ghost use Rattle.liveness.specs.Live.{result_reads, term_reads, term_fills, whole};
 ghost use Rattle.liveness.specs.Rows.{cleared, bare_fills};
 
-use crate::backward::{fill, is_direct, read_operand, read_operands, read_written};
+use crate::backward::{fill, read_operand, read_operands, read_written};
 use bit_rows::BitRows;
-use mir_syntax::{Body, Place, Program, Proj, Stmt, Term};
-
-/// Whether a place without a dereference or a downcast takes a part of a value whose type has a destructor.
-fn goes_through_destructor(program: &Program, body: &Body, place: &Place) -> bool
-    requires knows { KnowsDrops program.now }
-    requires ids { IdsInTable program.now }
-    requires body_ids { BodyInTable program.now.types body.now }
-    requires direct { IsTrue (path_is_direct place.now.proj) }
-    ensures { result ≡ goes_through_destructor (shapes_of (crate_of program.now)) (body_of (trees_of program.now.types) body.now).locals place.now }
-{
-    let Some(local) = body.locals.get(place.local as usize) else {
-        return false;
-    };
-    let mut id = *local;
-    for proj in place.proj.as_slice() {
-        if program.destructor(id).is_some() {
-            return true;
-        }
-        let Proj::Field(index) = proj else {
-            return false;
-        };
-        let Some(next) = program.field_ty(id, *index) else {
-            return false;
-        };
-        id = next;
-    }
-    false
-}
+use mir_syntax::{Body, Place, Program, Stmt, Term};
 
 /// The place of a call's result is read where it isn't there in each value of its local's type.
 fn read_result(program: &Program, body: &Body, place: &Place, rows: &mut BitRows, row: u32)
@@ -50,7 +22,7 @@ fn read_result(program: &Program, body: &Body, place: &Place, rows: &mut BitRows
     requires row { row < length rows.old }
     ensures { rows.new ≡ set rows.old row (marked (row_at rows.old row) (result_reads (shapes_of (crate_of program.now)) (body_of (trees_of program.now.types) body.now).locals place.now)) }
 {
-    if is_direct(place) && goes_through_destructor(program, body, place) {
+    if place.is_direct() && program.goes_through_destructor(body, place) {
         rows.write(row, place.local, true);
     } else {
         read_written(place, rows, row);

@@ -12,6 +12,6 @@ mod tests;
 mod values;
 mod widths;
 
-pub use operators::{binop, cast, over, unary};
+pub use operators::{binop, cast, cast_scalar, flag, over, over_scalar, unary};
 pub use values::wrap;
 pub use widths::{signed, width};

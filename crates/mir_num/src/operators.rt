@@ -10,7 +10,8 @@ use crate::values::{less, pattern, signed_value, wrap};
 use crate::widths::{signed, width};
 use mir_syntax::{BinOp, IntTy, OverOp, ScalarTy, UnOp};
 
-fn flag(holds: bool) -> u128
+/// The pattern of a truth value.
+pub fn flag(holds: bool) -> u128
     ensures { result ≡ num.flag holds }
 {
     if holds { 1 } else { 0 }
@@ -66,7 +67,13 @@ pub fn binop(op: BinOp, ty: ScalarTy, a: u128, b: u128) -> Option<u128>
 pub fn over(op: OverOp, ty: IntTy, a: u128, b: u128) -> (u128, bool)
     ensures { result ≡ num.over op (Int ty) a b }
 {
-    let ty = ScalarTy::Int(ty);
+    over_scalar(op, ScalarTy::Int(ty), a, b)
+}
+
+/// The same at any scalar type: at `bool` too, at which no valid program asks it.
+pub fn over_scalar(op: OverOp, ty: ScalarTy, a: u128, b: u128) -> (u128, bool)
+    ensures { result ≡ num.over op ty a b }
+{
     (wrapping(op, ty, a, b), checked(op, ty, a, b).is_none())
 }
 
@@ -84,7 +91,13 @@ pub fn unary(op: UnOp, ty: ScalarTy, a: u128) -> u128
 pub fn cast(from: ScalarTy, to: IntTy, a: u128) -> u128
     ensures { result ≡ num.cast from (Int to) a }
 {
-    let to = ScalarTy::Int(to);
+    cast_scalar(from, ScalarTy::Int(to), a)
+}
+
+/// The same to any scalar type: to `bool` too, to which no valid program casts.
+pub fn cast_scalar(from: ScalarTy, to: ScalarTy, a: u128) -> u128
+    ensures { result ≡ num.cast from to a }
+{
     if signed(from) {
         pattern(to, signed_value(from, a))
     } else {

@@ -301,3 +301,31 @@ place-some D trees locals p id h = rw (slice_get-map (at_id trees) locals p.loca
 pub through_none : (D : List Shape) (ps : List Proj) → path_through D None ps ≡ false
 through_none D [] = refl
 through_none D (p ∷ ps) = refl
+
+tuple-through : (D : List Shape) (ts : List Tree) (p : Proj) (ps : List Proj) → path_through D (Some (tuple_of ts)) (p ∷ ps) ≡ path_through D (proj_ty D (tuple_of ts) p) ps
+tuple-through D [] p ps = refl
+tuple-through D (t ∷ ts) p ps = refl
+
+-- what stands after a downcast has no destructor, so a path that goes on without a field goes through none
+pub through-downcast : (p : Program) (t : Tree) (k : ℕ) (rest : List Proj) → ((i : ℕ) (ps : List Proj) → rest ≡ proj.Field i ∷ ps → ⊥)
+    → path_through (shapes_of (crate_of p)) (variant_ty (shapes_of (crate_of p)) t k) rest ≡ false
+through-downcast p t k rest other = elim (variant-is p t k) [
+  | inl none ↦ ap (λ o. path_through (shapes_of (crate_of p)) o rest) none ∙ through_none (shapes_of (crate_of p)) rest
+  | inr some ↦ ap (λ o. path_through (shapes_of (crate_of p)) o rest) some.1 ∙ beside (shapes_of (crate_of p)) some.0 rest other
+]
+  where
+    beside : (D : List Shape) (ts : List Tree) (rest : List Proj) → ((i : ℕ) (ps : List Proj) → rest ≡ proj.Field i ∷ ps → ⊥) → path_through D (Some (tuple_of ts)) rest ≡ false
+    beside D ts [] other = refl
+    beside D ts (proj.Field i ∷ ps) other = absurd (other i ps refl)
+    beside D ts (proj.Deref ∷ ps) other = tuple-through D ts proj.Deref ps ∙ ap (λ o. path_through D o ps) (pointee-tuple ts) ∙ through_none D ps
+    beside D ts (proj.Downcast j ∷ ps) other = tuple-through D ts (proj.Downcast j) ps ∙ ap (λ o. path_through D o ps) (variant-tuple D ts j) ∙ through_none D ps
+
+-- with a field it goes on from the field's type
+pub through-variant : (D : List Shape) (trees : List Tree) (t : Tree) (k i : ℕ) (fields : List Field) (o : Option Tree) (ps : List Proj) → variant_ty D t k ≡ Some (fields_tree trees fields)
+    → option_map (at_id trees) (option_map field_id (slice_get fields i)) ≡ o
+    → path_through D (variant_ty D t k) (proj.Field i ∷ ps) ≡ path_through D o ps
+unfolding ◌>>=◌
+through-variant D trees t k i fields o ps h f =
+    let ts = map field_ty_of (map (field_of trees) fields) in
+    let field : proj_ty D (tuple_of ts) (proj.Field i) ≡ o = rw (fields_of-tuple D ts, field_ty-fields trees fields i, f) refl in
+    ap (λ o. path_through D o (proj.Field i ∷ ps)) h ∙ tuple-through D ts (proj.Field i) ps ∙ ap (λ o. path_through D o ps) field

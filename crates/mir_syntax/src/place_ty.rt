@@ -1,17 +1,19 @@
-ghost use Rattle.std.specs.Prelude.{◌≡◌, ℕ, IsTrue, List, ◌∷◌, ◌<◌, None, MatchOption, IfSome, map, length, slice_get, option_copied, option_map};
+ghost use Rattle.std.specs.Prelude.{◌≡◌, ℕ, IsTrue, List, ◌∷◌, ◌<◌, None, Some, false, MatchOption, IfSome, map, length, slice_get, option_copied, option_map};
 ghost use Rattle.mir_syntax.specs.Tree.{scalar, named, at_id, trees_of, node};
 ghost use Rattle.std.specs.List.{list_all};
 ghost use Rattle.mir_syntax.specs.Table.{ids_below};
 ghost use Rattle.mir_syntax.specs.Ids.{field_below, IdsInTable, BodyInTable};
 ghost use Rattle.mir_syntax.specs.Crate.{crate_of, body_of};
-ghost use Rattle.mir_syntax.specs.Shapes.{shapes_of, fields_of, variant_ty, proj_ty, whole_path_ty, whole_place_ty, fields_tree, field_id};
+ghost use Rattle.mir_syntax.specs.Shapes.{shapes_of, fields_of, variant_ty, proj_ty, whole_path_ty, whole_place_ty, path_through, goes_through_destructor, fields_tree, field_id};
+ghost use Rattle.mir_syntax.specs.Drops.{KnowsDrops};
 ghost use Rattle.mir_syntax.specs.declared.body.Proj.{Proj};
 ghost use Rattle.mir_syntax.specs.declared.types.ScalarTy.TheVariants as scalar_ty;
 
 use crate::types::{Field, Ty, TyId};
 use crate::{Body, Place, Program, Proj};
 
-fn field_at(fields: &[Field], index: u32) -> Option<TyId>
+/// The type of a field of a variant.
+pub fn field_at(fields: &[Field], index: u32) -> Option<TyId>
     ensures { result ≡ option_map field_id (slice_get fields.now index) }
 {
     Some(fields.get(index as usize)?.ty)
@@ -104,6 +106,10 @@ impl Program {
             (whole_path_ty (shapes_of (crate_of self.now)) (at_id (trees_of self.now.types) id) (first ∷ rest.now) ≡ None)
             (λ on. whole_path_ty (shapes_of (crate_of self.now)) (at_id (trees_of self.now.types) id) (first ∷ rest.now)
             ≡ whole_path_ty (shapes_of (crate_of self.now)) (at_id (trees_of self.now.types) on.0) on.1.now) }
+        ensures through { MatchOption result
+            (path_through (shapes_of (crate_of self.now)) (proj_ty (shapes_of (crate_of self.now)) (at_id (trees_of self.now.types) id) first) rest.now ≡ false)
+            (λ on. path_through (shapes_of (crate_of self.now)) (proj_ty (shapes_of (crate_of self.now)) (at_id (trees_of self.now.types) id) first) rest.now
+            ≡ path_through (shapes_of (crate_of self.now)) (Some (at_id (trees_of self.now.types) on.0)) on.1.now) }
         ensures in_table { IdsInTable self.now → IfSome result (λ on. on.0.0 < length self.now.types) }
         ensures shorter { IfSome result (λ on. length on.1.now < length (first ∷ rest.now)) }
     {
@@ -134,5 +140,30 @@ impl Program {
             projs = left;
         }
         Some(id)
+    }
+
+    /// Whether a place takes a part of a value whose type has a destructor.
+    pub fn goes_through_destructor(&self, body: &Body, place: &Place) -> bool
+        requires knows { KnowsDrops self.now }
+        requires ids { IdsInTable self.now }
+        requires body_ids { BodyInTable self.now.types body.now }
+        ensures { result ≡ goes_through_destructor (shapes_of (crate_of self.now)) (body_of (trees_of self.now.types) body.now).locals place.now }
+    {
+        let Some(local) = body.locals.get(place.local as usize) else {
+            return false;
+        };
+        let mut id = *local;
+        let mut projs = place.proj.as_slice();
+        while let [first, rest @ ..] = projs {
+            if self.destructor(id).is_some() {
+                return true;
+            }
+            let Some((next, left)) = self.project(id, *first, rest) else {
+                return false;
+            };
+            id = next;
+            projs = left;
+        }
+        false
     }
 }

@@ -23,7 +23,7 @@ use Rattle.mir_text.specs.Naming.{crate_named}
 use Rattle.mir_text.specs.ReadLines.{wrong_field_in}
 use Rattle.mir_text.specs.Reads.{Reads, faults_in, names_in, items_in}
 use Rattle.mir_text.proofs.Cut.{cut, cut_from, piece_at, number_piece, if_stand, stands}
-use Rattle.mir_text.proofs.TextFacts.{walking, moving, looking}
+use Rattle.mir_text.proofs.TextFacts.{walking, moving, looking, walking_text, moving_text, looking_text}
 
 -- ---- makers
 
@@ -105,20 +105,7 @@ walking-good =
       ),
     )
 
-reads-walking : Reads (
-    codes "struct N { v: i32, next: &N }\n" ++
-    codes "\n" ++
-    codes "fn h(_1: &N) -> i32 {\n" ++
-    codes "    let mut _0: i32;\n" ++
-    codes "    let mut _2: N;\n" ++
-    codes "\n" ++
-    codes "    bb0: {\n" ++
-    codes "        _2 = copy (*_1);\n" ++
-    codes "        _2 = copy (*(_2.1: &N));\n" ++
-    codes "        _0 = copy (_2.0: i32);\n" ++
-    codes "        return;\n" ++
-    codes "    }\n" ++
-    codes "}\n") walking
+reads-walking : Reads walking_text walking
 unfolding cut cut_from piece_at number_piece suffix_at word_token block_digits word_place ◌>>=◌
 reads-walking = read_as _ walking_file walking refl refl refl walking-good refl refl
 
@@ -167,57 +154,7 @@ moving-good =
       ),
     )
 
-reads-moving : Reads (
-    codes "struct G(u32);\n" ++
-    codes "extern fn note(u32) -> ();\n" ++
-    codes "\n" ++
-    codes "drop fn drop_g(_1: &mut G) -> () {\n" ++
-    codes "    let mut _0: ();\n" ++
-    codes "\n" ++
-    codes "    bb0: {\n" ++
-    codes "        _0 = note(copy ((*_1).0: u32)) -> [return: bb1, unwind unreachable];\n" ++
-    codes "    }\n" ++
-    codes "\n" ++
-    codes "    bb1: {\n" ++
-    codes "        return;\n" ++
-    codes "    }\n" ++
-    codes "}\n" ++
-    codes "\n" ++
-    codes "#[inline(never)]\n" ++
-    codes "fn eat(_1: G) -> () {\n" ++
-    codes "    let mut _0: ();\n" ++
-    codes "\n" ++
-    codes "    bb0: {\n" ++
-    codes "        drop(_1) -> [return: bb1, unwind unreachable];\n" ++
-    codes "    }\n" ++
-    codes "\n" ++
-    codes "    bb1: {\n" ++
-    codes "        return;\n" ++
-    codes "    }\n" ++
-    codes "}\n" ++
-    codes "\n" ++
-    codes "fn f(_1: bool) -> () {\n" ++
-    codes "    let mut _0: ();\n" ++
-    codes "    let mut _2: G;\n" ++
-    codes "    let mut _3: ();\n" ++
-    codes "\n" ++
-    codes "    bb0: {\n" ++
-    codes "        _2 = G(const 7_u32);\n" ++
-    codes "        switchInt(copy _1) -> [0: bb2, otherwise: bb1];\n" ++
-    codes "    }\n" ++
-    codes "\n" ++
-    codes "    bb1: {\n" ++
-    codes "        _3 = eat(move _2) -> [return: bb2, unwind unreachable];\n" ++
-    codes "    }\n" ++
-    codes "\n" ++
-    codes "    bb2: {\n" ++
-    codes "        drop(_2) -> [return: bb3, unwind unreachable];\n" ++
-    codes "    }\n" ++
-    codes "\n" ++
-    codes "    bb3: {\n" ++
-    codes "        return;\n" ++
-    codes "    }\n" ++
-    codes "}\n") moving
+reads-moving : Reads moving_text moving
 unfolding cut cut_from piece_at number_piece suffix_at word_token block_digits word_place ◌>>=◌
 reads-moving = read_as _ moving_file moving refl refl refl moving-good refl refl
 
@@ -248,36 +185,7 @@ looking-good =
       ),
     )
 
-reads-looking : Reads (
-    codes "enum E { A, B(u8) }\n" ++
-    codes "\n" ++
-    codes "fn k(_1: E) -> u8 {\n" ++
-    codes "    let mut _0: u8;\n" ++
-    codes "    let mut _2: isize;\n" ++
-    codes "\n" ++
-    codes "    bb0: {\n" ++
-    codes "        _2 = discriminant(_1);\n" ++
-    codes "        switchInt(move _2) -> [0: bb1, 1: bb2, otherwise: bb3];\n" ++
-    codes "    }\n" ++
-    codes "\n" ++
-    codes "    bb1: {\n" ++
-    codes "        _0 = const 0_u8;\n" ++
-    codes "        goto -> bb4;\n" ++
-    codes "    }\n" ++
-    codes "\n" ++
-    codes "    bb2: {\n" ++
-    codes "        _0 = copy ((_1 as B).0: u8);\n" ++
-    codes "        goto -> bb4;\n" ++
-    codes "    }\n" ++
-    codes "\n" ++
-    codes "    bb3: {\n" ++
-    codes "        unreachable;\n" ++
-    codes "    }\n" ++
-    codes "\n" ++
-    codes "    bb4: {\n" ++
-    codes "        return;\n" ++
-    codes "    }\n" ++
-    codes "}\n") looking
+reads-looking : Reads looking_text looking
 unfolding cut cut_from piece_at number_piece suffix_at word_token block_digits word_place ◌>>=◌
 reads-looking = read_as _ looking_file looking refl refl refl looking-good refl refl
 

@@ -124,7 +124,8 @@ walked = block
 abbrev pub walking : Crate
 walking = record { defs = node_def ∷ []; outsides = []; functions = fun (codes "h") 1 (i32 ∷ ref (named 0) ∷ named 0 ∷ []) (walked ∷ []) ∷ [] }
 
-text-of-walking : text walking ≡
+abbrev pub walking_text : List ℕ
+walking_text =
     codes "struct N { v: i32, next: &N }\n" ++
     codes "\n" ++
     codes "fn h(_1: &N) -> i32 {\n" ++
@@ -138,6 +139,8 @@ text-of-walking : text walking ≡
     codes "        return;\n" ++
     codes "    }\n" ++
     codes "}\n"
+
+text-of-walking : text walking ≡ walking_text
 unfolding text defs_text def_text def_word shape_text struct_text variants_text variant_text fields_text braced_text field_text field_ty_text outsides_text outside_text functions_text gap_text function_text inline_text drop_text header_text args_text more_args body_text let_line lets_text local_decl local_text blocks_text block_text block_name stmts_text stmt_line stmt_text rvalue_text pair_text tuple_text build_text build_parts variant_path named_text more_named binary_name over_name unary_name term_line term_text arms_text expected_text return_text success_text callee_path operand_text place_text openings opening closings closing type_after variant_name local_ty const_text minus_text is_negative size_of type_text rest_text parts_text scalar_text int_name comma_list more_items piece shapes_of ◌>>=◌
 text-of-walking = rw (decimal_digit 0 (omega arith), decimal_digit 1 (omega arith), decimal_digit 2 (omega arith)) refl
 
@@ -193,7 +196,8 @@ moves = fun (codes "f") 1 (empty ∷ bool ∷ named 0 ∷ empty ∷ [])
 abbrev pub moving : Crate
 moving = record { defs = guard_def ∷ []; outsides = note_fn ∷ []; functions = drop_g ∷ eat ∷ moves ∷ [] }
 
-text-of-moving : text moving ≡
+abbrev pub moving_text : List ℕ
+moving_text =
     codes "struct G(u32);\n" ++
     codes "extern fn note(u32) -> ();\n" ++
     codes "\n" ++
@@ -244,6 +248,8 @@ text-of-moving : text moving ≡
     codes "        return;\n" ++
     codes "    }\n" ++
     codes "}\n"
+
+text-of-moving : text moving ≡ moving_text
 unfolding text defs_text def_text def_word shape_text struct_text variants_text variant_text fields_text braced_text field_text field_ty_text outsides_text outside_text functions_text gap_text function_text inline_text drop_text header_text args_text more_args body_text let_line lets_text local_decl local_text blocks_text block_text block_name stmts_text stmt_line stmt_text rvalue_text pair_text tuple_text build_text build_parts variant_path named_text more_named binary_name over_name unary_name term_line term_text arms_text expected_text return_text success_text callee_path operand_text place_text openings opening closings closing type_after variant_name local_ty const_text minus_text is_negative size_of type_text rest_text parts_text scalar_text int_name comma_list more_items piece shapes_of ◌>>=◌
 text-of-moving = rw (decimal_digit 0 (omega arith), decimal_digit 1 (omega arith), decimal_digit 2 (omega arith), decimal_digit 3 (omega arith), decimal_digit 7 (omega arith)) refl
 
@@ -270,7 +276,8 @@ looks = fun (codes "k") 1 (u8 ∷ named 0 ∷ scalar (scalar_ty.Int i.Isize) ∷
 abbrev pub looking : Crate
 looking = record { defs = either_def ∷ []; outsides = []; functions = looks ∷ [] }
 
-text-of-looking : text looking ≡
+abbrev pub looking_text : List ℕ
+looking_text =
     codes "enum E { A, B(u8) }\n" ++
     codes "\n" ++
     codes "fn k(_1: E) -> u8 {\n" ++
@@ -300,5 +307,7 @@ text-of-looking : text looking ≡
     codes "        return;\n" ++
     codes "    }\n" ++
     codes "}\n"
+
+text-of-looking : text looking ≡ looking_text
 unfolding text defs_text def_text def_word shape_text struct_text variants_text variant_text fields_text braced_text field_text field_ty_text outsides_text outside_text functions_text gap_text function_text inline_text drop_text header_text args_text more_args body_text let_line lets_text local_decl local_text blocks_text block_text block_name stmts_text stmt_line stmt_text rvalue_text pair_text tuple_text build_text build_parts variant_path named_text more_named binary_name over_name unary_name term_line term_text arms_text expected_text return_text success_text callee_path operand_text place_text openings opening closings closing type_after variant_name local_ty const_text minus_text is_negative size_of type_text rest_text parts_text scalar_text int_name comma_list more_items piece shapes_of ◌>>=◌
 text-of-looking = rw (decimal_digit 0 (omega arith), decimal_digit 1 (omega arith), decimal_digit 2 (omega arith), decimal_digit 3 (omega arith), decimal_digit 4 (omega arith)) refl

@@ -2,7 +2,6 @@ pub mod Seeing
 pub mod Operators
 pub mod PartTypes
 pub mod Values
-pub mod PathSteps
 pub mod TermCodes
 pub mod Faulty
 pub mod FormedParts

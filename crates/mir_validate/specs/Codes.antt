@@ -134,9 +134,3 @@ abbrev pub moves_code : Bool → Bool → Option ℕ
 moves_code true indirectly = Some 21
 moves_code false true = Some 22
 moves_code false false = None
-
--- ---- paths
-
--- the type of a field of an enum's variant
-abbrev pub variant_field : List Shape → Tree → ℕ → ℕ → Option Tree
-variant_field D t k i = variant_ty D t k >>= λ u. field_ty u i

@@ -20,7 +20,6 @@ mod inside;
 mod judge;
 mod moves;
 mod parts;
-mod path;
 mod rules;
 mod rvalue;
 mod seen;

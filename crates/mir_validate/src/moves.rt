@@ -7,7 +7,6 @@ ghost use Rattle.mir_validate.specs.Inside.{shapes, local_types};
 ghost use Rattle.mir_validate.specs.Codes.{rvalue_any, moves_code};
 
 use crate::inside::Inside;
-use crate::path::is_direct;
 use mir_syntax::{Operand, Place, Rvalue};
 
 /// What moves break: one goes through a field of a type with a destructor, or one of a type that needs drop has a dereference or a
@@ -58,7 +57,7 @@ impl Inside<'_> {
         requires formed { IsTrue (path_formed place.now.proj) }
         ensures { result ≡ (not (is_direct place.now.proj) && some_needs_drop (shapes self.now.program.now) (place_ty (shapes self.now.program.now) (local_types self.now.program.now self.now.body.now) place.now)) }
     {
-        if is_direct(place.proj.as_slice()) {
+        if place.is_direct() {
             return false;
         }
         match self.place_ty(place) {
@@ -74,7 +73,7 @@ impl Inside<'_> {
     {
         match operand {
             Operand::Move(place) => Moves {
-                through: self.goes_through_destructor(place),
+                through: self.program.goes_through_destructor(self.body, place),
                 indirectly: self.needs_drop_indirectly(place),
             },
             Operand::Copy(_) => Moves::none(),

@@ -15,7 +15,6 @@ ghost use Rattle.mir_validate.specs.Terms.{goes_back, arm_goes_back, ascends_fro
 
 use crate::inside::Inside;
 use crate::moves::Moves;
-use crate::path::is_direct;
 use crate::seen::Seen;
 use mir_num::wrap;
 use mir_syntax::{Arm, Body, Callee, Operand, Place, ScalarTy, Term, TyId};
@@ -247,7 +246,7 @@ impl Inside<'_> {
         requires formed { IsTrue (path_formed place.now.proj) }
         ensures { result ≡ first_code (if_broken (breaks_v23 (shapes self.now.program.now) (local_types self.now.program.now self.now.body.now) place.now) 23) }
     {
-        if !is_direct(place.proj.as_slice()) || self.goes_through_destructor(place) {
+        if !place.is_direct() || self.program.goes_through_destructor(self.body, place) {
             Some(23)
         } else {
             None

@@ -1,7 +1,7 @@
 use Rattle.std.proofs.Common.{ap₂}
 use Rattle.mir_num.specs.Numbers.{over}
 use Rattle.mir_num.proofs.Wrapped.{none_where_not_fits}
-use Rattle.mir_num.proofs.operators.over.Goals as goal
+use Rattle.mir_num.proofs.operators.over_scalar.Goals as goal
 
 pub returns : goal.returns
 unfolding over

@@ -5,7 +5,7 @@ use Rattle.std.proofs.lemmas.Int.{to_z-of_z}
 use Rattle.mir_num.specs.Widths.{is_signed}
 use Rattle.mir_num.specs.Numbers.{wrap, bits_of, cast}
 use Rattle.mir_num.proofs.Wrapped.{cast_unsigned_is}
-use Rattle.mir_num.proofs.operators.cast.Goals as goal
+use Rattle.mir_num.proofs.operators.cast_scalar.Goals as goal
 
 pub returns-then-signed : goal.returns-then-signed
 unfolding cast

@@ -1,6 +1,0 @@
-use Rattle.std.proofs.Common.{◌≡◌, drop}
-use Rattle.mir_syntax.specs.Parts.{is_direct}
-use Rattle.liveness.proofs.backward.is_direct.Given as goal
-
-abbrev pub invariant-loop-proj : goal.invariant-loop-proj
-invariant-loop-proj l = is_direct l.place.proj ≡ is_direct (drop l.proj-index l.place.proj)
