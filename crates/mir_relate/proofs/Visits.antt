@@ -98,8 +98,8 @@ no_destroyed D s c x p e = (let (d, e1, k1) = bind_some e in let z : ◌≡◌ {
 
 -- T: where the drop leads on both sides
 module _ (X : Change) (P : Pass) (V : Valids X) (Inv : State → Type 0) (G : TypeMap) (j : Renaming) (s2 s1 : State) (c2 c1 : Control) (l : Linked j j s2.memory s1.memory) (ag : AgreesBy X j c1 s2.memory s1.memory) (knows : Knows X G c1) (T : ℕ → ℕ → Type 0)
-  (item : (d e : Dropping) → Visiting j d e → T d.target e.target → Goes X P (go_on s2 s2.memory (record c2 { dropping = Some e })) (on (record s1 { top = record c1 { dropping = Some d } })))
-  (done : (u1 u2 : ℕ) → T u1 u2 → (a b : Addr) (t : Tree) (old : Value) → AddrRel j a b → AddrTy X.source.shapes G a t → value_at s1.memory a ≡ Some old → a.frame ≡ c1.frame → Goes X P (go_on s2 (write s2.memory b (blank X.source.shapes t)) (to_block u2 c2)) (on (record s1 { memory = write s1.memory a (blank X.source.shapes t); top = to_block u1 c1 }))) where
+    (item : (d e : Dropping) → Visiting j d e → T d.target e.target → Goes X P (go_on s2 s2.memory (record c2 { dropping = Some e })) (on (record s1 { top = record c1 { dropping = Some d } })))
+    (done : (u1 u2 : ℕ) → T u1 u2 → (a b : Addr) (t : Tree) (old : Value) → AddrRel j a b → AddrTy X.source.shapes G a t → value_at s1.memory a ≡ Some old → a.frame ≡ c1.frame → Goes X P (go_on s2 (write s2.memory b (blank X.source.shapes t)) (to_block u2 c2)) (on (record s1 { memory = write s1.memory a (blank X.source.shapes t); top = to_block u1 c1 }))) where
   abbrev D : List Shape
   D = X.source.shapes
 
@@ -170,7 +170,7 @@ module _ (X : Change) (P : Pass) (V : Valids X) (Inv : State → Type 0) (G : Ty
   -- ---- the frame runs
 
   module _ (laws : FrameLaws X P V Inv) (top1 : c1 ≡ s1.top) (top2 : c2 ≡ s2.top) (base : Base j s2 s1) (ks : KnowsAll X G (s1.top ∷ s1.callers))
-    (holds : (d e : Dropping) → Visiting j d e → T d.target e.target → Below X P j None None s2.next s1.next (record s2.top { dropping = Some e } ∷ s2.callers) (record s1.top { dropping = Some d } ∷ s1.callers) s2.memory s1.memory) where
+      (holds : (d e : Dropping) → Visiting j d e → T d.target e.target → Below X P j None None s2.next s1.next (record s2.top { dropping = Some e } ∷ s2.callers) (record s1.top { dropping = Some d } ∷ s1.callers) s2.memory s1.memory) where
     work_top : (d e : Dropping) (is js : List Visit) (x : Next) → Visiting j d e → T d.target e.target → VisitsRel j is js → AddrTy D G d.place.addr d.place.ty → d.place.addr.frame ≡ c1.frame → work_on D s1 s1.top d is ≡ Some x → Goes X P (work_on D s2 s2.top e js) x
     work_top d e is js x r tg vs ty pl q = subst (λ c. Goes X P (work_on D s2 c e js) x) top2 (work_on_goes d e is js x r tg vs ty pl (subst (λ c. work_on D s1 c d is ≡ Some x) (sym top1) q))
 

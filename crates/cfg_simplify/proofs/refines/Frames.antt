@@ -167,10 +167,14 @@ module _ (X : Change) (same_locals : X.body2.locals ≡ X.body1.locals) (Place :
     back_at m2' m1' e2 e1 n' a2 a1 f2 f1 d2 d1 dr h bz l' lv ge =
         let j = r.core.lent in
         let be' : Below X P j e2.dest e1.dest e2.frame e1.frame cs2 ds m2 m1 = subst (λ g. Below X P j e2.dest e1.dest g e1.frame cs2 ds m2 m1) (sym a2) (subst (λ g. Below X P j e2.dest e1.dest c2.frame g cs2 ds m2 m1) (sym a1) (subst (λ d. Below X P j d e1.dest c2.frame c1.frame cs2 ds m2 m1) (sym d2) (subst (λ d. Below X P j c2.dest d c2.frame c1.frame cs2 ds m2 m1) (sym d1) be))) in
-        let ag' : AgreesBy X j c1 m2' m1' = agrees_by X r.typed1.types j j (suc c2.frame) (suc c1.frame) m2' m1' m2 m1 c1 (omega arith) ks.0 lv ag in
-        (n', _, refl, back_core X P V Inv kept n s2 s1 r m2 m1 m2' m1' e2 e1 ds cs2 ks.1 be' (omega (arith, a1, l1)) (omega (arith, a2, l2)) l'
-          (leaves_less D r.typed1.types j j (suc c2.frame) (suc c1.frame) e2.frame e1.frame m2' m1' m2 m1 (omega (arith, a2)) (omega (arith, a1)) lv) (gentle_less D r.typed1.types c1.frame e1.frame m1' m1 (omega (arith, a1)) ge)
-          n' (refl, moved X same_locals Place jumps i n' j c2 c1 e2 e1 a2 a1 f2 f1 dr h bz st, agrees_at X j c1 e1 m2' m1' f1 a1 ag'))
+        let ag' : AgreesBy X j c1 m2' m1' = agrees_by X r.typed1.types j j (suc c2.frame) (suc c1.frame) m2' m1' m2 m1 c1 (omega arith) ks.0 lv ag in (
+          n',
+          _,
+          refl,
+          back_core X P V Inv kept n s2 s1 r m2 m1 m2' m1' e2 e1 ds cs2 ks.1 be' (omega (arith, a1, l1)) (omega (arith, a2, l2)) l'
+              (leaves_less D r.typed1.types j j (suc c2.frame) (suc c1.frame) e2.frame e1.frame m2' m1' m2 m1 (omega (arith, a2)) (omega (arith, a1)) lv) (gentle_less D r.typed1.types c1.frame e1.frame m1' m1 (omega (arith, a1)) ge)
+              n' (refl, moved X same_locals Place jumps i n' j c2 c1 e2 e1 a2 a1 f2 f1 dr h bz st, agrees_at X j c1 e1 m2' m1' f1 a1 ag'),
+        )
 
     back : (d2 d1 : Option Dest) → DestsRel r.core.lent d1 d2 → ((d : Dest) → d1 ≡ Some d → (t : Tree) × AddrTy D r.typed1.types d.addr t) → Same r.core.lent v w → GentleTo X r.typed1.types c1.frame m1 x → return_to D s1 m1 d1 (c1 ∷ ds) v ≡ Some x → Goes X P (return_to D s2 m2 d2 (c2 ∷ cs2) w) x
     unfolding return_to
