@@ -50,37 +50,37 @@ gathers_field old now e found new i ws left ways g em el ep ee w nm nl np nn = r
   few = (let small = w.few in let same : e.most ≡ old.most = em ∙ g.same_most in rw np (rw (sym same) small));
   found = step;
 }
-    where
-      most_is : e.most ≡ old.most
-      most_is = em ∙ g.same_most
+  where
+    most_is : e.most ≡ old.most
+    most_is = em ∙ g.same_most
 
-      path_is : e.path ≡ old.path ++ Field i ∷ []
-      path_is = ee ∙ ap (λ ps. ps ++ Field i ∷ []) g.same_path
+    path_is : e.path ≡ old.path ++ Field i ∷ []
+    path_is = ee ∙ ap (λ ps. ps ++ Field i ∷ []) g.same_path
 
-      -- what lies behind the field
-      new_places : List Place
-      new_places = places_from old (map (deeper i) ws)
+    -- what lies behind the field
+    new_places : List Place
+    new_places = places_from old (map (deeper i) ws)
 
-      kept : take old.most (found.places ++ []) ≡ take old.most (now.places ++ new_places)
-      kept =
-          ap (λ n. take n (found.places ++ [])) (sym most_is)
-          ∙ w.found
-          ∙ ap (λ n. take n (e.places ++ places_from e ws)) most_is
-          ∙ ap (λ xs. take old.most (xs ++ places_from e ws)) ep
-          ∙ ap (λ xs. take old.most (now.places ++ xs)) (from_field old e i (el ∙ g.same_local) path_is ws)
+    kept : take old.most (found.places ++ []) ≡ take old.most (now.places ++ new_places)
+    kept =
+        ap (λ n. take n (found.places ++ [])) (sym most_is)
+        ∙ w.found
+        ∙ ap (λ n. take n (e.places ++ places_from e ws)) most_is
+        ∙ ap (λ xs. take old.most (xs ++ places_from e ws)) ep
+        ∙ ap (λ xs. take old.most (now.places ++ xs)) (from_field old e i (el ∙ g.same_local) path_is ws)
 
-      whole : found.places ≡ take old.most (now.places ++ new_places)
-      whole =
-          sym (take_all old.most found.places (let small = w.few in rw (sym most_is) small))
-          ∙ ap (take old.most) (sym (append-nil found.places))
-          ∙ kept
+    whole : found.places ≡ take old.most (now.places ++ new_places)
+    whole =
+        sym (take_all old.most found.places (let small = w.few in rw (sym most_is) small))
+        ∙ ap (take old.most) (sym (append-nil found.places))
+        ∙ kept
 
-      step : take old.most (new.places ++ places_from old left) ≡ take old.most (old.places ++ places_from old ways)
-      step =
-          ap (λ xs. take old.most (xs ++ places_from old left)) (np ∙ whole)
-          ∙ take_again old.most (now.places ++ new_places) (places_from old left)
-          ∙ ap (take old.most) (append_assoc now.places new_places (places_from old left) ∙ ap (λ xs. now.places ++ xs) (sym (map-append (place_from old) (map (deeper i) ws) left)))
-          ∙ g.found
+    step : take old.most (new.places ++ places_from old left) ≡ take old.most (old.places ++ places_from old ways)
+    step =
+        ap (λ xs. take old.most (xs ++ places_from old left)) (np ∙ whole)
+        ∙ take_again old.most (now.places ++ new_places) (places_from old left)
+        ∙ ap (take old.most) (append_assoc now.places new_places (places_from old left) ∙ ap (λ xs. now.places ++ xs) (sym (map-append (place_from old) (map (deeper i) ws) left)))
+        ∙ g.found
 
 -- ---- over all locals
 
@@ -112,30 +112,30 @@ way_found D taken locals most s e new x t ts w is em ep en el g = record {
   few = rw (sym most_is) g.few;
   whole = step;
 }
-    where
-      most_is : e.most ≡ most
-      most_is = em ∙ w.same_most
+  where
+    most_is : e.most ≡ most
+    most_is = em ∙ w.same_most
 
-      here : List Place
-      here = map (place_at x) (scalars D t)
+    here : List Place
+    here = map (place_at x) (scalars D t)
 
-      got : new.places ≡ take most (s.places ++ here)
-      got =
-          sym (take_all most new.places (rw (sym most_is) g.few))
-          ∙ ap (take most) (sym (append-nil new.places))
-          ∙ ap (λ n. take n (new.places ++ [])) (sym most_is)
-          ∙ g.found
-          ∙ ap (λ n. take n (e.places ++ places_from e (scalars D t))) most_is
-          ∙ ap (λ xs. take most (xs ++ places_from e (scalars D t))) en
-          ∙ ap (λ xs. take most (s.places ++ xs)) (from_start e x el (ep ∙ w.no_path) (scalars D t))
+    got : new.places ≡ take most (s.places ++ here)
+    got =
+        sym (take_all most new.places (rw (sym most_is) g.few))
+        ∙ ap (take most) (sym (append-nil new.places))
+        ∙ ap (λ n. take n (new.places ++ [])) (sym most_is)
+        ∙ g.found
+        ∙ ap (λ n. take n (e.places ++ places_from e (scalars D t))) most_is
+        ∙ ap (λ xs. take most (xs ++ places_from e (scalars D t))) en
+        ∙ ap (λ xs. take most (s.places ++ xs)) (from_start e x el (ep ∙ w.no_path) (scalars D t))
 
-      step : take most (new.places ++ untaken_scalars D taken (suc x) ts) ≡ take most (untaken_scalars D taken 0 locals)
-      step =
-          ap (λ xs. take most (xs ++ untaken_scalars D taken (suc x) ts)) got
-          ∙ take_again most (s.places ++ here) (untaken_scalars D taken (suc x) ts)
-          ∙ ap (take most) (append_assoc s.places here (untaken_scalars D taken (suc x) ts))
-          ∙ ap (λ b. take most (s.places ++ ((if b then [] else here) ++ untaken_scalars D taken (suc x) ts))) (sym is)
-          ∙ w.whole
+    step : take most (new.places ++ untaken_scalars D taken (suc x) ts) ≡ take most (untaken_scalars D taken 0 locals)
+    step =
+        ap (λ xs. take most (xs ++ untaken_scalars D taken (suc x) ts)) got
+        ∙ take_again most (s.places ++ here) (untaken_scalars D taken (suc x) ts)
+        ∙ ap (take most) (append_assoc s.places here (untaken_scalars D taken (suc x) ts))
+        ∙ ap (λ b. take most (s.places ++ ((if b then [] else here) ++ untaken_scalars D taken (suc x) ts))) (sym is)
+        ∙ w.whole
 
 snoc_front : {A : Type 0} (xs ys : List A) (x y : A) → xs ++ x ∷ [] ≡ ys ++ y ∷ [] → xs ≡ ys
 snoc_front [] [] x y e = refl

@@ -1,17 +1,17 @@
 -- The tracked places of a body are in order.
-use Rattle.std.proofs.Common.{◌≡◌, ◌⊎◌, inl, inr, refl, sym, ap, ◌∙◌, subst, ℕ, zero, suc, ◌+◌, ◌≤◌, ◌<◌, ◌/◌, Bool, true, false, nat_lt, nat_le, if◌then◌else◌, List, [], ◌∷◌, ◌++◌, map, length, take, Option, Some, None, IsTrue, slice_get, arith}
+use Rattle.std.proofs.Common.{◌≡◌, inl, inr, refl, sym, ◌∙◌, subst, ℕ, zero, suc, ◌≤◌, ◌<◌, ◌/◌, Bool, true, false, nat_le, if◌then◌else◌, List, [], ◌∷◌, ◌++◌, map, length, Option, Some, None, IsTrue, slice_get, arith}
 use Rattle.std.proofs.lemmas.Bool.{cases_Bool}
 use Rattle.std.proofs.lemmas.List.{length-take}
 use Rattle.mir_syntax.specs.declared.body.Proj.{Proj}
-use Rattle.mir_syntax.specs.declared.body.Proj.TheVariants.{Field, Downcast, Deref}
+use Rattle.mir_syntax.specs.declared.body.Proj.TheVariants.{Field}
 use Rattle.mir_syntax.specs.declared.body.Place.{Place}
 use Rattle.mir_syntax.specs.Tree.{Tree, scalar, empty, more, ref, ref_mut, named}
 use Rattle.mir_syntax.specs.Crate.{TypedBody}
 use Rattle.mir_syntax.specs.Shapes.{Shape, fields_of}
 use Rattle.mir_syntax.proofs.Lists.{map_back}
 use Rattle.mir_rules.specs.Parts.{is_direct}
-use Rattle.place_map.specs.declared.side.Side.TheVariants.{Before, Within, After}
-use Rattle.place_map.specs.Order.{by_numbers, path_side, place_side, IsOrdered}
+use Rattle.place_map.specs.declared.side.Side.TheVariants.{Before}
+use Rattle.place_map.specs.Order.{path_side, place_side, IsOrdered}
 use Rattle.place_map.specs.Tracked.{deeper, scalars_by, scalars_in, scalars_def, scalars, place_at, untaken_scalars, most_tracked, tracked}
 use Rattle.place_map.proofs.Rises.{append_back, take_back, Rises, rises_at, rises_take, rises_append, rises_map}
 use Rattle.place_map.proofs.Sides.{before_is, same_is}
@@ -57,9 +57,9 @@ module _ (f : ℕ → List (List Proj)) (defs : (d : ℕ) → IsAscending (f d))
       | inr h ↦ b.direct h.0 ps h.1
     ];
     rising = rises_append PathBefore (map (deeper i) xs) ys (rises_map PathBefore PathBefore (deeper i) (deeper_rises i) xs a.rising) b.rising (λ k l x y ex ey.
-    let (r, at, is) = map_back (deeper i) xs k x ex in
-    let (j, s, le, same) = later l y ey in
-    subst (λ z. PathBefore z y) is (subst (PathBefore (deeper i r)) (sym same) (before_is i j (path_side r s) le)));
+        let (r, at, is) = map_back (deeper i) xs k x ex in
+        let (j, s, le, same) = later l y ey in
+        subst (λ z. PathBefore z y) is (subst (PathBefore (deeper i r)) (sym same) (before_is i j (path_side r s) le)));
   }
 
   ascend : (m : Option ℕ) (t : Tree) → IsAscending (scalars_by f m t)
@@ -118,9 +118,9 @@ local_first x xs ys a b = record {
     | inr h ↦ b.direct h.0 p h.1
   ];
   rising = rises_append PlaceBefore (map (place_at x) xs) ys (rises_map PathBefore PlaceBefore (place_at x) (in_local x) xs a.rising) b.rising (λ i j q p eq ep.
-  let (r, at, is) = map_back (place_at x) xs i q eq in
-  let l = b.later j p ep in
-  subst (λ z. PlaceBefore z p) is (other_local (place_at x r) p l));
+      let (r, at, is) = map_back (place_at x) xs i q eq in
+      let l = b.later j p ep in
+      subst (λ z. PlaceBefore z p) is (other_local (place_at x r) p l));
 }
 
 nothing_first : (x : ℕ) (ys : List Place) → IsRow (suc x) ys → IsRow x ys

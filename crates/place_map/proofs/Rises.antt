@@ -1,5 +1,5 @@
 -- Lists in which each is before those after it, by some relation.
-use Rattle.std.proofs.Common.{◌≡◌, ◌⊎◌, inl, inr, refl, sym, ap, ◌∙◌, subst, ℕ, zero, suc, ◌+◌, ◌≤◌, ◌<◌, List, [], ◌∷◌, ◌++◌, map, take, slice_get, Some, arith}
+use Rattle.std.proofs.Common.{◌≡◌, ◌⊎◌, inl, inr, refl, subst, ℕ, zero, suc, ◌<◌, List, [], ◌∷◌, ◌++◌, map, take, slice_get, Some, arith}
 use Rattle.mir_syntax.proofs.Lists.{map_back}
 
 some_one : {A : Type 0} {x y : A} → Some x ≡ Some y → x ≡ y
@@ -36,12 +36,14 @@ module _ {A : Type 0} (R : A → A → Type 0) where
 
   pub rises_append : (xs ys : List A) → Rises xs → Rises ys → ((i j : ℕ) (x y : A) → slice_get xs i ≡ Some x → slice_get ys j ≡ Some y → R x y) → Rises (xs ++ ys)
   rises_append [] ys h k across = k
-  rises_append (x ∷ xs) ys h k across =
-      (λ i y e. elim (append_back xs ys i y e) [ inl p ↦ h.0 p.0 y p.1 | inr p ↦ across 0 p.0 x y refl p.1 ],
-       rises_append xs ys h.1 k (λ i j a b ea eb. across (suc i) j a b ea eb))
+  rises_append (x ∷ xs) ys h k across = (
+    λ i y e. elim (append_back xs ys i y e) [ inl p ↦ h.0 p.0 y p.1 | inr p ↦ across 0 p.0 x y refl p.1 ],
+    rises_append xs ys h.1 k (λ i j a b ea eb. across (suc i) j a b ea eb),
+  )
 
 pub rises_map : {A B : Type 0} (R : A → A → Type 0) (S : B → B → Type 0) (f : A → B) → ((x y : A) → R x y → S (f x) (f y)) → (xs : List A) → Rises R xs → Rises S (map f xs)
 rises_map R S f keeps [] h = tt
-rises_map R S f keeps (x ∷ xs) h =
-    (λ i y e. (let (z, at, is) = map_back f xs i y e in subst (S (f x)) is (keeps x z (h.0 i z at))),
-     rises_map R S f keeps xs h.1)
+rises_map R S f keeps (x ∷ xs) h = (
+  λ i y e. (let (z, at, is) = map_back f xs i y e in subst (S (f x)) is (keeps x z (h.0 i z at))),
+  rises_map R S f keeps xs h.1,
+)

@@ -1,6 +1,5 @@
 -- Tracked places of small bodies, computed.
-use Rattle.std.proofs.Common.{◌≡◌, refl, ℕ, Bool, true, false, nat_eq, List, [], ◌∷◌, ◌++◌, Some, None}
-use Rattle.std.specs.List.{range_with_len}
+use Rattle.std.proofs.Common.{◌≡◌, refl, ℕ, Bool, true, false, nat_eq, List, [], ◌∷◌, Some, None}
 use Rattle.mir_syntax.specs.declared.types.IntTy.TheVariants.{U8}
 use Rattle.mir_syntax.specs.declared.types.ScalarTy.TheVariants as scalar_ty
 use Rattle.mir_syntax.specs.declared.body.Proj.TheVariants.{Field}

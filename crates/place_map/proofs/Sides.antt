@@ -1,14 +1,15 @@
 -- Where tracked places lie against a place.
-use Rattle.std.proofs.Common.{◌≡◌, ◌⊎◌, inl, inr, refl, sym, ap, ap₂, ◌∙◌, subst, ℕ, zero, suc, ◌+◌, ◌≤◌, ◌<◌, Bool, true, false, nat_eq, nat_lt, if◌then◌else◌, List, [], ◌∷◌, ◌++◌, length, Option, Some, None, is_some, IsTrue, slice_get, arith}
+use Rattle.std.proofs.Common.{◌≡◌, ◌⊎◌, inl, inr, refl, sym, ap, ap₂, ◌∙◌, ℕ, ◌+◌, ◌≤◌, ◌<◌, Bool, true, false, nat_eq, nat_lt, if◌then◌else◌, List, [], ◌∷◌, ◌++◌, length, drop, Option, Some, None, is_some, IsTrue, arith}
 use Rattle.std.proofs.lemmas.Bool.{cases_eq, cases_Bool}
+use Rattle.std.proofs.lemmas.List.{append-nil, length-append}
 use Rattle.mir_syntax.specs.declared.body.Proj.{Proj}
 use Rattle.mir_syntax.specs.declared.body.Proj.TheVariants.{Field, Downcast, Deref}
 use Rattle.mir_syntax.specs.declared.body.Place.{Place}
 use Rattle.mir_rules.specs.Parts.{is_direct}
 use Rattle.place_map.specs.declared.side.Side.{Side}
 use Rattle.place_map.specs.declared.side.Side.TheVariants.{Before, Within, After}
-use Rattle.place_map.specs.Order.{by_numbers, path_side, place_side, is_before, is_until}
-use Rattle.place_map.specs.Tracked.{same_proj, rest_of, way}
+use Rattle.place_map.specs.Order.{by_numbers, path_side, place_side}
+use Rattle.place_map.specs.Tracked.{same_proj, rest_of, way, beyond}
 
 abbrev pub is_within : Side → Bool
 is_within Within = true
@@ -135,3 +136,64 @@ way_is q p r e = elim (cases_Bool (nat_eq q.local p.local)) [
   | inl h ↦ (let go : rest_of q.proj p.proj ≡ Some r = sym (ap (λ b. if b then rest_of q.proj p.proj else None) h) ∙ e in let same : p.local ≡ q.local = grind arith in ap₂ (λ x ps. record { local = x; proj = ps }) same (rest_is q.proj p.proj r go))
   | inr h ↦ absurd (let z : None ≡ Some r = sym (ap (λ b. if b then rest_of q.proj p.proj else None) h) ∙ e in cc)
 ]
+
+-- ---- a way behind a path
+
+abbrev pub then_side : Side → Side → Side
+then_side Within s = s
+then_side Before s = Before
+then_side After s = After
+
+numbers_then : (i j : ℕ) (s t : Side) → then_side (by_numbers i j s) t ≡ by_numbers i j (then_side s t)
+numbers_then i j s t = elim (either i j) [
+  | inl l ↦ rw (before_is i j s l) (rw (before_is i j (then_side s t) l) refl)
+  | inr r ↦ elim r [
+    | inl e ↦ rw (same_is i j s e) (rw (same_is i j (then_side s t) e) refl)
+    | inr g ↦ rw (after_is i j s g) (rw (after_is i j (then_side s t) g) refl)
+  ]
+]
+
+pub path_then : (qs ps r : List Proj) → path_side qs (ps ++ r) ≡ then_side (path_side qs ps) (path_side (drop (length ps) qs) r)
+path_then qs [] r = refl
+path_then [] (p ∷ ps) r = refl
+path_then (Field i ∷ qs) (Field j ∷ ps) r = ap (by_numbers i j) (path_then qs ps r) ∙ sym (numbers_then i j (path_side qs ps) (path_side (drop (length ps) qs) r))
+path_then (Field i ∷ qs) (Downcast j ∷ ps) r = refl
+path_then (Field i ∷ qs) (Deref ∷ ps) r = refl
+path_then (Downcast i ∷ qs) (p ∷ ps) r = refl
+path_then (Deref ∷ qs) (p ∷ ps) r = refl
+
+pub within_long : (qs ps : List Proj) → path_side qs ps ≡ Within → length ps ≤ length qs
+within_long qs [] e = omega arith
+within_long [] (p ∷ ps) e = absurd cc
+within_long (Field i ∷ qs) (Field j ∷ ps) e = elim (either i j) [
+  | inl l ↦ absurd (let z : Before ≡ Within = sym (before_is i j (path_side qs ps) l) ∙ e in cc)
+  | inr r ↦ elim r [
+    | inl q ↦ (let up = within_long qs ps (sym (same_is i j (path_side qs ps) q) ∙ e) in omega arith)
+    | inr g ↦ absurd (let z : After ≡ Within = sym (after_is i j (path_side qs ps) g) ∙ e in cc)
+  ]
+]
+within_long (Field i ∷ qs) (Downcast j ∷ ps) e = absurd cc
+within_long (Field i ∷ qs) (Deref ∷ ps) e = absurd cc
+within_long (Downcast i ∷ qs) (p ∷ ps) e = absurd cc
+within_long (Deref ∷ qs) (p ∷ ps) e = absurd cc
+
+-- against a place with a way behind it
+pub side_before : (q p : Place) (r : List Proj) → q.local < p.local → Before ≡ place_side q (beyond p r)
+unfolding place_side beyond
+side_before q p r l = sym (before_is q.local p.local (path_side q.proj (p.proj ++ r)) l)
+
+pub side_after : (q p : Place) (r : List Proj) → p.local < q.local → After ≡ place_side q (beyond p r)
+unfolding place_side beyond
+side_after q p r l = sym (after_is q.local p.local (path_side q.proj (p.proj ++ r)) l)
+
+pub side_then : (q p : Place) (r : List Proj) → q.local ≡ p.local → then_side (path_side q.proj p.proj) (path_side (drop (length p.proj) q.proj) r) ≡ place_side q (beyond p r)
+unfolding place_side beyond
+side_then q p r e = sym (same_is q.local p.local (path_side q.proj (p.proj ++ r)) e ∙ path_then q.proj p.proj r)
+
+pub beyond_nothing : (p : Place) → beyond p [] ≡ p
+unfolding beyond
+beyond_nothing p = ap (λ ps. record { local = p.local; proj = ps }) (append-nil p.proj)
+
+pub beyond_long : (p : Place) (r : List Proj) → length (beyond p r).proj ≡ length p.proj + length r
+unfolding beyond
+beyond_long p r = length-append p.proj r

@@ -1,5 +1,5 @@
 -- The tracked places at or under a place lie side by side, and the place itself is the first of them.
-use Rattle.std.proofs.Common.{◌≡◌, ◌⊎◌, inl, inr, refl, sym, ap, ◌∙◌, subst, ℕ, zero, suc, ◌+◌, ◌≤◌, ◌<◌, Bool, true, false, nat_lt, List, [], ◌∷◌, ◌++◌, length, Option, Some, None, is_some, IsTrue, ◌↔◌, slice_get, get_or, arith, rules}
+use Rattle.std.proofs.Common.{◌≡◌, inl, inr, refl, sym, ap, ◌∙◌, subst, ℕ, ◌≤◌, ◌<◌, Bool, true, false, nat_lt, List, [], ◌∷◌, length, Option, Some, None, is_some, IsTrue, slice_get, get_or, arith, rules}
 use Rattle.std.specs.List.Sorted.{IsPartitionedBy, IsPartitionPoint}
 use Rattle.std.proofs.lemmas.Bool.{cases_eq, cases_Bool}
 use Rattle.std.proofs.lemmas.Option.{slice_get-get_or, slice_get_within, get_or_from_slice_get}
@@ -9,7 +9,7 @@ use Rattle.mir_syntax.specs.declared.body.Place.{Place}
 use Rattle.place_map.specs.declared.side.Side.{Side}
 use Rattle.place_map.specs.declared.side.Side.TheVariants.{Before, Within, After}
 use Rattle.place_map.specs.Order.{place_side, is_before, is_until, IsOrdered}
-use Rattle.place_map.specs.Tracked.{way, SpansUnder}
+use Rattle.place_map.specs.Tracked.{way, SpansUnder, IsNumber}
 use Rattle.place_map.proofs.Sides.{is_within, level, side_rises, side_way, way_self, way_is}
 
 abbrev pub before : Place → Place → Bool
@@ -72,9 +72,10 @@ module _ (places : List Place) (ordered : IsOrdered places) (p : Place) where
         let l = slice_get_within places i q e in
         let same : get_or places i q ≡ q = get_or_from_slice_get places i q q e in
         let low : i < from → ⊥ = λ h. not_before (place_side q p) w (subst (λ z. before p z ≡ true) same (first.0 i q (omega arith) h)) in
-        let high : to ≤ i → ⊥ = λ h. not_after (place_side q p) w (subst (λ z. until p z ≡ false) same (last.1 i q h l)) in
-        (elim (cases_Bool (nat_lt i from)) [ inl h ↦ absurd (low (grind arith)) | inr h ↦ grind arith ],
-         elim (cases_Bool (nat_lt i to)) [ inl h ↦ grind arith | inr h ↦ absurd (high (grind arith)) ])
+        let high : to ≤ i → ⊥ = λ h. not_after (place_side q p) w (subst (λ z. until p z ≡ false) same (last.1 i q h l)) in (
+          elim (cases_Bool (nat_lt i from)) [ inl h ↦ absurd (low (grind arith)) | inr h ↦ grind arith ],
+          elim (cases_Bool (nat_lt i to)) [ inl h ↦ grind arith | inr h ↦ absurd (high (grind arith)) ],
+        )
 
     stays : (i : ℕ) (q : Place) → slice_get places i ≡ Some q → (from ≤ i) × (i < to) → is_within (place_side q p) ≡ true
     stays i q e h =
@@ -85,7 +86,8 @@ module _ (places : List Place) (ordered : IsOrdered places) (p : Place) where
     pub spans : SpansUnder places p from to
     spans i q e = (
       (λ h. starts i q e (sym (side_way q p (ordered.direct i q e)) ∙ search rules)),
-      (λ h. (let w : is_some (way p q) ≡ true = side_way q p (ordered.direct i q e) ∙ stays i q e h in search rules)))
+      (λ h. (let w : is_some (way p q) ≡ true = side_way q p (ordered.direct i q e) ∙ stays i q e h in search rules)),
+    )
 
     pub spans_up : from ≤ length places → from ≤ to
     spans_up l = elim (cases_Bool (nat_lt to from)) [
@@ -125,3 +127,15 @@ module _ (places : List Place) (p : Place) (from to : ℕ) (span : SpansUnder pl
         let w : is_within (place_side q p) ≡ true = sym (side_way q p (ordered.direct from q e)) ∙ search rules in
         not_before (place_side q p) w (ap is_before rises))
   ])
+
+  pub number_is : IsOrdered places → slice_get places from ≡ Some p → IsNumber places p from
+  number_is ordered here = record {
+    stands = here;
+    alone = λ j there. elim (cases_eq j from) [
+      | inl same ↦ same
+      | inr ne ↦ (let h = self_in j there in
+          let rises = ordered.rising from j p p (omega arith) here there in
+          let w : is_within (place_side p p) ≡ true = sym (side_way p p (ordered.direct from p here)) ∙ ap is_some (way_self p) in
+          absurd (not_before (place_side p p) w (ap is_before rises)))
+    ];
+  }

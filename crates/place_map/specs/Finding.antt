@@ -1,5 +1,5 @@
 -- What is found on the way to the list of tracked places. No promise of a public call rests on it.
-use Rattle.std.specs.Prelude.{◌≡◌, ℕ, ◌≤◌, List, [], ◌++◌, map, length, take}
+use Rattle.std.specs.Prelude.{◌≡◌, ◌≤◌, List, ◌++◌, map, length, take}
 use Rattle.mir_syntax.specs.declared.body.Proj.{Proj}
 use Rattle.mir_syntax.specs.declared.body.Place.{Place}
 use Rattle.place_map.specs.declared.scalars.Found.{Found}

@@ -74,6 +74,11 @@ most_tracked blocks = if nat_le 1000 (1000000 / blocks) then 1000 else 1000000 /
 unfoldable pub tracked : List Shape → (ℕ → Bool) → TypedBody → List Place
 tracked D taken b = take (most_tracked (length b.blocks)) (untaken_scalars D taken 0 b.locals)
 
+-- a place stands in a list at this number alone
+pub record IsNumber (places : List Place) (p : Place) (i : ℕ) : Type 0 where
+  pub stands : slice_get places i ≡ Some p
+  pub alone : (j : ℕ) → slice_get places j ≡ Some p → j ≡ i
+
 -- the numbers of the places at or under a place: those from one number up to but not another
 abbrev pub SpansUnder : List Place → Place → ℕ → ℕ → Type 0
 SpansUnder places p from to = (i : ℕ) (q : Place) → slice_get places i ≡ Some q → IsTrue (is_some (way p q)) ↔ ((from ≤ i) × (i < to))

@@ -1,5 +1,6 @@
 ghost use Rattle.std.specs.Prelude.{◌≡◌};
 ghost use Rattle.place_map.specs.Order.{path_side, place_side, is_before, is_until};
+ghost use Rattle.place_map.specs.Tracked.{beyond};
 
 use mir_syntax::{Place, Proj};
 
@@ -37,9 +38,9 @@ fn path_side(tracked: &[Proj], path: &[Proj]) -> Side
     Side::Within
 }
 
-#[tactic(auto, unfolding(crate::specs::Order::place_side))]
-fn place_side(tracked: &Place, place: &Place) -> Side
-    ensures { result ≡ place_side tracked.now place.now }
+/// Where a tracked place lies against the place at the end of a way from another.
+fn place_side(tracked: &Place, place: &Place, way: &[Proj]) -> Side
+    ensures { result ≡ place_side tracked.now (beyond place.now way.now) }
 {
     if tracked.local < place.local {
         return Side::Before;
@@ -47,19 +48,24 @@ fn place_side(tracked: &Place, place: &Place) -> Side
     if place.local < tracked.local {
         return Side::After;
     }
-    path_side(tracked.proj.as_slice(), place.proj.as_slice())
+    let own = tracked.proj.as_slice();
+    match path_side(own, place.proj.as_slice()) {
+        Side::Before => Side::Before,
+        Side::Within => path_side(&own[place.proj.len()..], way),
+        Side::After => Side::After,
+    }
 }
 
-/// Whether a tracked place is before a place.
-pub(crate) fn is_before(tracked: &Place, place: &Place) -> bool
-    ensures { result ≡ is_before (place_side tracked.now place.now) }
+/// Whether a tracked place is before the place at the end of a way from another.
+pub(crate) fn is_before(tracked: &Place, place: &Place, way: &[Proj]) -> bool
+    ensures { result ≡ is_before (place_side tracked.now (beyond place.now way.now)) }
 {
-    matches!(place_side(tracked, place), Side::Before)
+    matches!(place_side(tracked, place, way), Side::Before)
 }
 
-/// Whether a tracked place is before a place, or at or under it.
-pub(crate) fn is_until(tracked: &Place, place: &Place) -> bool
-    ensures { result ≡ is_until (place_side tracked.now place.now) }
+/// Whether a tracked place is before the place at the end of a way from another, or at or under it.
+pub(crate) fn is_until(tracked: &Place, place: &Place, way: &[Proj]) -> bool
+    ensures { result ≡ is_until (place_side tracked.now (beyond place.now way.now)) }
 {
-    !matches!(place_side(tracked, place), Side::After)
+    !matches!(place_side(tracked, place, way), Side::After)
 }

@@ -1,25 +1,22 @@
-use Rattle.std.proofs.Common.{◌≡◌, ◌<◌, ◌≤◌, ap, ◌∙◌, sym, subst, ℕ, List, [], Some, None, OnOk, length, get_or, rules, arith}
+use Rattle.std.proofs.Common.{◌≡◌, ◌≤◌, ap, ◌∙◌, sym, subst, [], Some, None, OnOk, length, get_or, arith}
 use Rattle.std.proofs.lemmas.Option.{slice_get_past}
 use Rattle.mir_syntax.specs.Tree.{Tree, at_id, at_ids, trees_of}
 use Rattle.mir_syntax.specs.Crate.{crate_of}
 use Rattle.mir_syntax.specs.Shapes.{shapes_of, fields_tree}
-use Rattle.mir_syntax.specs.declared.types.TyId.{TyId}
 use Rattle.mir_syntax.specs.declared.types.Field.{Field as StructField}
-use Rattle.mir_syntax.specs.declared.types.Ty.{Ty}
-use Rattle.mir_syntax.specs.declared.types.Ty.TheVariants.{Tuple}
 use Rattle.mir_syntax.specs.Tree.{node}
 use Rattle.mir_syntax.proofs.Lists.{id_below}
 use Rattle.mir_syntax.proofs.Places.{at_id-past}
-use Rattle.place_map.specs.declared.scalars.Found.{Found}
 use Rattle.place_map.specs.Tracked.{scalars_by, scalars_def}
 use Rattle.place_map.specs.Finding.{Gathers}
 use Rattle.place_map.proofs.Gathering.{some_id, some_field, tuple_scalars}
 use Rattle.place_map.proofs.scalars.+find.Goals as goal
 
 pub find_in_tuple-find_scalars-requires : goal.find_in_tuple-find_scalars-requires
-find_in_tuple-find_scalars-requires t c =
-    (omega (arith, c.decreases, c.loop-index-test.true, id_below c.args.bound c.args.ids.now c.loop-index.index (record { 0 = 0 }) c.requires.below c.loop-index-test.true),
-     (let few = c.loop-index.invariant.few in let most = c.enter.ensures.most in let same = c.loop-index.invariant.same_most in let places = ap length c.enter.ensures.places in omega arith))
+find_in_tuple-find_scalars-requires t c = (
+  omega (arith, c.decreases, c.loop-index-test.true, id_below c.args.bound c.args.ids.now c.loop-index.index (record { 0 = 0 }) c.requires.below c.loop-index-test.true),
+  (let few = c.loop-index.invariant.few in let most = c.enter.ensures.most in let same = c.loop-index.invariant.same_most in let places = ap length c.enter.ensures.places in omega arith),
+)
 
 pub find_in_tuple-loop-index-preserved : goal.find_in_tuple-loop-index-preserved
 find_in_tuple-loop-index-preserved t c =

@@ -1,14 +1,13 @@
-use Rattle.std.proofs.Common.{◌≡◌, ◌<◌, ◌≤◌, ◌+◌, refl, ap, ◌∙◌, sym, subst, ℕ, suc, List, [], ◌∷◌, map, drop, Some, None, false, true, length, get_or, rules, arith}
+use Rattle.std.proofs.Common.{◌≡◌, ◌<◌, ◌+◌, refl, ap, ◌∙◌, sym, subst, suc, List, [], ◌∷◌, map, drop, false, true, length, get_or, arith}
 use Rattle.std.proofs.lemmas.List.{at_drop_more}
 use Rattle.bit_rows.specs.Rows.{flag}
-use Rattle.mir_syntax.specs.Tree.{Tree, at_id, trees_of}
+use Rattle.mir_syntax.specs.Tree.{at_id, trees_of}
 use Rattle.mir_syntax.specs.Crate.{crate_of, body_of}
 use Rattle.mir_syntax.specs.Shapes.{shapes_of}
-use Rattle.mir_syntax.specs.declared.body.Place.{Place}
 use Rattle.mir_syntax.specs.declared.types.TyId.{TyId}
 use Rattle.place_map.specs.declared.scalars.Found.{Found}
 use Rattle.place_map.specs.Order.{IsOrdered}
-use Rattle.place_map.specs.Tracked.{scalars, most_tracked, tracked}
+use Rattle.place_map.specs.Tracked.{scalars, most_tracked}
 use Rattle.place_map.specs.Finding.{Gathers}
 use Rattle.place_map.proofs.Ordered.{tracked_ordered}
 use Rattle.place_map.proofs.Gathering.{IsOnTheWay, way_taken, way_found, way_done, scalars_whole}
