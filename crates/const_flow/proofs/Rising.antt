@@ -339,7 +339,7 @@ module _ (D : List Shape) (b : TypedBody) where
   unfolding const_at const_flow
   const_rounds = ap₂ (λ n xs. repeated (n * height) (round (const_flow D b)) xs) (begins_length b.blocks) (begins_bottoms b.blocks)
 
-  -- D12: after these rounds nothing changes
+  -- after these rounds nothing changes
   pub const_ends : round (const_flow D b) (const_at D b) ≡ const_at D b
   const_ends = subst (λ xs. round (const_flow D b) xs ≡ xs) const_rounds (ends Ok BelowReached rank height (const_flow D b) const_laws None tt (λ x h. tt))
 
