@@ -1,7 +1,6 @@
 use Rattle.std.proofs.lemmas.List.{take_all, length-drop}
-use Rattle.std.proofs.Common.{◌≡◌, ◌≤◌, ◌-◌, take, ap, ap₂, ◌∙◌, sym, subst, List, length, drop, rules, arith}
+use Rattle.std.proofs.Common.{◌≡◌, ◌≤◌, ◌-◌, take, ap, ap₂, ◌∙◌, sym, List, length, drop, rules, arith}
 use Rattle.mir_syntax.specs.declared.body.Proj.{Proj}
-use Rattle.place_map.specs.declared.side.Side.{Side}
 use Rattle.place_map.specs.declared.side.Side.TheVariants.{Before, Within, After}
 use Rattle.place_map.specs.Order.{path_side}
 use Rattle.place_map.proofs.Sides.{side_before, side_after, side_then, then_side, within_long}
