@@ -1,0 +1,5 @@
+pub mod Same
+pub mod Ends
+pub mod Heights
+pub mod Rising
+pub mod Rows

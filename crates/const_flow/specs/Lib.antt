@@ -1,0 +1,4 @@
+pub mod Rounds
+pub mod Facts
+pub mod ConstAt
+pub mod Order

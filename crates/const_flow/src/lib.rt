@@ -1,0 +1,10 @@
+//! What is known of scalars at each point of a body (constant propagation).
+//!
+//! Of each tracked place of a body (`place_map`) is known, at a point, that it is a hole, or a hole or one number, or that it may be anything
+//! (`Cell`). What statements and terminators make of that stands in `specs/Facts.antt`, and what is known at the start of each block
+//! (`const_at`) in `specs/ConstAt.antt`, as the least solution of the flow problem `const_flow`.
+#![tactic(auto)]
+
+mod cell;
+
+pub use cell::Cell;
