@@ -1,5 +1,5 @@
 -- What is told, from what was read and written.
-use Rattle.std.proofs.Common.{◌≡◌, ◌∙◌, ℕ, List, [], ◌∷◌, codes, Option, Some, None, Result, Ok, Err, inl, inr, refl, sym, subst}
+use Rattle.std.proofs.Common.{◌≡◌, ◌∙◌, ℕ, List, [], ◌∷◌, codes, Option, Some, None, Result, Ok, Err, inl, inr, refl, sym, ap, subst}
 use Rattle.std.proofs.lemmas.List.{append-nil}
 use Rattle.std.specs.Prelude.{IfErr, IsErrAnd}
 use Rattle.std.specs.Io.KnownBytes.{Appends}
@@ -7,6 +7,7 @@ use Rattle.mir_syntax.specs.declared.lines.Lines.{Lines}
 use Rattle.mir_syntax.specs.declared.number.Number.{Number}
 use Rattle.mir_syntax.specs.Crate.{Crate}
 use Rattle.mir_text.specs.Text.{text}
+use Rattle.pass_order.specs.Passes.{optimised}
 use Rattle.crate_run.specs.Ran.{IsRunText, IsNoEntry}
 use Rattle.pipe_words.specs.declared.command.Command.{Command}
 use Rattle.pipe_words.specs.declared.command.Command.TheVariants.{Check, Seq, Run}
@@ -15,7 +16,7 @@ use Rattle.mirpipe_cli.specs.declared.fault.InputFault.{InputFault}
 use Rattle.mirpipe_cli.specs.declared.fault.InputFault.TheVariants.{Long, Text, Rule, Limit, Drops, NoFunction, NoEntry}
 use Rattle.mirpipe_cli.specs.declared.fault.Refusal.{Refusal}
 use Rattle.mirpipe_cli.specs.declared.fault.Refusal.TheVariants.{ReadFault, OutOfMemory, Input}
-use Rattle.mirpipe_cli.specs.Passed.{IsPassed, first_drop}
+use Rattle.mirpipe_cli.specs.FirstDrop.{first_drop}
 use Rattle.mirpipe_cli.specs.Refused.{IsAccepted, IsFaulty, OfInput, IsNoDrop}
 use Rattle.mirpipe_cli.specs.Answer.{done, refused, word_fault, RefusesRun, Refuses, Writes, Answers, IsOptimised}
 use Rattle.mirpipe_cli.proofs.Refined.{passed_refines}
@@ -40,15 +41,13 @@ says_seq words Seq seq other = refl
 says_seq words (Run name args answers count) seq (rest, e, run) = let wrong : codes "seq" ∷ [] ≡ codes "run" ∷ rest = sym seq ∙ e in absurd cc
 
 -- what the passes make of an accepted crate refines it
-pub optimised : (input : List ℕ) (C D : Crate) (lines : Lines) → IsAccepted input C lines → first_drop lines C ≡ None → IsPassed C D → IsOptimised input (text D)
-optimised input C D lines accepted no_drop passed =
+pub printed_refines : (input : List ℕ) (C D : Crate) (lines : Lines) → IsAccepted input C lines → first_drop lines C ≡ None → D ≡ optimised C → IsOptimised input (text D)
+printed_refines input C D lines accepted no_drop same =
     record {
       C = C;
-      D = D;
       accepted = accepted.accepted;
-      passed = passed;
-      written = refl;
-      refines = passed_refines C D lines accepted.accepted.valid accepted.accepted.within no_drop passed;
+      written = ap text same;
+      refines = passed_refines C lines accepted.accepted.valid accepted.accepted.within no_drop;
     }
 
 -- ---- refusals

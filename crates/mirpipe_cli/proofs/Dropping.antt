@@ -12,7 +12,7 @@ use Rattle.mir_syntax.specs.Crate.{block_of, function_of, crate_of}
 use Rattle.mir_rules.specs.Broken.{Spot, terminator, gather}
 use Rattle.mir_rules.specs.Faults.{or_zero, line_at}
 use Rattle.mir_rules.specs.Drops.{is_drop}
-use Rattle.mirpipe_cli.specs.Passed.{drop_spot, drop_spots, drops, first_drop}
+use Rattle.mirpipe_cli.specs.FirstDrop.{drop_spot, drop_spots, drops, first_drop}
 use Rattle.mirpipe_cli.specs.Found.{drop_from, drop_block}
 
 -- ---- lines

@@ -8,8 +8,9 @@ use Rattle.mir_rules.specs.Valid.{Valid, Within}
 use Rattle.mir_rules.proofs.Lists.{gather_empty-at}
 use Rattle.mir_semantics.specs.Refines.{Refines}
 use Rattle.mir_rules.specs.Drops.{is_drop, NoDrops}
-use Rattle.steps_refine.proofs.Law.{steps_refine}
-use Rattle.mirpipe_cli.specs.Passed.{IsPassed, drop_spot, drop_spots, drops, first_drop}
+use Rattle.pass_order.specs.Passes.{optimised}
+use Rattle.pass_order.proofs.Crates.{optimised_refines}
+use Rattle.mirpipe_cli.specs.FirstDrop.{drop_spot, drop_spots, drops, first_drop}
 
 -- ---- a crate without a first `drop` has none
 
@@ -36,5 +37,5 @@ no_drops lines C none f g e =
 
 -- ---- the law
 
-pub passed_refines : (C D : Crate) (lines : Lines) → Valid C → Within C → first_drop lines C ≡ None → IsPassed C D → Refines D C
-passed_refines C D lines valid within none passed = steps_refine C D valid within (no_drops lines C none) passed
+pub passed_refines : (C : Crate) (lines : Lines) → Valid C → Within C → first_drop lines C ≡ None → Refines (optimised C) C
+passed_refines C lines valid within none = optimised_refines C valid within (no_drops lines C none)

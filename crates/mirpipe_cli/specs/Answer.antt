@@ -9,10 +9,11 @@ use Rattle.mir_semantics.specs.Refines.{Refines}
 use Rattle.pipe_words.specs.declared.command.Command.{Command}
 use Rattle.pipe_words.specs.declared.command.Command.TheVariants.{Check, Seq, Run}
 use Rattle.pipe_words.specs.Commands.{Says, IsMisfit}
+use Rattle.pass_order.specs.Passes.{optimised}
 use Rattle.crate_run.specs.Ran.{IsRunText}
 use Rattle.mirpipe_cli.specs.declared.fault.InputFault.{InputFault}
 use Rattle.mirpipe_cli.specs.declared.fault.InputFault.TheVariants.{NoFunction, NoEntry}
-use Rattle.mirpipe_cli.specs.Passed.{IsPassed, first_drop}
+use Rattle.mirpipe_cli.specs.FirstDrop.{first_drop}
 use Rattle.mirpipe_cli.specs.Refused.{IsAccepted, IsFaulty, IsNoDrop, LacksFunction, LacksEntry, fault_line}
 
 -- a status, what is written out, and the notes
@@ -52,7 +53,7 @@ counted C = codes "ok " ++ (decimal (length C.functions) ++ codes "\n")
 -- run
 abbrev pub Writes : Command → List ℕ → List ℕ → Type 0
 Writes Check input bytes = (C : Crate) × (lines : Lines) × IsAccepted input C lines × (bytes ≡ counted C)
-Writes Seq input bytes = (C : Crate) × (lines : Lines) × IsAccepted input C lines × (first_drop lines C ≡ None) × (D : Crate) × IsPassed C D × (bytes ≡ text D)
+Writes Seq input bytes = (C : Crate) × (lines : Lines) × IsAccepted input C lines × (first_drop lines C ≡ None) × (bytes ≡ text (optimised C))
 Writes (Run path args answers steps) input bytes = (C : Crate) × (lines : Lines) × IsAccepted input C lines × IsRunText C path args answers steps bytes
 
 -- what is told of a command and an input
@@ -67,11 +68,9 @@ Answers words input told = ((command : Command) × Says words command × OfComma
 
 -- ---- what the command `seq` is for
 
--- bytes are the text of a crate that the passes make of an accepted one, and that refines it
+-- bytes are the text of what the passes make of an accepted crate, and that refines it
 pub record IsOptimised (input bytes : List ℕ) : Type 0 where
   pub C : Crate
-  pub D : Crate
   pub accepted : Accepted input C
-  pub passed : IsPassed C D
-  pub written : bytes ≡ text D
-  pub refines : Refines D C
+  pub written : bytes ≡ text (optimised C)
+  pub refines : Refines (optimised C) C

@@ -1,4 +1,4 @@
-pub mod Passed
+pub mod FirstDrop
 pub mod Found
 pub mod Refused
 pub mod Answer

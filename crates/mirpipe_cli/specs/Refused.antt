@@ -12,7 +12,7 @@ use Rattle.mirpipe_cli.specs.declared.fault.InputFault.{InputFault}
 use Rattle.mirpipe_cli.specs.declared.fault.InputFault.TheVariants.{Long, Text, Rule, Limit, Drops, NoFunction, NoEntry}
 use Rattle.mirpipe_cli.specs.declared.fault.Refusal.{Refusal}
 use Rattle.mirpipe_cli.specs.declared.fault.Refusal.TheVariants.{ReadFault, OutOfMemory, Input}
-use Rattle.mirpipe_cli.specs.Passed.{first_drop}
+use Rattle.mirpipe_cli.specs.FirstDrop.{first_drop}
 
 -- ---- accepted inputs
 

@@ -14,11 +14,11 @@ ghost use Rattle.mirpipe_cli.specs.Output.{bytes_of};
 use crate::drops::first_drop;
 use crate::fault::{InputFault, Refusal};
 use crate::load::{Accepted, load};
-use crate::passes::passed;
 use crate_run::{RunFault, run_function};
 use itoa::Buffer;
 use mir_print::print_program;
 use mir_syntax::{List, Name, Number, OutOfMemory, Program};
+use pass_order::optimised;
 use pipe_io::{Failed, Sink, Source, write_all};
 use pipe_words::Command;
 use std::alloc::Global;
@@ -65,7 +65,7 @@ fn seq(alloc: Global, accepted: Accepted) -> Result<Output, Refusal>
     if let Some(line) = first_drop(&accepted.program, &accepted.lines) {
         return Err(Refusal::Input(InputFault::Drops { line }));
     }
-    match passed(alloc, accepted.program) {
+    match optimised(alloc, accepted.program) {
         Ok(program) => Ok(Output::Crate(program)),
         Err(OutOfMemory) => Err(Refusal::OutOfMemory),
     }

@@ -3,7 +3,7 @@ ghost use Rattle.mir_syntax.specs.Crate.{crate_of};
 ghost use Rattle.mir_rules.specs.Broken.{terminator};
 ghost use Rattle.mir_rules.specs.Faults.{line_at};
 ghost use Rattle.mir_rules.specs.Drops.{is_drop};
-ghost use Rattle.mirpipe_cli.specs.Passed.{first_drop};
+ghost use Rattle.mirpipe_cli.specs.FirstDrop.{first_drop};
 ghost use Rattle.mirpipe_cli.specs.Found.{drop_block};
 
 use mir_syntax::{Block, Lines, Program, Term};

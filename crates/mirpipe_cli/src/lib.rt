@@ -3,8 +3,8 @@
 //! `run_quiet` does what the words ask for (`Says` of `pipe_words`). What it answers is `Answers` (`specs/Answer.antt`): a relation of words and
 //! input to a status, the bytes that are written and the notes; which inputs are accepted and for what the others are refused is said in
 //! `specs/Refused.antt`. Its contract says that this is told where no object fails and memory suffices, which statuses a failure may give,
-//! and that what is written is then a front of the answer or nothing. What the command `seq` writes is the text of a crate that the passes
-//! (`specs/Passed.antt`) make of the accepted one and that refines it (`Refines` of `mir_semantics`); what `run` writes is the text of a run of
+//! and that what is written is then a front of the answer or nothing. What the command `seq` writes is the text of what the passes
+//! (`optimised` of `pass_order`) make of the accepted crate, and that refines it (`Refines` of `mir_semantics`); what `run` writes is the text of a run of
 //! the accepted crate (`IsRunText` of `crate_run`).
 #![tactic(auto)]
 
@@ -13,7 +13,6 @@ mod drops;
 mod fault;
 mod load;
 mod notes;
-mod passes;
 mod run;
 
 pub use run::run_quiet;

@@ -131,9 +131,11 @@ module _ (pass : BodyPass) (keeps : PassKeeps pass) (C : Crate) (valid : Valid C
 -- ---- the passes in their order
 
 pub optimised_valid : (C : Crate) → Valid C → Within C → Valid (optimised C)
+unfolding optimised
 optimised_valid C valid within = each_valid after_passes passes_keep C valid within
 
 pub optimised_refines : (C : Crate) → Valid C → Within C → ((f : ℕ) (g : TypedFunction) → slice_get C.functions f ≡ Some g → NoDrops g.body) → Refines (optimised C) C
+unfolding optimised
 optimised_refines C valid within none = each_refines after_passes passes_keep C valid within none
 
 pub optimised_adds_no_call : (C : Crate) → Valid C → Within C → (f : ℕ) (g : TypedFunction) → slice_get C.functions f ≡ Some g → AddsNoCall (after_passes (shapes_of C) g.body) g.body

@@ -125,6 +125,7 @@ module _ (p : Program) (valid : Valid (crate_of p)) (within : Within (crate_of p
           ap (function_of trees) s.head ∙ ap (with_body (function_of trees g)) (s.passed ∙ ap (λ (D : List Shape). after_passes D (body_of trees g.body)) alone_shapes)
 
       pub passed_after : crate_of (with_functions fs t2) ≡ optimised (crate_of p)
+      unfolding optimised
       passed_after =
           ap (λ (gs : List TypedFunction). let c : Crate = record (crate_of p) { functions = gs } in c)
           (each_same (function_of trees) (λ g. with_body g (after_passes D g.body)) fs p.functions count same_at)

@@ -27,5 +27,5 @@ after_passes D b = after passes D b
 abbrev pub each_body : BodyPass → Crate → Crate
 each_body pass C = record C { functions = map (λ g. with_body g (pass (shapes_of C) g.body)) C.functions }
 
-abbrev pub optimised : Crate → Crate
+unfoldable pub optimised : Crate → Crate
 optimised C = each_body after_passes C

@@ -1,19 +1,10 @@
--- The passes of the command `seq`, and what they are not made for yet: `drop` terminators.
+-- What the passes of the command `seq` are not made for yet: `drop` terminators.
 use Rattle.std.specs.Prelude.{ℕ, List, [], ◌∷◌, Option, if◌then◌else◌, option_map, slice_get}
 use Rattle.mir_syntax.specs.declared.lines.Lines.{Lines}
 use Rattle.mir_syntax.specs.Crate.{TypedBlock, TypedFunction, Crate}
 use Rattle.mir_rules.specs.Broken.{Spot, terminator, gather}
 use Rattle.mir_rules.specs.Faults.{line_at}
 use Rattle.mir_rules.specs.Drops.{is_drop}
-use Rattle.pass_order.specs.Stepped.{AllStepped}
-
--- ---- the passes
-
--- the passes make the second crate of the first: each body goes through the steps, and all else stays
-abbrev pub IsPassed : Crate → Crate → Type 0
-IsPassed C D = AllStepped C D
-
--- ---- drops
 
 -- the terminator of a block, where it is a `drop`
 abbrev pub drop_spot : ℕ → ℕ → TypedBlock → List Spot
