@@ -1,5 +1,5 @@
 -- The facts of the flow of live locals: one row, of the locals that are live before a block's first statement.
-use Rattle.std.specs.Prelude.{◌≡◌, ℕ, ◌<◌, Bool, true, false, nat_lt, ◌||◌, if◌then◌else◌, cond, List, [], ◌∷◌, length, get_or, set, sum_by, Option, Some, None, slice_get}
+use Rattle.std.specs.Prelude.{◌≡◌, ℕ, ◌<◌, Bool, true, nat_lt, ◌||◌, if◌then◌else◌, cond, List, [], ◌∷◌, set, sum_by, Option, Some, None, slice_get}
 use lib.Lanes.{zip2}
 use Rattle.bit_rows.specs.Rows.{row_at, flag, and_not, HasSize}
 use Rattle.flow_engine.specs.declared.edges.Edge.{Edge}

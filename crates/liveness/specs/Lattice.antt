@@ -1,16 +1,15 @@
 -- Rows of live locals are a lattice, and the flow of live locals rises: proofs alone, of the law that `solve` asks for.
-use Rattle.std.proofs.Common.{◌≡◌, ◌⊎◌, inl, inr, refl, sym, ap, ap₂, ◌∙◌, subst, ℕ, zero, suc, ◌<◌, ◌≤◌, List, [], ◌∷◌, Bool, true, false, not, ◌&&◌, ◌||◌, if◌then◌else◌, nat_lt, length, get_or, set, replicate, Option, Some, None, slice_get, arith}
-use Rattle.std.proofs.lemmas.Bool.{cases_Bool, or_cases, and_parts, and_from, or_left, or_right}
-use Rattle.std.proofs.lemmas.List.{length-set, length-replicate, get_or_past}
+use Rattle.std.proofs.Common.{◌≡◌, inl, inr, refl, sym, ap, ◌∙◌, subst, ℕ, zero, suc, ◌<◌, List, [], ◌∷◌, Bool, true, false, not, ◌&&◌, ◌||◌, if◌then◌else◌, nat_lt, length, get_or, set, Option, Some, None, slice_get, arith}
+use Rattle.std.proofs.lemmas.Bool.{or_cases, and_parts, and_from, or_left, or_right}
+use Rattle.std.proofs.lemmas.List.{length-replicate}
 use Rattle.std.proofs.lemmas.Simd.{length-zip2, get_or-zip2}
 use lib.Lanes.{zip2}
-use lib.Dec.{ltb}
 use Rattle.bit_rows.specs.Rows.{row_at, flag, and_not, HasSize}
 use Rattle.flow_engine.specs.declared.edges.Edge.{Edge}
 use Rattle.flow_engine.specs.Flow.{Lawful}
 use Rattle.liveness.specs.Rows.{blank}
 use Rattle.liveness.specs.Facts.{IsSized, IsBelow, ones, count_ones, begun, joined, after, along, sent}
-use Rattle.liveness.specs.Bits.{bit_within, Lower, ones_low, ones_same, ones_few}
+use Rattle.liveness.specs.Bits.{bit_within, ones_low, ones_same, ones_few}
 
 abbrev pub Fact : Type 0
 Fact = List (List Bool)

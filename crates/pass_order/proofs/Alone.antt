@@ -1,6 +1,5 @@
 -- A program of which the headers alone are left is seen as before, and the bodies fit it.
-use Rattle.std.proofs.Common.{◌≡◌, ◌⊎◌, inl, inr, refl, sym, ap, ap₂, ◌∙◌, subst, ℕ, zero, suc, ◌+◌, ◌<◌, ◌≤◌, true, nat_lt, ◌&&◌, List, [], ◌∷◌, ◌++◌, map, take, length, set, get_or, Some, slice_get, arith}
-use Rattle.std.proofs.Common.{lt-ltb}
+use Rattle.std.proofs.Common.{◌≡◌, ◌⊎◌, inl, inr, refl, sym, ap, ap₂, ◌∙◌, subst, ℕ, zero, suc, ◌+◌, ◌<◌, ◌≤◌, true, nat_lt, ◌&&◌, List, [], ◌∷◌, ◌++◌, map, take, length, set, get_or, Some, slice_get, arith, lt-ltb}
 use Rattle.std.specs.List.{All, list_all}
 use Rattle.std.proofs.lemmas.List.{length-map}
 use Rattle.std.proofs.lemmas.Option.{slice_get-get_or}

@@ -8,8 +8,7 @@ use Rattle.sched_core.specs.declared.Event.TheVariants.{Claim, Look, Borrow, Rel
 use Rattle.sched_core.specs.declared.Why.{Why}
 use Rattle.sched_core.specs.declared.Why.TheVariants as w
 use Rattle.sched_core.specs.Plan.{Plan, next_need}
-use Rattle.sched_core.specs.State.{State, Entry, is, next, untouched, WaitFits, Legal}
-use Rattle.sched_core.specs.State.{all_seen, is_stolen, done}
+use Rattle.sched_core.specs.State.{State, Entry, is, next, untouched, WaitFits, Legal, all_seen, is_stolen, done}
 use Rattle.sched_core.specs.Table.{or_else, unless, is_root, is_empty, claimed_here, is_free, within, holds_none, taken, why, why_borrow, why_steal, why_publish, why_fail, why_draw}
 use Rattle.sched_core.proofs.Lists.{bool_tells, nat_cases}
 use Rattle.sched_core.proofs.Turns.{is_tells, is_here, untouched_tells, stolen_tells, all_seen_tells, all_seen_from}

@@ -1,14 +1,13 @@
 -- While a root is left and no query failed, the turn of some worker goes on.
-use Rattle.std.proofs.Common.{◌≡◌, ◌≢◌, ℕ, zero, suc, ◌<◌, ◌≤◌, Bool, true, false, List, [], ◌∷◌, ◌++◌, ◌⊎◌, inl, inr, refl, sym, subst, arith}
+use Rattle.std.proofs.Common.{◌≡◌, ◌≢◌, ℕ, zero, suc, ◌<◌, ◌≤◌, Bool, true, false, List, [], ◌∷◌, ◌⊎◌, inl, inr, refl, sym, subst, arith}
 use Rattle.std.specs.Prelude.{Option, Some, None, nat_lt, if◌then◌else◌}
 use Rattle.sched_core.specs.declared.Status.{Status}
 use Rattle.sched_core.specs.declared.Status.TheVariants.{Unclaimed, Claimed, Done, Failed, Stolen}
 use Rattle.sched_core.specs.declared.Event.{Event}
 use Rattle.sched_core.specs.declared.Event.TheVariants.{Claim, Look, Borrow, Release, Steal, Publish, Draw}
 use Rattle.sched_core.specs.Plan.{Plan, IsLawful, has, next_need}
-use Rattle.sched_core.specs.State.{State, Entry, next_of_top, settled, done, untouched, AllSeen}
+use Rattle.sched_core.specs.State.{State, Entry, next_of_top, settled, done, untouched, AllSeen, all_seen, is_stolen}
 use Rattle.sched_core.specs.Good.{Good, GivenSeen}
-use Rattle.sched_core.specs.State.{all_seen, is_stolen}
 use Rattle.sched_core.specs.Turn.{drawing, turn_empty, ending, turn_top, turn_free, turn_of, turn, Useful}
 use Rattle.sched_core.proofs.Lists.{next_in, next_none, nat_cases, stolen_in}
 use Rattle.sched_core.proofs.Parts.{root_done}

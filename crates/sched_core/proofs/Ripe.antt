@@ -1,14 +1,12 @@
 -- In a good core, whether all needs are seen shows in the next need.
-use Rattle.std.proofs.Common.{◌≡◌, ℕ, Bool, true, false, List, [], ◌∷◌, ◌++◌, inl, inr, refl, sym, subst, ap, ◌∙◌, arith, ◌&&◌}
+use Rattle.std.proofs.Common.{◌≡◌, ℕ, Bool, true, false, List, [], ◌∷◌, ◌++◌, inl, inr, refl, sym, subst, ap, ◌∙◌, ◌&&◌}
 use Rattle.std.specs.Prelude.{Option, Some, None}
 use Rattle.sched_core.specs.Plan.{Plan, IsLawful, has, next_need}
-use Rattle.sched_core.specs.State.{State, Entry, is, AllSeen}
+use Rattle.sched_core.specs.State.{State, Entry, is, AllSeen, all_seen}
 use Rattle.sched_core.specs.Good.{Good, GivenSeen}
-use Rattle.sched_core.specs.State.{all_seen}
 use Rattle.sched_core.specs.Turn.{ripe}
 use Rattle.sched_core.proofs.Lists.{bool_tells, next_in, next_out, next_none, next_last, has_snoc, stolen_in}
 use Rattle.sched_core.proofs.Turns.{is_tells, is_here, all_seen_from, all_seen_tells}
-use Rattle.std.proofs.lemmas.Bool.Decides.{nat_tests}
 
 module _ (p : Plan) (c : State) (l : IsLawful p) (g : Good p c) (v : ℕ) (e : Entry) (es : List Entry) (top : c.stack v ≡ e ∷ es) where
   none_left : next_need (p.needs e.0) e.1 ≡ None → AllSeen p c v e

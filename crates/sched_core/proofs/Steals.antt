@@ -9,7 +9,6 @@ use Rattle.sched_core.specs.Good.{Good, GivenSeen, Borrows}
 use Rattle.sched_core.proofs.Upd.{upd_other, upd_tells}
 use Rattle.sched_core.proofs.Lists.{borrowers_some, has_first}
 use Rattle.sched_core.proofs.Parts.{borrows_at, waits_same, other_set, nothing_at}
-use Rattle.std.proofs.lemmas.Bool.Decides.{nat_tests}
 
 -- a query isn't its own need
 pub not_own : (p : Plan) (l : IsLawful p) (q : ℕ) → has q (p.needs q) ≡ true → ⊥

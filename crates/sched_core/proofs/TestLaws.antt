@@ -4,7 +4,7 @@ use Rattle.std.proofs.Common.{arith, sym, subst, ◌∙◌}
 use Rattle.std.proofs.lemmas.Bool.Decides.{nat_tests}
 use Rattle.sched_core.proofs.TestJobs.{chosen_is}
 use Rattle.sched_core.specs.Plan.{IsLawful, Reads, has}
-use Rattle.sched_core.specs.TestJobs.{plan, stolen, chosen, few, few_reads}
+use Rattle.sched_core.specs.TestJobs.{plan, stolen, few, few_reads}
 
 falls : (far : Bool) (q n : ℕ) → has n ((plan far).needs q) ≡ true → n < q
 falls far zero n h = absurd (cc)

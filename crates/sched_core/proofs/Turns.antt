@@ -6,9 +6,8 @@ use Rattle.sched_core.specs.declared.Status.TheVariants.{Unclaimed, Claimed, Don
 use Rattle.sched_core.specs.declared.Event.{Event}
 use Rattle.sched_core.specs.declared.Event.TheVariants.{Claim, Look, Borrow, Release, Steal, Publish, Draw}
 use Rattle.sched_core.specs.Plan.{Plan, IsLawful, has, next_need}
-use Rattle.sched_core.specs.State.{State, Entry, queries_of, next_of_top, untouched, is, AllSeen, Legal}
+use Rattle.sched_core.specs.State.{State, Entry, queries_of, next_of_top, untouched, is, AllSeen, Legal, all_given, seen_if, all_seen, is_stolen}
 use Rattle.sched_core.specs.Good.{Good, Chained}
-use Rattle.sched_core.specs.State.{all_given, seen_if, all_seen, is_stolen}
 use Rattle.sched_core.specs.Turn.{drawing, turn_empty, ending, turn_top, turn_free, turn_of, turn}
 use Rattle.sched_core.proofs.Lists.{bool_tells, next_stands, next_in, next_last, has_snoc, stolen_in, has_first, has_tells}
 use Rattle.sched_core.proofs.Waiting.{top_least, read_is_done, stolen_is_free}

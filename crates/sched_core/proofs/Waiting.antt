@@ -1,14 +1,13 @@
 -- No stolen slot is read, and waits are never circular.
-use Rattle.std.proofs.Common.{◌≡◌, ◌≢◌, ℕ, ◌<◌, ◌≤◌, true, List, [], ◌∷◌, ◌⊎◌, inl, inr, refl, sym, subst, ap, ◌∙◌, arith}
+use Rattle.std.proofs.Common.{◌≡◌, ◌≢◌, ℕ, ◌<◌, ◌≤◌, true, List, [], ◌∷◌, inl, inr, refl, sym, subst, ap, ◌∙◌, arith}
 use Rattle.std.specs.Prelude.{Option, Some}
 use Rattle.sched_core.specs.declared.Status.{Status}
 use Rattle.sched_core.specs.declared.Status.TheVariants.{Unclaimed, Claimed, Done, Failed, Stolen}
 use Rattle.sched_core.specs.Plan.{Plan, IsLawful, has, next_need, Reads}
-use Rattle.sched_core.specs.State.{State, Entry, queries_of, next_of_top, settled, borrowers, AllSeen}
+use Rattle.sched_core.specs.State.{State, Entry, queries_of, next_of_top, settled, borrowers, AllSeen, is}
 use Rattle.sched_core.specs.Good.{Good, Chained}
 use Rattle.sched_core.proofs.Lists.{next_stands, borrowers_none, has_tells}
 use Rattle.std.proofs.lemmas.Bool.Decides.{nat_tests}
-use Rattle.sched_core.specs.State.{is}
 use Rattle.sched_core.specs.Waits.{WaitsFor, Chain}
 use Rattle.sched_core.proofs.Steals.{top_claimed, readers_settled}
 

@@ -1,9 +1,9 @@
 -- The reasons as the code finds them.
-use Rattle.std.proofs.Common.{refl, ◌≡◌, ℕ, ◌<◌, Bool, true, false, List, [], ◌∷◌, ◌++◌, sym, subst, ap, ◌∙◌, arith, ◌&&◌}
+use Rattle.std.proofs.Common.{refl, ◌≡◌, ℕ, ◌<◌, Bool, true, false, List, ◌∷◌, sym, ap, ◌∙◌, arith, ◌&&◌}
 use Rattle.std.specs.Prelude.{Option, Some, None, IfSome, if◌then◌else◌, unwrap_or}
 use Rattle.sched_core.specs.declared.Why.{Why}
 use Rattle.sched_core.specs.declared.Why.TheVariants as w
-use Rattle.sched_core.specs.Plan.{Plan, IsLawful, has, next_need}
+use Rattle.sched_core.specs.Plan.{Plan, IsLawful, next_need}
 use Rattle.sched_core.specs.State.{State, Entry, is, next, next_of_top, done}
 use Rattle.sched_core.specs.Good.{Good}
 use Rattle.sched_core.specs.Turn.{ripe}
@@ -11,7 +11,6 @@ use Rattle.sched_core.specs.Table.{or_else, unless, holds_none, taken, need_or, 
 use Rattle.sched_core.proofs.Lists.{next_in, stolen_in}
 use Rattle.sched_core.proofs.Ripe.{ripe_is}
 use Rattle.sched_core.proofs.Turns.{top_below}
-use Rattle.std.proofs.lemmas.Bool.Decides.{nat_tests}
 
 module _ (p : Plan) (c : State) (l : IsLawful p) (g : Good p c) (v q : ℕ) (given : List ℕ) (es : List Entry) (top : c.stack v ≡ (q, given) ∷ es) where
   next_is : next p c v ≡ next_need (p.needs q) given

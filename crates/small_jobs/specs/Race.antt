@@ -1,5 +1,5 @@
 -- A seat of the claim race.
-use Rattle.std.specs.Prelude.{◌≡◌, ℕ, false, List, [], ◌∷◌, Some, None}
+use Rattle.std.specs.Prelude.{◌≡◌, ℕ, false, [], ◌∷◌, Some, None}
 use Rattle.atomic_table.specs.Seated.{TableId}
 use Rattle.sched_core.specs.Plan.{has, next_need}
 use Rattle.query_table.specs.Answers.{IsSeatOf, IsClaimOf}

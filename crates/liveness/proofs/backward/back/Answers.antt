@@ -1,11 +1,10 @@
-use Rattle.std.proofs.Common.{◌≡◌, ◌<◌, ◌++◌, List, ℕ, Bool, ap, ◌∙◌, sym, map, set, length, arith}
+use Rattle.std.proofs.Common.{◌≡◌, ◌<◌, ◌++◌, ap, ◌∙◌, sym, set, length}
 use Rattle.std.proofs.lemmas.List.{length-set}
 use Rattle.bit_rows.specs.Rows.{row_at, marked}
 use Rattle.bit_rows.proofs.Marks.{marks_then}
-use Rattle.mir_syntax.specs.Crate.{stmt_of, rvalue_of}
+use Rattle.mir_syntax.specs.Crate.{stmt_of}
 use Rattle.mir_syntax.specs.declared.body.Stmt.{Stmt}
-use Rattle.mir_syntax.specs.Parts.{rvalue_places}
-use Rattle.liveness.specs.Live.{place_local, written_reads, whole}
+use Rattle.liveness.specs.Live.{written_reads, whole}
 use Rattle.liveness.specs.Rows.{cleared, before_stmt, bare_rvalue_reads}
 use Rattle.liveness.proofs.Carried.{reads_same, row_then}
 use Rattle.liveness.proofs.backward.back.Goals as goal

@@ -1,4 +1,4 @@
-use Rattle.std.proofs.Common.{◌≡◌, ap, ◌∙◌, set, arith}
+use Rattle.std.proofs.Common.{ap, ◌∙◌, set, arith}
 use Rattle.bit_rows.specs.Rows.{row_at, marked}
 use Rattle.bit_rows.proofs.Marks.{marks_more}
 use Rattle.mir_syntax.specs.declared.body.Operand.{Operand}

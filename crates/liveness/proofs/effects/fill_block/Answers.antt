@@ -1,4 +1,4 @@
-use Rattle.std.proofs.Common.{◌≡◌, ◌++◌, List, ap, ◌∙◌, set}
+use Rattle.std.proofs.Common.{◌++◌, List, ap, ◌∙◌, set}
 use Rattle.std.specs.List.{flat_map}
 use Rattle.bit_rows.specs.Rows.{row_at, marked}
 use Rattle.bit_rows.proofs.Marks.{marks_then}

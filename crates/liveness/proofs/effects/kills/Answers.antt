@@ -1,8 +1,8 @@
-use Rattle.std.proofs.Common.{◌≡◌, ◌<◌, [], ap, ◌∙◌, sym, map, length, get_or, arith}
+use Rattle.std.proofs.Common.{◌≡◌, ◌<◌, [], ap, ◌∙◌, sym, length, get_or, arith}
 use Rattle.std.proofs.lemmas.List.{get_or-map, length-map}
 use Rattle.bit_rows.specs.Rows.{row_at, marked}
 use Rattle.mir_syntax.specs.Tree.{at_id}
-use Rattle.mir_syntax.specs.Crate.{TypedBlock, body_of, block_of}
+use Rattle.mir_syntax.specs.Crate.{body_of, block_of}
 use Rattle.mir_syntax.specs.declared.body.Block.{Block}
 use Rattle.liveness.specs.Rows.{blank, block_fills, kill_row, block_at, no_block}
 use Rattle.liveness.proofs.Filling.{filled_more, filled_all}

@@ -1,9 +1,9 @@
-use Rattle.std.proofs.Common.{◌≡◌, ◌<◌, ℕ, [], ap, ◌∙◌, sym, subst, map, length, get_or, arith}
+use Rattle.std.proofs.Common.{◌≡◌, ◌<◌, ap, ◌∙◌, sym, subst, map, length, get_or, arith}
 use Rattle.std.specs.List.{All}
 use Rattle.std.proofs.lemmas.List.{get_or-map, length-map}
 use Rattle.bit_rows.specs.Rows.{row_at, marked}
 use Rattle.mir_syntax.specs.Tree.{at_id, trees_of}
-use Rattle.mir_syntax.specs.Crate.{TypedBlock, crate_of, body_of, block_of}
+use Rattle.mir_syntax.specs.Crate.{crate_of, body_of, block_of}
 use Rattle.mir_syntax.specs.Shapes.{shapes_of}
 use Rattle.mir_syntax.specs.declared.body.Block.{Block}
 use Rattle.mir_syntax.specs.declared.body.Term.TheVariants.{Unreachable}
@@ -11,7 +11,7 @@ use Rattle.mir_syntax.specs.Parts.{targets}
 use Rattle.mir_cfg.specs.Paths.{block_term}
 use Rattle.liveness.specs.Live.{term_reads, term_fills}
 use Rattle.liveness.specs.Rows.{blank, cleared, or_rows, end_row, block_at, no_block}
-use Rattle.liveness.proofs.Filling.{filled_more, filled_all}
+use Rattle.liveness.proofs.Filling.{filled_more}
 use Rattle.liveness.proofs.rows.ends.Goals as goal
 
 pub end_block-requires-clause-targets : goal.end_block-requires-clause-targets

@@ -1,6 +1,5 @@
-use Rattle.std.proofs.Common.{◌≡◌, ◌<◌, ◌||◌, [], ℕ, length, get_or, take, set, sym, ap, ◌∙◌, arith}
+use Rattle.std.proofs.Common.{◌<◌, [], length, get_or, take, sym, ap, ◌∙◌, arith}
 use Rattle.std.proofs.lemmas.List.{get_or-set_same, get_or-take, length-take-le}
-use lib.Lanes.{zip2}
 use Rattle.bit_rows.specs.Rows.{row_at}
 use Rattle.liveness.specs.Rows.{or_rows}
 use Rattle.liveness.proofs.Filling.{length-or_rows, or_more}

@@ -1,4 +1,4 @@
-use Rattle.std.proofs.Common.{◌≡◌, ◌<◌, ℕ, Bool, List, sym, ap, ◌∙◌, subst, map, length, IfOk, IsTrue, ◌↔◌, arith}
+use Rattle.std.proofs.Common.{◌≡◌, ◌<◌, ℕ, Bool, List, sym, ap, ◌∙◌, subst, map, length, IsTrue, ◌↔◌, arith}
 use Rattle.std.specs.List.{All}
 use Rattle.std.proofs.lemmas.Result.{IfOk-weaker}
 use Rattle.mir_syntax.specs.Tree.{trees_of}
@@ -7,10 +7,9 @@ use Rattle.mir_syntax.specs.Shapes.{shapes_of}
 use Rattle.mir_syntax.specs.declared.body.Block.{Block}
 use Rattle.bit_rows.specs.Rows.{row_at, flag, HasSize}
 use Rattle.flow_engine.specs.declared.edges.Edge.{Edge}
-use Rattle.flow_engine.specs.Flow.{Least, problem}
 use Rattle.liveness.specs.Live.{Live}
 use Rattle.liveness.specs.Rows.{IsTurned}
-use Rattle.liveness.specs.Facts.{IsSized, IsBelow, begun, joined, sent}
+use Rattle.liveness.specs.Facts.{IsSized}
 use Rattle.liveness.proofs.Whole.{LeastOf, least_moved, sized, inside, facts_long, facts_sized, table_size, table_live}
 use Rattle.liveness.proofs.rows.starts.Goals as goal
 

@@ -1,10 +1,9 @@
 use Rattle.std.proofs.Common.{◌≡◌, ◌≤◌, ap, ◌∙◌, sym, subst, [], Some, None, OnOk, length, get_or, arith}
 use Rattle.std.proofs.lemmas.Option.{slice_get_past}
-use Rattle.mir_syntax.specs.Tree.{Tree, at_id, at_ids, trees_of}
+use Rattle.mir_syntax.specs.Tree.{Tree, at_id, at_ids, trees_of, node}
 use Rattle.mir_syntax.specs.Crate.{crate_of}
 use Rattle.mir_syntax.specs.Shapes.{shapes_of, fields_tree}
 use Rattle.mir_syntax.specs.declared.types.Field.{Field as StructField}
-use Rattle.mir_syntax.specs.Tree.{node}
 use Rattle.mir_syntax.proofs.Lists.{id_below}
 use Rattle.mir_syntax.proofs.Places.{at_id-past}
 use Rattle.place_map.specs.Tracked.{scalars_by, scalars_def}

@@ -1,4 +1,4 @@
-use Rattle.std.proofs.Common.{◌≡◌, ◌+◌, ◌-◌, ◌<◌, ◌≤◌, ◌++◌, sym, ap, ◌∙◌, arith}
+use Rattle.std.proofs.Common.{◌≡◌, ◌+◌, ◌-◌, ◌<◌, ◌++◌, sym, ap, ◌∙◌, arith}
 use Rattle.sched_core.specs.Held.{roots_answers}
 use Rattle.sched_core.proofs.Weaving.{answers_more, answers_end}
 use Rattle.query_table.proofs.table.QueryTable.answers.Goals as goal

@@ -1,6 +1,5 @@
-use Rattle.std.proofs.Common.{◌≡◌, ℕ, ◌<◌, List, ◌∷◌, length, sym, subst, ap, ◌∙◌, arith, slice_index_or, slice_set}
+use Rattle.std.proofs.Common.{◌≡◌, ℕ, ◌<◌, List, ◌∷◌, length, sym, subst, ap, ◌∙◌, arith, slice_index_or, slice_set, Vec, Global}
 use Rattle.std.specs.Prelude.{Option, Some, None, slice_get}
-use Rattle.std.proofs.Common.{Vec, Global}
 use Rattle.sched_core.specs.declared.Status.TheVariants.{Unclaimed}
 use Rattle.sched_core.specs.declared.state.Standing.{Standing}
 use Rattle.sched_core.specs.declared.state.Core.{Core}

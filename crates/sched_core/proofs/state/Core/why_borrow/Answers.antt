@@ -1,12 +1,8 @@
-use Rattle.std.proofs.Common.{◌≡◌, ℕ, ◌<◌, true, false, List, ◌∷◌, length, sym, ap, ◌∙◌, refl, arith, slice_index_or, inl, inr}
-use Rattle.std.specs.Prelude.{if◌then◌else◌, ◌&&◌, ◌⊎◌, Bool, Option, Some, None, slice_get, Vec, unwrap_or}
+use Rattle.std.proofs.Common.{◌≡◌, true, false, ◌∷◌, sym, ◌∙◌, arith, inl, inr}
+use Rattle.std.specs.Prelude.{if◌then◌else◌, ◌&&◌, ◌⊎◌, Bool}
 use Rattle.sched_core.proofs.Acts.{stack_at}
-use Rattle.sched_core.specs.declared.state.Standing.{Standing}
-use Rattle.sched_core.specs.State.{Entry}
-use Rattle.sched_core.specs.Table.{need_or}
-use Rattle.sched_core.specs.Shown.{state_of, stack_of, row_at}
-use Rattle.sched_core.proofs.Listed.{item_at}
-use Rattle.sched_core.proofs.Whys.{may_lend, may_not_lend, query_below, or_need}
+use Rattle.sched_core.specs.Shown.{state_of}
+use Rattle.sched_core.proofs.Whys.{may_lend, may_not_lend, query_below}
 use Rattle.sched_core.proofs.state.Core.why_borrow.Goals as goal
 
 neither : (x y a b : Bool) → x ≡ a → y ≡ b → ((x ≡ true) × (y ≡ true)) ⊎ (x ≡ false) → (a && (if◌then◌else◌ {A = Bool} b false true)) ≡ false
