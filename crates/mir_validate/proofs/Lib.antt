@@ -11,3 +11,4 @@ pub mod Gathering
 pub mod Earlier
 pub mod Completing
 pub mod Validated
+pub mod Twice
