@@ -1,5 +1,5 @@
 -- Whether a value stands twice shows in the order of the values.
-use Rattle.std.proofs.Common.{◌≡◌, ◌⊎◌, inl, inr, refl, sym, ap, ◌∙◌, subst, ℕ, zero, suc, ◌+◌, ◌<◌, ◌≤◌, ◌==◌, Bool, true, false, cond, not, ◌||◌, nat_lt, List, [], ◌∷◌, sum_by, arith, ltb-false, eqb-true, eq-eqb}
+use Rattle.std.proofs.Common.{◌≡◌, ◌⊎◌, inl, inr, refl, sym, ap, ◌∙◌, subst, ℕ, zero, suc, ◌+◌, ◌<◌, ◌≤◌, ◌==◌, Bool, true, false, cond, not, ◌&&◌, ◌||◌, nat_lt, List, [], ◌∷◌, sum_by, arith, ltb-false, eqb-true, eq-eqb}
 use Rattle.std.specs.List.{list_any}
 use Rattle.std.specs.List.Sorted.{IsPermutation, IsNonDecreasing}
 use Rattle.std.proofs.lemmas.List.Sums.{sum_by-cons}
@@ -72,7 +72,7 @@ falls_twice v [] up h = absurd cc
 falls_twice v (u ∷ us) up h = go (nat_lt v u) refl (falls_twice u us (λ i j d a b. up (suc i) (suc j) d (omega (arith, a)) (omega (arith, b))))
   where
     go : (b : Bool) → nat_lt v u ≡ b → (ascends_from u us ≡ false → has_twice (u ∷ us) ≡ true) → has_twice (v ∷ u ∷ us) ≡ true
-    go true e later = or_second (list_any (λ x. x == v) (u ∷ us)) (has_twice (u ∷ us)) (later (sym (ap (λ b. cond b (ascends_from u us) false) e) ∙ h))
+    go true e later = or_second (list_any (λ x. x == v) (u ∷ us)) (has_twice (u ∷ us)) (later (sym (ap (λ b. b && ascends_from u us) e) ∙ h))
     go false e later =
         let low : u ≤ v = ltb-false v u e in
         let high : v ≤ u = up 0 1 0 (omega arith) (omega arith) in
