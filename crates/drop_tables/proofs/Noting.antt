@@ -1,7 +1,7 @@
 -- Definitions that are noted with those that they hold by value.
 use Rattle.std.proofs.Common.{◌≡◌, ◌⊎◌, inl, inr, ℕ, suc, ◌+◌, ◌<◌, ◌≤◌, Bool, true, false, ◌||◌, ◌==◌, List, [], ◌∷◌, ◌++◌, map, length, get_or, slice_get, sum_by, replicate, Some, refl, sym, ap, ap₂, ◌∙◌, subst, arith, eqb-true, eq-eqb}
 use Rattle.std.specs.List.{Contains, flat_map}
-use Rattle.std.proofs.lemmas.Bool.{cases_eq, cases_lt}
+use Rattle.std.proofs.lemmas.Bool.{cases_eq, cases_lt, or_cases, or_left, or_right}
 use Rattle.std.proofs.lemmas.List.{length-set, get_or-set_same, get_or-set_other, get_or_past, set_past, map-append, length-replicate, get_or-replicate}
 use Rattle.std.proofs.lemmas.List.Elements.{Contains-push, Contains-push_cases, Contains-append_left}
 use Rattle.std.proofs.lemmas.List.Sums.{sum_by-append, sum_by-cons, sum_by_push}
@@ -17,7 +17,7 @@ use Rattle.mir_syntax.specs.Crate.{crate_of, variant_of}
 use Rattle.mir_syntax.specs.Shapes.{Shape, shapes_of, fields_tuple, field_id, fields_tree, needs_by, any_needs}
 use Rattle.mir_syntax.proofs.Places.{shape-at}
 use Rattle.mir_rules.specs.DefinitionRules.{holds_one}
-use Rattle.mir_rules.proofs.Depth.{or_cases, or_first, or_second, there}
+use Rattle.mir_rules.proofs.Depth.{there}
 use Rattle.drop_tables.specs.Marks.{ids_of, noted_at}
 use Rattle.drop_tables.specs.Holders.{holders_at, Holds, AreHolders, AreInside, any_holds, Noted}
 use Rattle.drop_tables.proofs.Destroying.{shapes_count}
@@ -144,7 +144,7 @@ module _ (trees : List Tree) (ids : List TyId) (from : ℕ) (holders now : List 
             let t = subst (λ xs. Contains xs d) (ap (holders_at (noted_at now def from)) same ∙ get_or-set_same now def (get_or now def [] ++ from ∷ []) [] l) c in
             elim (Contains-push_cases (get_or now def []) from d t) [
               | inl q ↦ inl (subst (λ x. Contains (holders_at now x) d) (sym same) q)
-              | inr q ↦ inr (sym q, n.left_in e (apart e ∙ or_second (any_holds trees rest e) (def == e) (itself e same)))
+              | inr q ↦ inr (sym q, n.left_in e (apart e ∙ or_right (any_holds trees rest e) (def == e) (itself e same)))
             ]
             )
         | inr ne ↦ inl (subst (λ xs. Contains xs d) (get_or-set_other now def e (get_or now def [] ++ from ∷ []) [] ne) c)
@@ -160,7 +160,7 @@ module _ (trees : List Tree) (ids : List TyId) (from : ℕ) (holders now : List 
       long = length-set now def (get_or now def [] ++ from ∷ []) ∙ n.long;
       stay = λ e d c. still e d (n.stay e d c);
       only = λ e d c. elim (new_only e d c) [ inl q ↦ n.only e d q | inr q ↦ inr q ];
-      left_in = λ e h. n.left_in e (apart e ∙ or_first (any_holds trees rest e) (def == e) h);
+      left_in = λ e h. n.left_in e (apart e ∙ or_left (any_holds trees rest e) (def == e) h);
       all = λ e l h. elim (n.all e l h) [
         | inl q ↦ inl (still e from q)
         | inr q ↦ elim (or_cases (any_holds trees rest e) (def == e) (sym (apart e) ∙ q)) [

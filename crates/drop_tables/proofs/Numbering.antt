@@ -1,12 +1,12 @@
 -- Numbers that never fall show which definitions don't hold themselves.
 use Rattle.std.proofs.Common.{◌≡◌, ◌⊎◌, inl, inr, ℕ, zero, suc, ◌+◌, ◌<◌, ◌≤◌, Bool, true, false, cond, ◌||◌, ◌==◌, nat_le, List, [], length, get_or, set, take, replicate, slice_get, Option, Some, None, is_some, refl, sym, ap, ◌∙◌, subst, arith, eqb-true, eq-eqb}
 use Rattle.std.specs.List.{Contains}
-use Rattle.std.proofs.lemmas.Bool.{false_from_ne_true, cases_eq, cases_lt, leb-true}
+use Rattle.std.proofs.lemmas.Bool.{false_from_ne_true, cases_eq, cases_lt, leb-true, or_cases}
 use Rattle.std.proofs.lemmas.List.{length-set, get_or-set_same, get_or-set_other, length-replicate, take_more}
 use Rattle.std.proofs.lemmas.List.Elements.{Contains-push_cases}
 use Rattle.mir_syntax.specs.Shapes.{Shape}
 use Rattle.mir_rules.specs.DefinitionRules.{holds_one, holds, breaks_v01}
-use Rattle.mir_rules.proofs.Depth.{or_cases, one_one, there}
+use Rattle.mir_rules.proofs.Depth.{one_one, there}
 use Rattle.drop_tables.specs.Marks.{is_marked}
 use Rattle.drop_tables.specs.Holders.{holders_at, Holds, AreHolders, number_of, Looked, Ordered}
 use Rattle.drop_tables.proofs.Rounds.{marked_inside}

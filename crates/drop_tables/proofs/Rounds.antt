@@ -1,12 +1,12 @@
 -- Marks that go from definitions to those that hold them, round by round.
 use Rattle.std.proofs.Common.{◌≡◌, ◌⊎◌, inl, inr, ℕ, zero, suc, ◌+◌, ◌<◌, ◌≤◌, Bool, true, false, ◌==◌, List, [], ◌∷◌, ◌++◌, length, get_or, set, take, slice_get, refl, sym, ap, ◌∙◌, subst, arith, eqb-true}
 use Rattle.std.specs.List.{All, Contains}
-use Rattle.std.proofs.lemmas.Bool.{cases_eq}
+use Rattle.std.proofs.lemmas.Bool.{cases_eq, or_cases, or_left, or_right}
 use Rattle.std.proofs.lemmas.List.{length-set, get_or-set_same, get_or-set_other, take_more}
 use Rattle.std.proofs.lemmas.List.Elements.{Contains-push, Contains-push_cases, Contains-append_left, All-nil, All-push, All-weaker, All-contains}
 use Rattle.mir_syntax.specs.Shapes.{Shape}
 use Rattle.mir_rules.specs.DefinitionRules.{holds_one}
-use Rattle.mir_rules.proofs.Depth.{or_cases, or_first, or_second, one_mono, one_one}
+use Rattle.mir_rules.proofs.Depth.{one_mono, one_one}
 use Rattle.drop_tables.specs.Marks.{is_marked, spread}
 use Rattle.drop_tables.specs.Holders.{holders_at, AreHolders, Finds, Round}
 use Rattle.drop_tables.proofs.Spreading.{stable}
@@ -127,13 +127,13 @@ pub record IsSpread (D : List Shape) (holders : List (List ℕ)) (own : ℕ → 
 module _ (D : List Shape) (holders : List (List ℕ)) (own : ℕ → Bool) (are : AreHolders D holders) where
   own_spread : (n d : ℕ) → own d ≡ true → spread D own own n d ≡ true
   own_spread zero d h = h
-  own_spread (suc n) d h = or_first (own d) (holds_one (spread D own own n) (slice_get D d)) h
+  own_spread (suc n) d h = or_left (own d) (holds_one (spread D own own n) (slice_get D d)) h
 
   spread_more : (n d : ℕ) → spread D own own n d ≡ true → spread D own own (suc n) d ≡ true
   spread_more zero d h = own_spread 1 d h
   spread_more (suc n) d h = elim (or_cases (own d) (holds_one (spread D own own n) (slice_get D d)) h) [
     | inl o ↦ own_spread (suc (suc n)) d o
-    | inr held ↦ or_second (own d) (holds_one (spread D own own (suc n)) (slice_get D d)) (one_mono (spread D own own n) (spread D own own (suc n)) (spread_more n) (slice_get D d) held)
+    | inr held ↦ or_right (own d) (holds_one (spread D own own (suc n)) (slice_get D d)) (one_mono (spread D own own n) (spread D own own (suc n)) (spread_more n) (slice_get D d) held)
   ]
 
   module _ (marks marks2 : List Bool) (front found : List ℕ) (n : ℕ) (s : IsSpread D holders own marks front n) (r : Round holders marks marks2 front found) where
@@ -146,7 +146,7 @@ module _ (D : List Shape) (holders : List (List ℕ)) (own : ℕ → Bool) (are 
       | inr q ↦ (
           let p = r.from d q in
           let here : spread D own own n p.0 ≡ true = sym (s.marks_are p.0) ∙ s.front_marked p.0 p.1 in
-          or_second (own d) (holds_one (spread D own own n) (slice_get D d))
+          or_right (own d) (holds_one (spread D own own n) (slice_get D d))
           (one_mono (λ k. k == p.0) (spread D own own n) (λ k e. ap (spread D own own n) (eqb-true k p.0 e) ∙ here) (slice_get D d) (are.only p.0 d p.2))
           )
     ]

@@ -1,7 +1,7 @@
 -- What is broken at a definition, an outside function or a header, on its line.
 use Rattle.std.proofs.Common.{◌≡◌, ◌⊎◌, inl, inr, ℕ, Bool, true, false, ◌==◌, ◌&&◌, nat_lt, nat_le, nat_eq, List, ◌++◌, map, Option, Some, None, refl, sym, ap, ◌∙◌, arith, eqb-true, ltb-true}
 use Rattle.std.specs.Prelude.{if◌then◌else◌}
-use Rattle.std.proofs.lemmas.Bool.{false_from_ne_true, leb-true}
+use Rattle.std.proofs.lemmas.Bool.{false_from_ne_true, leb-true, or_cases}
 use Rattle.mir_syntax.specs.declared.lines.Lines.{Lines}
 use Rattle.mir_syntax.specs.Shapes.{Shape}
 use Rattle.mir_syntax.specs.Crate.{TypedFunction}
@@ -13,7 +13,6 @@ use Rattle.mir_validate.specs.Codes.{first_code}
 use Rattle.mir_validate.specs.Terms.{ascends}
 use Rattle.mir_validate.specs.Walk.{is_found_by, on_line}
 use Rattle.mir_limits.specs.Answer.{either}
-use Rattle.mir_rules.proofs.Depth.{or_cases}
 use Rattle.mir_rules.proofs.Lists.{and_true-left, and_true-right}
 use Rattle.mir_validate.proofs.Faulty.{line_first}
 use Rattle.mir_validate.proofs.Located.{at_spots}

@@ -5,7 +5,7 @@ use Rattle.std.specs.List.Sorted.{IsPermutation, IsNonDecreasing}
 use Rattle.std.proofs.lemmas.List.Sums.{sum_by-cons}
 use Rattle.std.proofs.lemmas.List.Sorted.{sum_by-IsPermutation}
 use Rattle.mir_rules.specs.BodyRules.{has_twice}
-use Rattle.mir_rules.proofs.Depth.{or_cases, or_first, or_second}
+use Rattle.std.proofs.lemmas.Bool.{or_cases, or_left, or_right}
 use Rattle.mir_validate.specs.Terms.{ascends_from, ascends}
 use Rattle.mir_validate.proofs.TermCodes.{ascends_once}
 
@@ -29,10 +29,10 @@ counted_any v [] h = absurd (omega arith)
 counted_any v (u ∷ us) h = go (u == v) refl (counted_any v us)
   where
     go : (b : Bool) → (u == v) ≡ b → (1 ≤ sum_by (one_if v) us → list_any (λ u. u == v) us ≡ true) → ((u == v) || list_any (λ u. u == v) us) ≡ true
-    go true e later = or_first (u == v) (list_any (λ u. u == v) us) e
+    go true e later = or_left (u == v) (list_any (λ u. u == v) us) e
     go false e later =
         let none : one_if v u ≡ 0 = ap (λ b. cond b 1 0) e in
-        or_second (u == v) (list_any (λ u. u == v) us) (later (omega (arith, h, none, sum_by-cons (one_if v) u us)))
+        or_right (u == v) (list_any (λ u. u == v) us) (later (omega (arith, h, none, sum_by-cons (one_if v) u us)))
 
 twice_counted : (vs : List ℕ) → has_twice vs ≡ true → (v : ℕ) × (2 ≤ sum_by (one_if v) vs)
 twice_counted [] h = absurd cc
@@ -50,10 +50,10 @@ counted_twice v (w ∷ vs) h = go (w == v) refl (counted_twice v vs)
     go true e later =
         let one : one_if v w ≡ 1 = ap (λ b. cond b 1 0) e in
         let same : v ≡ w = sym (eqb-true w v e) in
-        or_first (list_any (λ u. u == w) vs) (has_twice vs) (subst (λ x. list_any (λ u. u == x) vs ≡ true) same (counted_any v vs (omega (arith, h, one, sum_by-cons (one_if v) w vs))))
+        or_left (list_any (λ u. u == w) vs) (has_twice vs) (subst (λ x. list_any (λ u. u == x) vs ≡ true) same (counted_any v vs (omega (arith, h, one, sum_by-cons (one_if v) w vs))))
     go false e later =
         let none : one_if v w ≡ 0 = ap (λ b. cond b 1 0) e in
-        or_second (list_any (λ u. u == w) vs) (has_twice vs) (later (omega (arith, h, none, sum_by-cons (one_if v) w vs)))
+        or_right (list_any (λ u. u == w) vs) (has_twice vs) (later (omega (arith, h, none, sum_by-cons (one_if v) w vs)))
 
 same_bools : (a b : Bool) → (a ≡ true → b ≡ true) → (b ≡ true → a ≡ true) → a ≡ b
 same_bools true true f g = refl
@@ -72,12 +72,12 @@ falls_twice v [] up h = absurd cc
 falls_twice v (u ∷ us) up h = go (nat_lt v u) refl (falls_twice u us (λ i j d a b. up (suc i) (suc j) d (omega (arith, a)) (omega (arith, b))))
   where
     go : (b : Bool) → nat_lt v u ≡ b → (ascends_from u us ≡ false → has_twice (u ∷ us) ≡ true) → has_twice (v ∷ u ∷ us) ≡ true
-    go true e later = or_second (list_any (λ x. x == v) (u ∷ us)) (has_twice (u ∷ us)) (later (sym (ap (λ b. b && ascends_from u us) e) ∙ h))
+    go true e later = or_right (list_any (λ x. x == v) (u ∷ us)) (has_twice (u ∷ us)) (later (sym (ap (λ b. b && ascends_from u us) e) ∙ h))
     go false e later =
         let low : u ≤ v = ltb-false v u e in
         let high : v ≤ u = up 0 1 0 (omega arith) (omega arith) in
         let same : u ≡ v = omega (arith, low, high) in
-        or_first (list_any (λ x. x == v) (u ∷ us)) (has_twice (u ∷ us)) (or_first (u == v) (list_any (λ x. x == v) us) (eq-eqb u v same))
+        or_left (list_any (λ x. x == v) (u ∷ us)) (has_twice (u ∷ us)) (or_left (u == v) (list_any (λ x. x == v) us) (eq-eqb u v same))
 
 -- of values in their order one stands twice exactly where they don't all ascend
 pub sorted_twice : (vs : List ℕ) → IsNonDecreasing vs → not (ascends vs) ≡ has_twice vs

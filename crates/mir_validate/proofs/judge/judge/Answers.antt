@@ -9,8 +9,8 @@ use Rattle.mir_validate.proofs.judge.judge.Goals as goal
 pub drop_facts-requires-clause-ids : goal.drop_facts-requires-clause-ids
 drop_facts-requires-clause-ids c = ids_stay c.args.program.now c.complete_types.new.program c.in_ok-complete_types.ensures.grown c.requires.ids
 
-pub new-circles-requires : goal.new-circles-requires
-new-circles-requires c = ids_stay c.args.program.now c.complete_types.new.program c.in_ok-complete_types.ensures.grown c.requires.ids
+pub new-requires : goal.new-requires
+new-requires c = record { ids = ids_stay c.args.program.now c.complete_types.new.program c.in_ok-complete_types.ensures.grown c.requires.ids }
 
 pub first_rule-requires-clause-ids : goal.first_rule-requires-clause-ids
 first_rule-requires-clause-ids c =
