@@ -4,3 +4,6 @@ pub mod Spreading
 pub mod Destroying
 pub mod Levels
 pub mod MarkLists
+pub mod Noting
+pub mod Numbering
+pub mod Rounds

@@ -54,11 +54,6 @@ all_marks p own held marks long own_long below d = go (slice_get p.defs d) refl
     go (Some def) e = below d (slice_get_within p.defs d def e)
 
 module _ (D : List Shape) (own start : ℕ → Bool) where
-  -- a round, from marks that are those of the round before
-  pub next_round : (n : ℕ) (old new : List Bool) → ((d : ℕ) → is_marked new d ≡ (own d || holds_one (is_marked old) (slice_get D d))) → ((d : ℕ) → is_marked old d ≡ spread D own start n d)
-      → (d : ℕ) → is_marked new d ≡ spread D own start (suc n) d
-  next_round n old new made before d = made d ∙ ap (λ (f : ℕ → Bool). own d || holds_one f (slice_get D d)) (fun_ext before)
-
   still : (n k : ℕ) → spread D own start (suc n) ≡ spread D own start n → spread D own start (k + n) ≡ spread D own start n
   still n zero h = ap (spread D own start) (omega arith)
   still n (suc k) h =

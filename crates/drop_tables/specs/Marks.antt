@@ -1,12 +1,12 @@
 -- Definitions that are marked in a list, and how marks spread over the definitions that hold marked ones by value.
 -- In the shape of the code; no public promise rests on these.
-use Rattle.std.specs.Prelude.{ℕ, zero, suc, Bool, false, ◌||◌, if◌then◌else◌, List, get_or, set, Option, None, Some, is_some, slice_get}
+use Rattle.std.specs.Prelude.{ℕ, zero, suc, Bool, false, ◌||◌, if◌then◌else◌, List, [], ◌∷◌, ◌++◌, map, get_or, set, Option, None, Some, is_some, slice_get}
 use Rattle.std.specs.List.{list_any}
 use Rattle.mir_syntax.specs.declared.types.TyId.{TyId}
 use Rattle.mir_syntax.specs.declared.types.FnId.{FnId}
 use Rattle.mir_syntax.specs.declared.types.Field.{Field}
 use Rattle.mir_syntax.specs.declared.types.Variant.{Variant}
-use Rattle.mir_syntax.specs.Shapes.{Shape}
+use Rattle.mir_syntax.specs.Shapes.{Shape, field_id}
 use Rattle.mir_syntax.specs.Crate.{TypedFunction}
 use Rattle.mir_rules.specs.DefinitionRules.{holds_one, dropped_by}
 
@@ -21,6 +21,10 @@ id_marked marks id = is_marked marks id.0
 abbrev pub field_marked : List Bool → Field → Bool
 field_marked marks f = id_marked marks f.ty
 
+-- the types of a variant's fields
+abbrev pub ids_of : Variant → List TyId
+ids_of v = map field_id v.fields
+
 abbrev pub variant_marked : List Bool → Variant → Bool
 variant_marked marks v = list_any (field_marked marks) v.fields
 
@@ -28,6 +32,10 @@ variant_marked marks v = list_any (field_marked marks) v.fields
 abbrev pub spread : List Shape → (ℕ → Bool) → (ℕ → Bool) → ℕ → ℕ → Bool
 spread D own start zero d = start d
 spread D own start (suc n) d = own d || holds_one (spread D own start n) (slice_get D d)
+
+-- the lists with a number put into that of a definition, if it is there
+abbrev pub noted_at : List (List ℕ) → ℕ → ℕ → List (List ℕ)
+noted_at holders def from = set holders def (get_or holders def [] ++ from ∷ [])
 
 -- ---- destructors
 

@@ -1,4 +1,4 @@
-ghost use Rattle.std.specs.Prelude.{◌≡◌, ◌||◌, ℕ, ◌<◌, ◌↔◌, IsTrue, IfOk, map, length, take, slice_get};
+ghost use Rattle.std.specs.Prelude.{◌≡◌, ◌||◌, ℕ, ◌<◌, IfOk, map, length, take, slice_get};
 ghost use Rattle.std.specs.List.{list_all, list_any};
 ghost use Rattle.mir_syntax.specs.Tree.{at_id, trees_of};
 ghost use Rattle.mir_syntax.specs.Table.{all_below};
@@ -6,7 +6,7 @@ ghost use Rattle.mir_syntax.specs.Ids.{IdsInTable};
 ghost use Rattle.mir_syntax.specs.Crate.{crate_of};
 ghost use Rattle.mir_syntax.specs.Shapes.{shapes_of, needs_by};
 ghost use Rattle.mir_rules.specs.DefinitionRules.{holds_one};
-ghost use Rattle.drop_tables.specs.Marks.{is_marked, id_marked, field_marked, variant_marked, spread};
+ghost use Rattle.drop_tables.specs.Marks.{is_marked, id_marked, field_marked, variant_marked};
 
 use mir_syntax::{Field, List, OutOfMemory, Program, Ty, TyId, Variant};
 use std::alloc::Global;
@@ -114,34 +114,4 @@ pub fn defs_holding(
         held.push(either(own[at], holds))?;
     }
     Ok(held)
-}
-
-fn same(a: &[bool], b: &[bool]) -> bool
-    ensures { IsTrue result ↔ (a.now ≡ b.now) }
-{
-    a == b
-}
-
-/// The marks after so many rounds, in each of which the definitions that hold a marked one by value are marked. A round that changes
-/// nothing is the last.
-pub fn spread(
-    alloc: Global,
-    program: &Program,
-    own: &[bool],
-    start: List<bool>,
-    rounds: usize,
-) -> Result<List<bool>, OutOfMemory>
-    requires ids { IdsInTable program.now }
-    requires own { length own.now ≡ length program.now.defs }
-    ensures marks { IfOk result (λ marks. (d : ℕ) → is_marked marks d ≡ spread (shapes_of (crate_of program.now)) (is_marked own.now) (is_marked start) rounds d) }
-{
-    let mut marks = start;
-    for round in 0..rounds {
-        let next = defs_holding(alloc, program, own, marks.as_slice())?;
-        if same(next.as_slice(), marks.as_slice()) {
-            return Ok(marks);
-        }
-        marks = next;
-    }
-    Ok(marks)
 }

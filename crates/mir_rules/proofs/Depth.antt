@@ -26,7 +26,7 @@ module _ (p q : ℕ → Bool) (f : (k : ℕ) → p k ≡ true → q k ≡ true) 
   any_mono [] h = absurd (grind arith)
   any_mono (t ∷ ts) h = or_map (needs_by p t) (any_needs p ts) (needs_by q t) (any_needs q ts) (by_mono t) (any_mono ts) h
 
-  one_mono : (o : Option Shape) → holds_one p o ≡ true → holds_one q o ≡ true
+  pub one_mono : (o : Option Shape) → holds_one p o ≡ true → holds_one q o ≡ true
   one_mono None h = absurd (grind arith)
   one_mono (Some s) h = any_mono s.variants h
 
@@ -49,16 +49,16 @@ module _ (p : ℕ → Bool) where
       go (inl e) g = let (k, pk, n) = by_one t e in (k, pk, or_left (needs_by (λ j. j == k) t) (any_needs (λ j. j == k) ts) n)
       go (inr e) g = let (k, pk, n) = g e in (k, pk, or_right (needs_by (λ j. j == k) t) (any_needs (λ j. j == k) ts) n)
 
-  one_one : (o : Option Shape) → holds_one p o ≡ true → (k : ℕ) × (p k ≡ true) × (holds_one (λ j. j == k) o ≡ true)
+  pub one_one : (o : Option Shape) → holds_one p o ≡ true → (k : ℕ) × (p k ≡ true) × (holds_one (λ j. j == k) o ≡ true)
   one_one None h = absurd (grind arith)
   one_one (Some s) h = any_one s.variants h
 
 module _ (D : List Shape) where
   -- d names e by value
-  abbrev Names : ℕ → ℕ → Type 0
+  abbrev pub Names : ℕ → ℕ → Type 0
   Names d e = holds_one (λ j. j == e) (slice_get D d) ≡ true
 
-  there : (p : ℕ → Bool) (d : ℕ) (o : Option Shape) → slice_get D d ≡ o → holds_one p o ≡ true → d < length D
+  pub there : (p : ℕ → Bool) (d : ℕ) (o : Option Shape) → slice_get D d ≡ o → holds_one p o ≡ true → d < length D
   there p d None e h = absurd (grind arith)
   there p d (Some s) e h = slice_get_within D d s e
 

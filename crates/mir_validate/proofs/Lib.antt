@@ -10,3 +10,4 @@ pub mod Gathering
 pub mod Earlier
 pub mod Completing
 pub mod Validated
+pub mod Twice

@@ -1,5 +1,5 @@
 -- The walk over a body with its lines, in the shape of the code. No public promise rests on these.
-use Rattle.std.specs.Prelude.{ℕ, List, [], ◌∷◌, ◌++◌, map, Option, option_map}
+use Rattle.std.specs.Prelude.{ℕ, Bool, false, nat_lt, nat_le, ◌==◌, ◌&&◌, ◌||◌, List, [], ◌∷◌, ◌++◌, map, Option, Some, None, option_map}
 use Rattle.mir_syntax.specs.declared.lines.BlockLines.{BlockLines}
 use Rattle.mir_syntax.specs.declared.body.Stmt.{Stmt}
 use Rattle.mir_syntax.specs.declared.body.Block.{Block}
@@ -18,6 +18,11 @@ at_line line code = (line, code)
 
 abbrev pub on_line : ℕ → Option ℕ → Option (ℕ × ℕ)
 on_line line code = option_map (at_line line) code
+
+-- a fault is answered before a first rule on a line
+abbrev pub is_found_by : Option (ℕ × ℕ) → ℕ → Bool
+is_found_by None line = false
+is_found_by (Some f) line = nat_lt f.0 line || (f.0 == line && nat_le f.1 1)
 
 -- what statements break, each on its line
 abbrev pub statements_broken : List Shape → ℕ → List Tree → List Tree → List ℕ → List Stmt → List (ℕ × ℕ)

@@ -13,7 +13,7 @@ ghost use Rattle.mir_validate.specs.Walk.{place_of};
 use crate::complete::complete_types;
 use crate::fault::Broken;
 use crate::rules::first_rule;
-use drop_tables::{drop_facts, self_holding};
+use drop_tables::{Circles, drop_facts};
 use mir_syntax::{Lines, OutOfMemory, Program};
 use std::alloc::Global;
 
@@ -41,7 +41,8 @@ pub fn judge(
 {
     complete_types(alloc, program)?;
     let drops = drop_facts(alloc, program)?;
-    let holding = self_holding(alloc, program)?;
+    let circles = Circles::new(alloc, program)?;
     program.keep_drops(drops);
-    Ok(first_rule(program, lines, holding.as_slice()))
+    let broken = first_rule(alloc, program, lines, &circles)?;
+    Ok(broken)
 }

@@ -1,4 +1,4 @@
-ghost use Rattle.std.specs.Prelude.{◌≡◌, ◌<◌, ◌^◌, ◌==◌, ◌||◌, nat_lt, not, IsTrue, false, length, map, take, drop};
+ghost use Rattle.std.specs.Prelude.{◌≡◌, ◌<◌, ◌^◌, ◌||◌, nat_lt, not, IsTrue, IfOk, false, length, map, take, drop};
 ghost use Rattle.std.specs.List.{list_all, list_any};
 ghost use Rattle.mir_syntax.specs.Tree.{at_id, trees_of};
 ghost use Rattle.mir_syntax.specs.Crate.{crate_of};
@@ -17,7 +17,8 @@ use crate::inside::Inside;
 use crate::moves::Moves;
 use crate::seen::Seen;
 use mir_num::wrap;
-use mir_syntax::{Arm, Body, Callee, Operand, Place, ScalarTy, Term, TyId};
+use mir_syntax::{Arm, Body, Callee, Operand, OutOfMemory, Place, ScalarTy, Term, TyId};
+use std::alloc::Global;
 
 fn an_arm_goes_back(arms: &[Arm]) -> bool
     ensures { result ≡ list_any arm_goes_back arms.now }
@@ -46,64 +47,51 @@ fn goes_back(term: &Term) -> bool
     }
 }
 
-fn has_value(arms: &[Arm], value: u128) -> bool
-    ensures { result ≡ list_any (λ u. u == value) (map arm_value arms.now) }
-{
-    let mut rest = arms;
-    'arms: while let [arm, others @ ..] = rest {
-        if arm.value == value {
-            return true;
-        }
-        rest = others;
-    }
-    false
-}
-
-fn is_ascending_from(least: u128, arms: &[Arm]) -> bool
-    ensures { result ≡ ascends_from least (map arm_value arms.now) }
+fn is_ascending_from(least: u128, values: &[u128]) -> bool
+    ensures { result ≡ ascends_from least values.now }
 {
     let mut last = least;
-    let mut rest = arms;
-    'arms: while let [arm, others @ ..] = rest {
-        if arm.value <= last {
+    let mut rest = values;
+    'values: while let [value, others @ ..] = rest {
+        if *value <= last {
             return false;
         }
-        last = arm.value;
+        last = *value;
         rest = others;
     }
     true
 }
 
-fn is_ascending(arms: &[Arm]) -> bool
-    ensures { result ≡ ascends (map arm_value arms.now) }
+fn is_ascending(values: &[u128]) -> bool
+    ensures { result ≡ ascends values.now }
 {
-    match arms {
-        [first, others @ ..] => is_ascending_from(first.value, others),
+    match values {
+        [first, others @ ..] => is_ascending_from(*first, others),
         [] => true,
     }
 }
 
-/// Whether a switch value stands twice. Values are mostly written in ascending order, and then one walk shows that none does.
-fn has_twice(arms: &[Arm]) -> bool
-    ensures { result ≡ has_twice (map arm_value arms.now) }
+fn values_of(alloc: Global, arms: &[Arm]) -> Result<Vec<u128>, OutOfMemory>
+    ensures { IfOk result (λ values. values.items ≡ map arm_value arms.now) }
 {
-    if is_ascending(arms) {
-        return false;
+    let mut values = Vec::with_capacity(alloc, arms.len())?;
+    for arm in arms {
+        values.push(arm.value)?;
     }
-    stands_twice(arms)
+    Ok(values)
 }
 
-fn stands_twice(arms: &[Arm]) -> bool
-    ensures { result ≡ has_twice (map arm_value arms.now) }
+/// Whether a switch value stands twice. Values are mostly written in ascending order, and then one walk shows that none does; else it shows in
+/// their order.
+fn has_twice(alloc: Global, arms: &[Arm]) -> Result<bool, OutOfMemory>
+    ensures { IfOk result (λ twice. twice ≡ has_twice (map arm_value arms.now)) }
 {
-    let mut rest = arms;
-    'arms: while let [arm, others @ ..] = rest {
-        if has_value(others, arm.value) {
-            return true;
-        }
-        rest = others;
+    let mut values = values_of(alloc, arms)?;
+    if is_ascending(values.as_slice()) {
+        return Ok(false);
     }
-    false
+    values.sort()?;
+    Ok(!is_ascending(values.as_slice()))
 }
 
 fn is_too_wide(scalar: ScalarTy, value: u128) -> bool
@@ -126,10 +114,11 @@ fn has_too_wide(scalar: ScalarTy, arms: &[Arm]) -> bool
     false
 }
 
-fn are_wrong(scalar: ScalarTy, arms: &[Arm]) -> bool
-    ensures { result ≡ (has_twice (map arm_value arms.now) || list_any (λ v. not (nat_lt v (2 ^ width_of scalar))) (map arm_value arms.now)) }
+fn are_wrong(alloc: Global, scalar: ScalarTy, arms: &[Arm]) -> Result<bool, OutOfMemory>
+    ensures { IfOk result (λ wrong. wrong ≡ (has_twice (map arm_value arms.now) || list_any (λ v. not (nat_lt v (2 ^ width_of scalar))) (map arm_value arms.now))) }
 {
-    has_twice(arms) || has_too_wide(scalar, arms)
+    let twice = has_twice(alloc, arms)?;
+    Ok(twice || has_too_wide(scalar, arms))
 }
 
 /// The types of the arguments of a body.
@@ -177,19 +166,21 @@ impl Inside<'_> {
         }
     }
 
-    fn switch_code(&self, operand: &Operand, arms: &[Arm]) -> Option<u8>
+    fn switch_code(
+        &self,
+        alloc: Global,
+        operand: &Operand,
+        arms: &[Arm],
+    ) -> Result<Option<u8>, OutOfMemory>
         requires formed { IsTrue (operand_whole operand.now) }
         requires typed { operand_untyped (shapes self.now.program.now) (local_types self.now.program.now self.now.body.now) operand.now ≡ false }
-        ensures { result ≡ first_code (switch_broken (shapes self.now.program.now) (local_types self.now.program.now self.now.body.now) operand.now arms.now) }
+        ensures { IfOk result (λ code. code ≡ first_code (switch_broken (shapes self.now.program.now) (local_types self.now.program.now self.now.body.now) operand.now arms.now)) }
     {
         let Some(scalar) = self.operand_scalar(operand) else {
-            return Some(17);
+            return Ok(Some(17));
         };
-        if are_wrong(scalar, arms) {
-            Some(18)
-        } else {
-            None
-        }
+        let wrong = are_wrong(alloc, scalar, arms)?;
+        if wrong { Ok(Some(18)) } else { Ok(None) }
     }
 
     fn is_bool(&self, operand: &Operand) -> bool
@@ -317,18 +308,20 @@ impl Inside<'_> {
         }
     }
 
-    fn own_code(&self, term: &Term) -> Option<u8>
+    fn own_code(&self, alloc: Global, term: &Term) -> Result<Option<u8>, OutOfMemory>
         requires formed { IsTrue (term_whole term.now) }
         requires callee { IsTrue (call_formed (crate_of self.now.program.now) term.now) }
         requires typed { term_untyped (shapes self.now.program.now) (local_types self.now.program.now self.now.body.now) term.now ≡ false }
-        ensures { result ≡ first_code (own_broken (crate_of self.now.program.now) (shapes self.now.program.now) (local_types self.now.program.now self.now.body.now) term.now) }
+        ensures { IfOk result (λ code. code ≡ first_code (own_broken (crate_of self.now.program.now) (shapes self.now.program.now) (local_types self.now.program.now self.now.body.now) term.now)) }
     {
         match term {
-            Term::Switch(a, arms, _) => self.switch_code(a, arms.as_slice()),
-            Term::Call(place, callee, args, _) => self.call_code(place, *callee, args.as_slice()),
-            Term::Assert(a, _, _, args, _) => self.assert_code(a, args.as_slice()),
-            Term::Drop(place, _) => self.drop_code(place),
-            Term::Goto(_) | Term::Return | Term::Unreachable => None,
+            Term::Switch(a, arms, _) => self.switch_code(alloc, a, arms.as_slice()),
+            Term::Call(place, callee, args, _) => {
+                Ok(self.call_code(place, *callee, args.as_slice()))
+            }
+            Term::Assert(a, _, _, args, _) => Ok(self.assert_code(a, args.as_slice())),
+            Term::Drop(place, _) => Ok(self.drop_code(place)),
+            Term::Goto(_) | Term::Return | Term::Unreachable => Ok(None),
         }
     }
 
@@ -346,20 +339,21 @@ impl Inside<'_> {
     }
 
     /// The first rule that a terminator breaks.
-    pub fn terminator_code(&self, term: &Term) -> Option<u8>
+    pub fn terminator_code(&self, alloc: Global, term: &Term) -> Result<Option<u8>, OutOfMemory>
         requires formed { IsTrue (term_whole term.now) }
         requires callee { IsTrue (call_formed (crate_of self.now.program.now) term.now) }
-        ensures { result ≡ first_code (terminator_broken (crate_of self.now.program.now) (shapes self.now.program.now) (local_types self.now.program.now self.now.body.now) term.now) }
+        ensures { IfOk result (λ code. code ≡ first_code (terminator_broken (crate_of self.now.program.now) (shapes self.now.program.now) (local_types self.now.program.now self.now.body.now) term.now)) }
     {
         if goes_back(term) {
-            return Some(5);
+            return Ok(Some(5));
         }
         if self.term_untyped(term) {
-            return Some(6);
+            return Ok(Some(6));
         }
-        match self.own_code(term) {
-            Some(code) => Some(code),
-            None => self.term_moves(term).code(),
+        let own = self.own_code(alloc, term)?;
+        match own {
+            Some(code) => Ok(Some(code)),
+            None => Ok(self.term_moves(term).code()),
         }
     }
 }

@@ -9,8 +9,8 @@ use Rattle.mir_validate.proofs.judge.judge.Goals as goal
 pub drop_facts-requires-clause-ids : goal.drop_facts-requires-clause-ids
 drop_facts-requires-clause-ids c = ids_stay c.args.program.now c.complete_types.new.program c.in_ok-complete_types.ensures.grown c.requires.ids
 
-pub self_holding-requires-clause-ids : goal.self_holding-requires-clause-ids
-self_holding-requires-clause-ids c = ids_stay c.args.program.now c.complete_types.new.program c.in_ok-complete_types.ensures.grown c.requires.ids
+pub new-requires : goal.new-requires
+new-requires c = record { ids = ids_stay c.args.program.now c.complete_types.new.program c.in_ok-complete_types.ensures.grown c.requires.ids }
 
 pub first_rule-requires-clause-ids : goal.first_rule-requires-clause-ids
 first_rule-requires-clause-ids c =
@@ -33,7 +33,7 @@ pub returns-clause-first : goal.returns-clause-first
 returns-clause-first c =
     let kept = kept_drops c.complete_types.new.program c.keep_drops.new.self c.keep_drops.ensures.defs c.keep_drops.ensures.outsides c.keep_drops.ensures.functions c.keep_drops.ensures.types in
     let same = same_crate c.args.program.now c.keep_drops.new.self (grown_on c.args.program.now c.complete_types.new.program c.keep_drops.new.self c.in_ok-complete_types.ensures.grown kept) c.requires.ids in
-    c.first_rule.ensures ∙ ap (first_rule c.args.lines.now) same
+    c.in_ok-broken.ensures ∙ ap (first_rule c.args.lines.now) same
 
 pub returns-clause-references : goal.returns-clause-references
 returns-clause-references c = λ k below.

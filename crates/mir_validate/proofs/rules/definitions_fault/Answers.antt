@@ -36,7 +36,8 @@ loop-at-preserved c =
     let there : slice_get lines.defs at ≡ Some line = slice_get-get_or lines.defs at 0 (omega (arith, below, defs_long lines p c.requires.fit)) in
     let (def, is) = slice_get_there C.defs at (omega (arith, length-map p.defs (def_of (trees_of p.types)), below)) in
     let codes = if_broken (breaks_v01 D at) 1 in
-    let code : c.code_if-code.result ≡ first_code codes = c.code_if-code.ensures ∙ ap (λ b. first_code (if_broken b 1)) (c.is_marked.ensures ∙ c.requires.holding at below) in
-    let item : option_map place_of c.on_line.result ≡ first_fault (map (by_line lines) (definition_found D at def)) =
-    c.on_line.ensures ∙ (ap₂ on_line (ap (λ l. get_or l at 0) c.as_slice.ensures) code ∙ spot_first lines (definition at) line codes (definition_line lines at line there) (one_ascends (breaks_v01 D at) 1)) in
-    c.sooner-found.ensures ∙ (ap₂ either c.loop-at.invariant item ∙ gathered_more (by_line lines) (definition_found D) C.defs at def is)
+    let same : get_or c.as_slice.result.now at 0 ≡ line = ap (λ l. get_or l at 0) c.as_slice.ensures in
+    let item : either (option_map place_of c.loop-at.found) (option_map place_of c.on_line.result) ≡ either (option_map place_of c.loop-at.found) (first_fault (map (by_line lines) (definition_found D at def))) =
+    ap (either (option_map place_of c.loop-at.found)) c.on_line.ensures
+    ∙ (c.in_ok-code.ensures ∙ ap (either (option_map place_of c.loop-at.found)) (ap (λ l. on_line l (first_code codes)) same ∙ spot_first lines (definition at) line codes (definition_line lines at line there) (one_ascends (breaks_v01 D at) 1))) in
+    c.sooner-found.ensures ∙ (item ∙ (ap (λ x. either x (first_fault (map (by_line lines) (definition_found D at def)))) c.loop-at.invariant ∙ gathered_more (by_line lines) (definition_found D) C.defs at def is))

@@ -18,6 +18,6 @@ returns c =
     let outsides = gather outside_found 0 C.outsides in
     let functions = gather (function_found C (shapes p)) 0 C.functions in
     c.sooner-3.ensures ∙ (ap₂ either c.written_fault-written.ensures
-    (c.sooner-2.ensures ∙ (ap₂ either c.definitions_fault-definitions.ensures (c.sooner.ensures ∙ (ap₂ either c.outsides_fault-outsides.ensures c.functions_fault-functions.ensures ∙ both_walks (by_line lines) outsides functions))
+    (c.sooner-2.ensures ∙ (ap₂ either c.in_ok-definitions.ensures (c.sooner.ensures ∙ (ap₂ either c.outsides_fault-outsides.ensures c.in_ok-functions.ensures ∙ both_walks (by_line lines) outsides functions))
     ∙ both_walks (by_line lines) defs (outsides ++ functions)))
     ∙ sym (first_fault_append (wrong_field_fault lines.wrong_field) (map (by_line lines) (defs ++ (outsides ++ functions)))))

@@ -56,7 +56,7 @@ returns c = λ function same.
     let codes = header_broken D at (view f) in
     let head : option_map place_of c.on_line-header.result ≡ first_fault (map (by_line lines) (map (at_spot (header at)) codes)) =
     c.on_line-header.ensures ∙ (ap (on_line fl.head) c.header_code.ensures ∙ spot_first lines (header at) fl.head codes (header_line lines at fl there) (header_ascends D at (view f))) in
-    let body : option_map place_of c.body_fault.result ≡ first_fault (map (by_line lines) (body_found C D at (view f).body)) = c.body_fault.ensures lines at there (function_blocks lines C c.requires.fit at fl (view f) there is) in
+    let body : option_map place_of c.in_ok-body.body ≡ first_fault (map (by_line lines) (body_found C D at (view f).body)) = c.in_ok-body.ensures lines at there (function_blocks lines C c.requires.fit at fl (view f) there is) in
     let all : option_map place_of c.sooner.result ≡ first_fault (map (by_line lines) (function_found C D at (view f))) =
     c.sooner.ensures ∙ (ap₂ either head body ∙ both_walks (by_line lines) (map (at_spot (header at)) codes) (body_found C D at (view f).body)) in
     all ∙ ap (λ g. first_fault (map (by_line lines) (function_found C D at (view g)))) one

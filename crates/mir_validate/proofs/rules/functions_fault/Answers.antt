@@ -20,4 +20,4 @@ loop-at-preserved c =
     let below : at < length p.functions = omega (arith, c.len-at-end.ensures) in
     let (f, found) = slice_get_there p.functions at below in
     let is : slice_get C.functions at ≡ Some (view f) = slice_get-map view p.functions at ∙ ap (option_map view) found in
-    c.sooner-found.ensures ∙ (ap₂ either c.loop-at.invariant (c.function_fault.ensures f found) ∙ gathered_more (by_line c.args.lines.now) (function_found C (shapes p)) C.functions at (view f) is)
+    c.sooner-found.ensures ∙ (ap₂ either c.loop-at.invariant (c.in_ok-fault.ensures f found) ∙ gathered_more (by_line c.args.lines.now) (function_found C (shapes p)) C.functions at (view f) is)

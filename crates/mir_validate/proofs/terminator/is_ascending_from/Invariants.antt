@@ -1,10 +1,9 @@
-use Rattle.std.proofs.Common.{◌≡◌, map, length}
-use Rattle.mir_rules.specs.BodyRules.{arm_value}
+use Rattle.std.proofs.Common.{◌≡◌, length}
 use Rattle.mir_validate.specs.Terms.{ascends_from}
 use Rattle.mir_validate.proofs.terminator.is_ascending_from.Given as goal
 
-abbrev pub invariant-arms : goal.invariant-arms
-invariant-arms l = ascends_from l.least (map arm_value l.arms) ≡ ascends_from l.last (map arm_value l.rest)
+abbrev pub invariant-values : goal.invariant-values
+invariant-values l = ascends_from l.least l.values ≡ ascends_from l.last l.rest
 
-abbrev pub decreases-arms : goal.decreases-arms
-decreases-arms l = length l.rest
+abbrev pub decreases-values : goal.decreases-values
+decreases-values l = length l.rest

@@ -18,5 +18,5 @@ returns c =
     let lines = c.args.lines.now in
     let codes = terminator_broken (crate_of p) (shapes p) locals k.term in
     let stmts = rw (c.as_slice.ensures, c.as_slice-2.ensures) at c.statements_fault-stmts.ensures in
-    let ends = c.on_line.ensures ∙ (ap (on_line lines.term) c.terminator_code.ensures ∙ line_first lines.term codes (terminator_ascends (shapes p) locals (crate_of p) k.term)) in
+    let ends = c.on_line.ensures ∙ (ap (on_line lines.term) c.in_ok-code.ensures ∙ line_first lines.term codes (terminator_ascends (shapes p) locals (crate_of p) k.term)) in
     c.sooner.ensures ∙ (ap₂ either stmts ends ∙ sym (first_fault_append (statements_broken (shapes p) b.args locals (trees_of p.types) lines.stmts k.stmts) (map (at_line lines.term) codes)))

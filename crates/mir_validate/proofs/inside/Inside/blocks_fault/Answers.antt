@@ -24,7 +24,7 @@ walk-preserved c =
     let others = c.in-Some.others.now in
     let split = rw (c.in-Some-parted.ensures, c.in-Some.ensures) at c.walk.invariant.0 in
     let all = blocks_broken C (shapes p) b.args locals trees c.args.lines.now c.args.blocks.now in
-    let next = one_more (option_map place_of c.walk.found) (option_map place_of c.block_fault.result) (block_broken C (shapes p) b.args locals trees line k) (blocks_broken C (shapes p) b.args locals trees later others) all split c.block_fault.ensures in
+    let next = one_more (option_map place_of c.walk.found) (option_map place_of c.in_ok-fault.fault) (block_broken C (shapes p) b.args locals trees line k) (blocks_broken C (shapes p) b.args locals trees later others) all split c.in_ok-fault.ensures in
     let whole = rw c.in-Some.ensures at c.walk.invariant.1 in
     let below = rw c.in-Some.ensures at c.walk.invariant.2 in (
       rw c.sooner-found.ensures next,

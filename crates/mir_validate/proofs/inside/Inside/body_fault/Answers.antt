@@ -28,5 +28,5 @@ pub returns : goal.returns
 returns c = λ all f is fits.
     let p = c.args.self.now.program.now in
     let b = c.args.self.now.body.now in
-    let found = rw (c.as_slice.ensures, c.as_slice-2.ensures) at c.blocks_fault.ensures in
+    let found = rw (c.as_slice.ensures, c.as_slice-2.ensures) at c.in_ok-found.ensures in
     found ∙ ap first_fault (sym (body_located (crate_of p) (shapes p) (trees_of p.types) b all f c.args.lines.now is fits))

@@ -11,16 +11,16 @@ returns-in_default c =
     let locals = local_types p c.args.self.now.body.now in
     switch_unfit (shapes p) locals c.args.operand.now c.args.arms.now c.requires.typed c.in_default.ensures
 
-pub returns-then-are_wrong : goal.returns-then-are_wrong
-returns-then-are_wrong c =
+pub returns-then-wrong : goal.returns-then-wrong
+returns-then-wrong c =
     let p = c.args.self.now.program.now in
     let trees = trees_of p.types in
     let locals = local_types p c.args.self.now.body.now in
-    switch_arms (shapes p) locals c.args.operand.now c.args.arms.now c.in-Some.scalar true c.in-Some.ensures (sym c.if-are_wrong.true ∙ c.are_wrong.ensures)
+    switch_arms (shapes p) locals c.args.operand.now c.args.arms.now c.in-Some.scalar true c.in-Some.ensures (sym c.if-wrong.true ∙ c.in_ok-wrong.ensures)
 
-pub returns-else-are_wrong : goal.returns-else-are_wrong
-returns-else-are_wrong c =
+pub returns-else-wrong : goal.returns-else-wrong
+returns-else-wrong c =
     let p = c.args.self.now.program.now in
     let trees = trees_of p.types in
     let locals = local_types p c.args.self.now.body.now in
-    switch_arms (shapes p) locals c.args.operand.now c.args.arms.now c.in-Some.scalar false c.in-Some.ensures (sym c.if-are_wrong.false ∙ c.are_wrong.ensures)
+    switch_arms (shapes p) locals c.args.operand.now c.args.arms.now c.in-Some.scalar false c.in-Some.ensures (sym c.if-wrong.false ∙ c.in_ok-wrong.ensures)

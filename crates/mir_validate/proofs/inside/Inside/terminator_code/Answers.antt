@@ -25,7 +25,7 @@ returns-in-Some c =
     let p = c.args.self.now.program.now in
     let trees = trees_of p.types in
     let locals = local_types p c.args.self.now.body.now in
-    term_own (crate_of p) (shapes p) locals c.args.term.now (sym c.goes_back.ensures ∙ c.if-goes_back.false) c.in-Some.code (sym c.term_untyped.ensures ∙ c.if-term_untyped.false) c.in-Some.ensures
+    term_own (crate_of p) (shapes p) locals c.args.term.now (sym c.goes_back.ensures ∙ c.if-goes_back.false) c.in-Some.code (sym c.term_untyped.ensures ∙ c.if-term_untyped.false) (sym c.in-Some.is ∙ c.in_ok-own.ensures)
 
 pub returns-in-None : goal.returns-in-None
 returns-in-None c =
@@ -34,6 +34,6 @@ returns-in-None c =
     let locals = local_types p c.args.self.now.body.now in
     let a = c.term_moves.result.through in
     let b = c.term_moves.result.indirectly in
-    c.code.ensures ∙ term_operands_moved (crate_of p) (shapes p) locals c.args.term.now (sym c.goes_back.ensures ∙ c.if-goes_back.false) a b (sym c.term_untyped.ensures ∙ c.if-term_untyped.false) c.in-None.ensures
+    c.code.ensures ∙ term_operands_moved (crate_of p) (shapes p) locals c.args.term.now (sym c.goes_back.ensures ∙ c.if-goes_back.false) a b (sym c.term_untyped.ensures ∙ c.if-term_untyped.false) (sym c.in-None.is ∙ c.in_ok-own.ensures)
     (c.term_moves.ensures.through ∙ any_of_term (moves_through_destructor (shapes p) locals) c.args.term.now)
     (c.term_moves.ensures.indirectly ∙ any_of_term (moves_needing_indirectly (shapes p) locals) c.args.term.now)
