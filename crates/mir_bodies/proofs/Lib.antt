@@ -9,4 +9,3 @@ pub mod Reading
 pub mod Building
 pub mod Calling
 pub mod Blocks
-pub mod VariantsKept

@@ -5,4 +5,3 @@ pub mod Places
 pub mod Operands
 pub mod Builds
 pub mod Statements
-pub mod Variants
