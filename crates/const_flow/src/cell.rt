@@ -32,3 +32,23 @@ impl Cell {
         }
     }
 }
+
+/// What is known of a scalar at a point: the block is unreached, or it is a hole, or a hole or this number, or it may be anything.
+#[derive(Clone, Copy, Debug, Drop, PartialEq, Eq)]
+pub enum Known {
+    Unreached,
+    Nothing,
+    Num(u128),
+    Many,
+}
+
+impl Known {
+    /// In a block that is reached.
+    pub(crate) fn of(cell: Cell) -> Known {
+        match cell {
+            Cell::Nothing => Known::Nothing,
+            Cell::Num(bits) => Known::Num(bits),
+            Cell::Many => Known::Many,
+        }
+    }
+}

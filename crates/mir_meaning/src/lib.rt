@@ -23,7 +23,7 @@ mod path;
 pub mod place;
 pub mod pointer;
 mod put;
-mod rvalue;
+pub mod rvalue;
 pub mod split;
 pub mod stop;
 pub mod target;

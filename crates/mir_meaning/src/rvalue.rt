@@ -78,7 +78,7 @@ fn operators(op: OverOp) -> (BinOp, BinOp)
 }
 
 /// The wrapped result, and whether the exact one doesn't fit; said of `bool` too, of which no valid program asks it.
-fn over(op: OverOp, ty: ScalarTy, a: u128, b: u128) -> (u128, bool)
+pub fn over(op: OverOp, ty: ScalarTy, a: u128, b: u128) -> (u128, bool)
     ensures { result ≡ num.over op ty a b }
 {
     let (wraps, exact) = operators(op);
@@ -88,7 +88,7 @@ fn over(op: OverOp, ty: ScalarTy, a: u128, b: u128) -> (u128, bool)
 }
 
 #[tactic(auto, unfolding(mir_num::specs::Numbers::flag))]
-fn flag(holds: bool) -> u128
+pub fn flag(holds: bool) -> u128
     ensures { result ≡ num.flag holds }
 {
     if holds { 1 } else { 0 }
@@ -144,8 +144,7 @@ fn unary_of(
 }
 
 /// The same integer in another type; said of `bool` too, to which no valid program casts.
-
-fn cast_bits(from: ScalarTy, to: ScalarTy, bits: u128) -> u128
+pub fn cast_bits(from: ScalarTy, to: ScalarTy, bits: u128) -> u128
     ensures { result ≡ num.cast from to bits }
 {
     match to {
