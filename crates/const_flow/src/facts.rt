@@ -1,6 +1,6 @@
 use crate::cell::Known;
-use crate::look::known;
 use crate::effects::Walk;
+use crate::look::known;
 use crate::sight::Sight;
 use mir_syntax::{Body, Operand, OutOfMemory, Program, Rvalue, Stmt};
 use place_map::PathMap;
@@ -18,12 +18,7 @@ pub struct Facts<'a> {
 impl Facts<'_> {
     /// Makes of what is known before a statement what is known after it. In a block that is unreached nothing changes. After an `Err` the facts
     /// are spent, and every later call answers an `Err`.
-    pub fn pass(
-        &mut self,
-        program: &Program,
-        body: &Body,
-        stmt: &Stmt,
-    ) -> Result<(), OutOfMemory> {
+    pub fn pass(&mut self, program: &Program, body: &Body, stmt: &Stmt) -> Result<(), OutOfMemory> {
         if self.is_spent {
             return Err(OutOfMemory);
         }

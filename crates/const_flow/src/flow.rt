@@ -7,6 +7,7 @@ use std::alloc::Global;
 
 /// Constants that are known, as a flow problem. Its nodes are the blocks' starts, and then their ends. A fact is a cell for each tracked place,
 /// and none where the block is unreached.
+#[derive(Drop)]
 pub(crate) struct ConstFlow<'a> {
     pub sight: Sight<'a>,
     pub blocks: u32,
@@ -21,6 +22,20 @@ pub(crate) fn copied(alloc: Global, cells: &[Cell]) -> Result<List<Cell>, OutOfM
 
 impl Analysis for ConstFlow<'_> {
     type Fact = Option<List<Cell>>;
+
+    ghost is_fact = { ? };
+
+    ghost below = { ? };
+
+    ghost begun = { ? };
+
+    ghost joined = { ? };
+
+    ghost sent = { ? };
+
+    ghost rank = { ? };
+
+    ghost most = { ? };
 
     fn start(&self, alloc: Global, node: u32) -> Result<Option<List<Cell>>, OutOfMemory> {
         if node != 0 {
@@ -91,6 +106,8 @@ impl Analysis for ConstFlow<'_> {
     fn height(&self) -> u64 {
         2 * u64::from(self.sight.paths.len()) + 1
     }
+
+    ghost lawful = { ? };
 }
 
 /// Joins cells to others, and tells whether one of them changed.

@@ -1,6 +1,6 @@
+//! What is known of places and operands.
 ghost use Rattle.mir_syntax.specs.declared.body.Operand.TheVariants as operand;
 ghost use Rattle.const_flow.specs.Facts.{Facts};
-//! What is known of places and operands.
 ghost use Rattle.std.specs.Prelude.{◌≡◌, [], length};
 ghost use Rattle.place_map.specs.Tracked.{beyond};
 ghost use Rattle.const_flow.specs.Facts.{look, part_known, known};
@@ -23,7 +23,7 @@ pub(crate) fn look(paths: &PathMap, cells: &[Cell], place: &Place, way: &[Proj])
 
 #[tactic(auto, unfolding(crate::specs::Facts::part_known, mir_num::specs::Numbers::flag))]
 fn const_known(value: Const) -> Cell
-    ensures { (fs : Facts) → result ≡ part_known fs (Operand.Const value) [] }
+    ensures { (fs : Facts) → result ≡ part_known fs (operand.Const value) [] }
 {
     match value {
         Const::Int(_, bits) => Cell::Num(bits),

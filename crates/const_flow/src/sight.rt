@@ -32,7 +32,10 @@ impl Sight<'_> {
     }
 
     fn binary(self, cells: &[Cell], op: BinOp, left: &Operand, right: &Operand) -> Cell {
-        match (known(self.paths, cells, left), known(self.paths, cells, right)) {
+        match (
+            known(self.paths, cells, left),
+            known(self.paths, cells, right),
+        ) {
             (Cell::Nothing, _) | (_, Cell::Nothing) => Cell::Nothing,
             (Cell::Num(a), Cell::Num(b)) => match self.scalar_ty(left) {
                 Some(ty) => Cell::outcome(binop(op, ty, a, b)),
@@ -44,7 +47,10 @@ impl Sight<'_> {
 
     /// What is known of the wrapped result, and of whether the exact one doesn't fit.
     fn overflow(self, cells: &[Cell], op: OverOp, left: &Operand, right: &Operand) -> (Cell, Cell) {
-        match (known(self.paths, cells, left), known(self.paths, cells, right)) {
+        match (
+            known(self.paths, cells, left),
+            known(self.paths, cells, right),
+        ) {
             (Cell::Nothing, _) | (_, Cell::Nothing) => (Cell::Nothing, Cell::Nothing),
             (Cell::Num(a), Cell::Num(b)) => match self.scalar_ty(left) {
                 Some(ty) => {
