@@ -1,5 +1,5 @@
 -- What is known of a place, in a list of cells.
-use Rattle.std.proofs.Common.{◌≡◌, ◌⊎◌, inl, inr, refl, sym, ap, ◌∙◌, ℕ, zero, suc, Bool, true, false, if◌then◌else◌, List, [], ◌∷◌, ◌++◌, length, get_or, Option, Some, None, slice_get, arith}
+use Rattle.std.proofs.Common.{◌≡◌, ◌⊎◌, inl, inr, refl, sym, ap, ◌∙◌, ℕ, zero, suc, Bool, true, false, if◌then◌else◌, List, [], ◌∷◌, ◌++◌, length, get_or, Option, Some, None, slice_get, ◌==◌, arith}
 use Rattle.std.proofs.lemmas.Bool.{cases_Bool}
 use Rattle.std.proofs.lemmas.List.{append-nil}
 use Rattle.mir_syntax.specs.declared.body.Proj.{Proj}
@@ -8,7 +8,10 @@ use Rattle.place_map.specs.Tracked.{way, IsNumber}
 use Rattle.place_map.proofs.Sides.{way_self, way_is}
 use Rattle.const_flow.specs.declared.cell.Cell.{Cell}
 use Rattle.const_flow.specs.declared.cell.Cell.TheVariants.{Many}
-use Rattle.const_flow.specs.Facts.{is_end, look}
+use Rattle.mir_syntax.specs.declared.body.Const.{Const as ConstData}
+use Rattle.mir_syntax.specs.declared.body.Const.TheVariants as constant
+use Rattle.mir_syntax.specs.declared.body.Operand.TheVariants as operand
+use Rattle.const_flow.specs.Facts.{Facts, is_end, look, part_known}
 use Rattle.const_flow.specs.Cells.{facts_of}
 
 end_is : (q p : Place) → is_end (way q p) ≡ true → q ≡ p
@@ -43,3 +46,11 @@ look_number (q ∷ ps) (k ∷ ks) p (suc i) d l n = elim (cases_Bool (is_end (wa
   | inl e ↦ absurd (let z = n.alone 0 (ap Some (end_is q p e)) in omega arith)
   | inr e ↦ ap (λ b. if b then k else look (facts_of ps ks) p) e ∙ look_number ps ks p i d (omega arith) (record { stands = n.stands; alone = λ j s. (let z = n.alone (suc j) s in omega arith) })
 ]
+
+-- a constant has no parts
+pub no_parts : (fs : Facts) (c : ConstData) (r : List Proj) → (length r == 0) ≡ false → Many ≡ part_known fs (operand.Const c) r
+unfolding part_known
+no_parts fs c [] e = absurd cc
+no_parts fs (constant.Int t n) (p ∷ r) e = refl
+no_parts fs (constant.Bool b) (p ∷ r) e = refl
+no_parts fs constant.Unit (p ∷ r) e = refl

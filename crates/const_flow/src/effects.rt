@@ -1,6 +1,6 @@
 //! What statements and terminators make of facts.
 use crate::cell::Cell;
-use crate::look::known;
+use crate::places::known;
 use crate::sight::Sight;
 use mir_syntax::{Arm, List, Operand, OutOfMemory, Place, Rvalue, Stmt, Term};
 use place_map::Span;

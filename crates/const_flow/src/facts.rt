@@ -1,6 +1,6 @@
 use crate::cell::Known;
 use crate::effects::Walk;
-use crate::look::known;
+use crate::places::known;
 use crate::sight::Sight;
 use mir_syntax::{Body, Operand, OutOfMemory, Program, Rvalue, Stmt};
 use place_map::PathMap;

@@ -10,7 +10,7 @@ mod edges;
 mod effects;
 mod facts;
 mod flow;
-mod look;
+mod places;
 mod rows;
 mod sight;
 #[cfg(test)]

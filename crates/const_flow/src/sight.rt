@@ -1,6 +1,6 @@
 //! What is known of places, operands and rvalues.
 use crate::cell::Cell;
-use crate::look::{known, part_known};
+use crate::places::{known, part_known};
 use mir_meaning::operand::scalar_of;
 use mir_meaning::rvalue::{cast_bits, flag, over};
 use mir_num::{binop, unary};

@@ -11,7 +11,7 @@ use mir_syntax::{Const, Operand, Place, Proj};
 use place_map::PathMap;
 
 /// What is known of the place at the end of a way from another.
-pub(crate) fn look(paths: &PathMap, cells: &[Cell], place: &Place, way: &[Proj]) -> Cell
+pub(crate) fn place_known(paths: &PathMap, cells: &[Cell], place: &Place, way: &[Proj]) -> Cell
     requires { length cells.now ≡ length paths.now }
     ensures { result ≡ look (facts_of paths.now cells.now) (beyond place.now way.now) }
 {
@@ -39,8 +39,8 @@ pub(crate) fn part_known(paths: &PathMap, cells: &[Cell], operand: &Operand, way
     ensures { result ≡ part_known (facts_of paths.now cells.now) operand.now way.now }
 {
     match operand {
-        Operand::Copy(place) => look(paths, cells, place, way),
-        Operand::Move(place) => look(paths, cells, place, way),
+        Operand::Copy(place) => place_known(paths, cells, place, way),
+        Operand::Move(place) => place_known(paths, cells, place, way),
         Operand::Const(value) => {
             if way.is_empty() {
                 const_known(*value)
