@@ -31,32 +31,6 @@ same_seen v w m e = cc
 
 -- ---- numbers
 
-two_values : (b : Bool) (x : ℕ) → is_none (if b then Some x else None) ≡ not b
-two_values true x = refl
-two_values false x = refl
-
-pub turned : (f s : Bool) → s ≡ not f → f ≡ not s
-turned true s e = sym (ap not e)
-turned false s e = sym (ap not e)
-
-pub over_parts : (op : OverOp) (t : ScalarTy) (a b n : ℕ) (flag : Bool) (o u : Option ℕ) → o ≡ Some (num.bits_of t (num.exact op (num.integer_of t a) (num.integer_of t b))) → u ≡ num.exactly t (num.exact op (num.integer_of t a) (num.integer_of t b))
-    → n ≡ unwrap_or o 0 → flag ≡ is_none u → ◌≡◌ {A = ℕ × Bool} (n, flag) (num.over op t a b)
-unfolding num.over num.exactly
-over_parts op t a b n flag o u e f g h =
-    let z : ℤ = num.exact op (num.integer_of t a) (num.integer_of t b) in
-    both n (num.bits_of t z) flag (not (num.fits t z)) (g ∙ ap (λ p. unwrap_or p 0) e) (h ∙ (ap is_none f ∙ two_values (num.fits t z) (num.bits_of t z)))
-  where
-    both : (i j : ℕ) (x y : Bool) → i ≡ j → x ≡ y → ◌≡◌ {A = ℕ × Bool} (i, x) (j, y)
-    both i j x y p q = cc
-
-low_bit : (z : ℤ) → num.modulo 256 z % 2 ≡ num.modulo 2 z
-low_bit (pos n) = omega arith
-low_bit (negsuc n) = omega arith
-
-pub cast_bool : (from to : ScalarTy) (a n m : ℕ) → to ≡ scalar_ty.Bool → n ≡ num.cast from (scalar_ty.Int U8) a → m ≡ num.wrap scalar_ty.Bool n → m ≡ num.cast from to a
-unfolding num.cast num.wrap num.bits_of
-cast_bool from to a n m t e f = f ∙ (ap (λ x. x % 2) e ∙ (low_bit (num.integer_of from a) ∙ ap (λ s. num.cast from s a) (sym t)))
-
 pub first_gone : (h : Here) (m : Memory) (a b : Operand) → read_number h m a ≡ None → read_two h m a b ≡ None
 unfolding read_two
 first_gone h m a b e = bind_gone _ _ e

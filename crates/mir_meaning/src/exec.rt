@@ -3,7 +3,7 @@ ghost use Rattle.mir_syntax.specs.Tree.{trees_of};
 ghost use Rattle.mir_syntax.specs.Crate as typed;
 ghost use Rattle.mir_syntax.specs.Crate.{rvalue_of, stmt_of};
 ghost use Rattle.mir_syntax.specs.Drops.{KnowsDrops};
-ghost use Rattle.mir_syntax.specs.Parts.{has_deref, path_formed, rvalue_whole, stmt_whole};
+ghost use Rattle.mir_syntax.specs.Parts.{path_formed, rvalue_whole, stmt_whole};
 ghost use Rattle.mir_semantics.specs.Step as sem;
 ghost use Rattle.mir_meaning.specs.Programs.{shapes_in, type_in};
 ghost use Rattle.mir_meaning.specs.Views.{value_of, part_of, memory_of};
@@ -16,34 +16,19 @@ use crate::full::full;
 use crate::here::Here;
 use crate::memory::Memory;
 use crate::part::Part;
-use crate::path::split;
 use crate::rvalue::eval;
 use crate::stop::Stop;
 use crate::types::needs_drop;
-use mir_syntax::{Place, Program, Proj, Rvalue, Stmt, TyId};
+use mir_syntax::{Place, Program, Rvalue, Stmt, TyId};
 use std::alloc::Global;
-
-#[tactic(auto, using(mir_syntax::proofs::Parts::deref_other))]
-fn has_deref(path: &[Proj]) -> bool
-    ensures { result ≡ has_deref path.now }
-{
-    let mut path = path;
-    while let Some((first, rest)) = split(path) {
-        if let Proj::Deref = first {
-            return true;
-        }
-        path = rest;
-    }
-    false
-}
 
 /// A place behind a reference, of a type that needs drop, may be written only where nothing was moved out of it.
 #[tactic(auto, using(crate::proofs::Execs::guard_if))]
-pub fn guard(program: &Program, path: &[Proj], ty: TyId) -> Option<TyId>
+pub fn guard(program: &Program, place: &Place, ty: TyId) -> Option<TyId>
     requires { KnowsDrops program.now }
-    ensures { option_map (type_in program.now) result ≡ sem.guard_of (shapes_in program.now) path.now (type_in program.now ty) }
+    ensures { option_map (type_in program.now) result ≡ sem.guard_of (shapes_in program.now) place.now.proj (type_in program.now ty) }
 {
-    let behind = has_deref(path);
+    let behind = place.has_deref();
     let drops = needs_drop(program, ty);
     if behind && drops { Some(ty) } else { None }
 }
@@ -76,7 +61,7 @@ fn assign(
     let Some(ty) = here.type_of(place) else {
         return Err(Stop::Undefined);
     };
-    let guard = guard(here.program, place.proj.as_slice(), ty);
+    let guard = guard(here.program, place, ty);
     if !allows(here.program, guard, old) {
         return Err(Stop::Undefined);
     }

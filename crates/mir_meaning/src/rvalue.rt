@@ -1,12 +1,10 @@
 ghost use Rattle.std.specs.Prelude.{◌≡◌, ℕ, Some, IsTrue, IfOk};
 ghost use Rattle.std.specs.List.{list_all};
-ghost use Rattle.mir_syntax.specs.declared.types.ScalarTy.{ScalarTy};
 ghost use Rattle.mir_syntax.specs.Tree.{trees_of};
 ghost use Rattle.mir_syntax.specs.Crate as typed;
 ghost use Rattle.mir_syntax.specs.Crate.{rvalue_of};
 ghost use Rattle.mir_syntax.specs.Drops.{KnowsDrops};
 ghost use Rattle.mir_syntax.specs.Parts.{path_formed, operand_whole, rvalue_whole};
-ghost use Rattle.mir_num.specs.Numbers as num;
 ghost use Rattle.mir_semantics.specs.Step as sem;
 ghost use Rattle.mir_meaning.specs.Programs.{shapes_in, type_in};
 ghost use Rattle.mir_meaning.specs.Views.{value_of, fields_of, memory_of};
@@ -18,10 +16,8 @@ use crate::here::Here;
 use crate::memory::Memory;
 use crate::operand::{read, read_all, read_number, scalar_of, scalar_ty};
 use crate::stop::Stop;
-use mir_num::{binop, cast, unary, wrap};
-use mir_syntax::{
-    BinOp, IntTy, List, Operand, OutOfMemory, OverOp, Place, Program, Rvalue, ScalarTy, TyId, UnOp,
-};
+use mir_num::{binop, cast_scalar, flag, over_scalar, unary};
+use mir_syntax::{BinOp, List, Operand, OutOfMemory, OverOp, Place, Program, Rvalue, TyId, UnOp};
 use std::alloc::Global;
 
 fn read_two(
@@ -64,36 +60,6 @@ fn binary(
     Ok(Datum::Num(bits))
 }
 
-/// The operator that wraps, and the one that is undefined where the exact result doesn't fit.
-#[tactic(auto, unfolding(mir_num::specs::Numbers::binop, mir_num::specs::Numbers::exact))]
-fn operators(op: OverOp) -> (BinOp, BinOp)
-    ensures wraps { (t : ScalarTy) (a b : ℕ) → num.binop result.0 t a b ≡ Some (num.bits_of t (num.exact op (num.integer_of t a) (num.integer_of t b))) }
-    ensures exact { (t : ScalarTy) (a b : ℕ) → num.binop result.1 t a b ≡ num.exactly t (num.exact op (num.integer_of t a) (num.integer_of t b)) }
-{
-    match op {
-        OverOp::Add => (BinOp::Add, BinOp::AddUnchecked),
-        OverOp::Sub => (BinOp::Sub, BinOp::SubUnchecked),
-        OverOp::Mul => (BinOp::Mul, BinOp::MulUnchecked),
-    }
-}
-
-/// The wrapped result, and whether the exact one doesn't fit; said of `bool` too, of which no valid program asks it.
-fn over(op: OverOp, ty: ScalarTy, a: u128, b: u128) -> (u128, bool)
-    ensures { result ≡ num.over op ty a b }
-{
-    let (wraps, exact) = operators(op);
-    let bits = binop(wraps, ty, a, b).unwrap_or(0);
-    let flag = binop(exact, ty, a, b).is_none();
-    (bits, flag)
-}
-
-#[tactic(auto, unfolding(mir_num::specs::Numbers::flag))]
-fn flag(holds: bool) -> u128
-    ensures { result ≡ num.flag holds }
-{
-    if holds { 1 } else { 0 }
-}
-
 fn pair(alloc: Global, bits: u128, holds: bool) -> Result<Datum, OutOfMemory>
     ensures { IfOk result (λ value. value_of value ≡ sem.pair_of (bits, holds)) }
 {
@@ -120,7 +86,7 @@ fn overflow(
         return Err(Stop::Undefined);
     };
     let (a, b) = read_two(alloc, here, memory, left, right)?;
-    let (bits, holds) = over(op, ty, a, b);
+    let (bits, holds) = over_scalar(op, ty, a, b);
     let value = pair(alloc, bits, holds)?;
     Ok(value)
 }
@@ -143,17 +109,6 @@ fn unary_of(
     Ok(Datum::Num(unary(op, ty, bits)))
 }
 
-/// The same integer in another type; said of `bool` too, to which no valid program casts.
-
-fn cast_bits(from: ScalarTy, to: ScalarTy, bits: u128) -> u128
-    ensures { result ≡ num.cast from to bits }
-{
-    match to {
-        ScalarTy::Int(to) => cast(from, to, bits),
-        ScalarTy::Bool => wrap(ScalarTy::Bool, cast(from, IntTy::U8, bits)),
-    }
-}
-
 fn cast_of(
     alloc: Global,
     here: Here<'_>,
@@ -172,7 +127,7 @@ fn cast_of(
         return Err(Stop::Undefined);
     };
     let bits = read_number(alloc, here, memory, operand)?;
-    Ok(Datum::Num(cast_bits(from, into, bits)))
+    Ok(Datum::Num(cast_scalar(from, into, bits)))
 }
 
 fn reference(alloc: Global, here: Here<'_>, memory: &Memory, place: &Place) -> Result<Datum, Stop>

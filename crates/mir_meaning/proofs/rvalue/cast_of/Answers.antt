@@ -20,4 +20,4 @@ returns-in_err-bits c = stopped c.in_err-bits.field-0.0 c.read_number.result c.f
 pub returns : goal.returns
 returns c =
     cast_some (here_of c.args.here) (memory_of c.args.memory.now) (memory_of c.read_number.new.memory) c.args.operand.now (type_in c.args.here.program.now c.args.to) c.in-Some.from c.in-Some-scalar_of.into c.in_ok-bits.bits (sym c.in-Some.ensures) (sym c.in-Some-scalar_of.ensures) c.in_ok-bits.ensures
-    ∙ same_seen _ _ _ (sym (ap value_of (ap Num c.cast_bits.ensures) ∙ view_num _))
+    ∙ same_seen _ _ _ (sym (ap value_of (ap Num c.cast_scalar.ensures) ∙ view_num _))

@@ -15,4 +15,4 @@ returns-in_err-a c = stopped c.in_err-a.field-0.0 c.read_two.result c.from_resid
 pub returns : goal.returns
 returns c =
     overflow_some (here_of c.args.here) (memory_of c.args.memory.now) (memory_of c.read_two.new.memory) c.args.op c.args.left.now c.args.right.now c.in-Some.ty c.in_ok-a.a c.in_ok-a.b (sym c.in-Some.ensures) c.in_ok-a.ensures
-    ∙ same_seen _ _ _ (ap pair_of (sym c.over-bits.ensures) ∙ sym c.in_ok-value.ensures)
+    ∙ same_seen _ _ _ (ap pair_of (sym c.over_scalar-bits.ensures) ∙ sym c.in_ok-value.ensures)
