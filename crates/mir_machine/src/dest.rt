@@ -30,7 +30,7 @@ pub fn dest_of(alloc: Global, here: Here<'_>, memory: &Memory, place: &Place) ->
         return Err(Stop::Undefined);
     };
     let at = spot.pointer(alloc)?;
-    let guard = guard(here.program, place.proj.as_slice(), ty);
+    let guard = guard(here.program, place, ty);
     Ok(Dest { at, guard })
 }
 

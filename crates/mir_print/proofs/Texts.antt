@@ -410,10 +410,6 @@ pub name_scalar : (c : Crate) (t : Tree) (k : ℕ) → t ≡ scalar scalar_ty.Bo
 unfolding variant_name
 name_scalar c t k h = rw h refl
 
--- an id that isn't in the table
-pub past_id : (types : List ty_of_table.Ty) (id : TyId) → length types ≤ id.0 → at_id (trees_of types) id ≡ scalar scalar_ty.Bool
-past_id types id past = get_or_past (trees_of types) id.0 (scalar scalar_ty.Bool) (omega (arith, length-trees_of types, past))
-
 -- whether anything stands before the functions
 none_stand : (trees : List Tree) (ds : List Def) (os : List Outside) (b : Bool) → length ds ≡ 0 → (length os == 0) ≡ b → not b ≡ others_stand (map (def_of trees) ds) (map (outside_of trees) os)
 none_stand trees [] [] b e h = ap not (sym h)

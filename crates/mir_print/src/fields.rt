@@ -8,7 +8,7 @@ ghost use Rattle.mir_text.specs.PlaceText.{type_after, variant_name};
 ghost use Rattle.mir_print.specs.Seen.{crate_in};
 ghost use Rattle.mir_print.specs.Parts.{part_tree};
 
-use mir_syntax::{Field, Program, Proj, Ty, TyId, Variant};
+use mir_syntax::{Field, Program, Proj, Ty, TyId, Variant, field_at};
 
 /// What stands at a place: a value of a type, or behind a downcast the fields of a variant. Where a projection doesn't fit stand no fields.
 #[derive(Clone, Copy, Drop)]
@@ -17,82 +17,12 @@ pub enum Part<'a> {
     Fields(&'a [Field]),
 }
 
-fn field_at(fields: &[Field], index: u32) -> Option<TyId>
-    ensures { result ≡ option_map field_id (slice_get fields.now index) }
-{
-    Some(fields.get(index as usize)?.ty)
-}
-
-// The type of an id; an id that is not in the table has none.
-fn ty_at(program: &Program, id: TyId) -> Option<&Ty>
-    ensures { MatchOption result
-        (at_id (trees_of program.now.types) id ≡ scalar scalar_ty.Bool)
-        (λ ty. at_id (trees_of program.now.types) id ≡ node (trees_of program.now.types) ty.now) }
-{
-    if id.0 < program.types() {
-        Some(program.ty(id))
-    } else {
-        None
-    }
-}
-
-// The fields of a struct; an enum has none of its own.
-fn struct_fields(program: &Program, def: u32) -> Option<&[Field]>
-    ensures { option_map (fields_tree (trees_of program.now.types)) (option_copied result) ≡ fields_of (shapes_of (crate_in program.now)) (named def) }
-{
-    let def = program.defs.get(def as usize)?;
-    if def.is_enum {
-        return None;
-    }
-    match def.variants.get(0) {
-        Some(variant) => Some(variant.fields.as_slice()),
-        None => Some(&[]),
-    }
-}
-
-// The fields of a variant of an enum.
-fn variant_fields(program: &Program, id: TyId, variant: u32) -> Option<&[Field]>
-    ensures { option_map (fields_tree (trees_of program.now.types)) (option_copied result) ≡ variant_ty (shapes_of (crate_in program.now)) (at_id (trees_of program.now.types) id) variant }
-{
-    let Ty::Named(def) = ty_at(program, id)? else {
-        return None;
-    };
-    let def = program.defs.get(*def as usize)?;
-    if !def.is_enum {
-        return None;
-    }
-    let variant = def.variants.get(variant as usize)?;
-    Some(variant.fields.as_slice())
-}
-
-// The type of a field of a tuple or a struct.
-fn field_ty(program: &Program, id: TyId, index: u32) -> Option<TyId>
-    ensures { option_map (at_id (trees_of program.now.types)) result ≡ proj_ty (shapes_of (crate_in program.now)) (at_id (trees_of program.now.types) id) (proj_variant.Field index) }
-{
-    match ty_at(program, id)? {
-        Ty::Tuple(ids) => ids.get(index as usize).copied(),
-        Ty::Named(def) => field_at(struct_fields(program, *def)?, index),
-        _ => None,
-    }
-}
-
-// What a reference points to.
-fn pointee(program: &Program, id: TyId) -> Option<TyId>
-    ensures { option_map (at_id (trees_of program.now.types)) result ≡ proj_ty (shapes_of (crate_in program.now)) (at_id (trees_of program.now.types) id) proj_variant.Deref }
-{
-    match ty_at(program, id)? {
-        Ty::Ref(id) => Some(*id),
-        Ty::RefMut(id) => Some(*id),
-        _ => None,
-    }
-}
-
 /// The type of a field of a part.
 pub fn part_field(program: &Program, part: Part, index: u32) -> Option<TyId>
     ensures { option_map (at_id (trees_of program.now.types)) result ≡ proj_ty (shapes_of (crate_in program.now)) (part_tree (trees_of program.now.types) part.entry) (proj_variant.Field index) }
 {
     match part {
-        Part::Ty(id) => field_ty(program, id, index),
+        Part::Ty(id) => program.field_ty(id, index),
         Part::Fields(fields) => field_at(fields, index),
     }
 }
@@ -114,7 +44,7 @@ fn after_deref<'a>(program: &'a Program, part: Part<'a>) -> Part<'a>
     let Part::Ty(id) = part else {
         return Part::Fields(&[]);
     };
-    match pointee(program, id) {
+    match program.pointee(id) {
         Some(id) => Part::Ty(id),
         None => Part::Fields(&[]),
     }
@@ -127,7 +57,7 @@ fn after_downcast<'a>(program: &'a Program, part: Part<'a>, variant: u32) -> Par
     let Part::Ty(id) = part else {
         return Part::Fields(&[]);
     };
-    match variant_fields(program, id, variant) {
+    match program.variant_fields(id, variant) {
         Some(fields) => Part::Fields(fields),
         None => Part::Fields(&[]),
     }
@@ -150,7 +80,7 @@ fn variant_at(program: &Program, id: TyId, variant: u32) -> Option<&Variant>
         (variant_name (crate_in program.now) (at_id (trees_of program.now.types) id) variant ≡ [])
         (λ v. variant_name (crate_in program.now) (at_id (trees_of program.now.types) id) variant ≡ v.now.name) }
 {
-    let Ty::Named(def) = ty_at(program, id)? else {
+    let Ty::Named(def) = program.ty_at(id)? else {
         return None;
     };
     program

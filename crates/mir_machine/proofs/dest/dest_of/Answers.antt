@@ -1,6 +1,5 @@
 use Rattle.std.proofs.Common.{◌∙◌, sym, ap}
-use Rattle.mir_semantics.specs.Step.{guard_of}
-use Rattle.mir_meaning.specs.Programs.{shapes_in, type_in}
+use Rattle.mir_meaning.specs.Programs.{type_in}
 use Rattle.mir_meaning.specs.Spots.{spot_of}
 use Rattle.mir_meaning.specs.Views.{memory_of}
 use Rattle.mir_meaning.specs.Sight.{here_of}
@@ -17,4 +16,4 @@ returns-in_default-type_of c = dest_untyped (here_of c.args.here) (memory_of c.a
 pub returns : goal.returns
 returns c =
     dest_found (here_of c.args.here) (memory_of c.args.memory.now) c.args.place.now (spot_of c.in-Some.spot) (type_in c.args.here.program.now c.in-Some-type_of.ty) c.in-Some.ensures.place (sym c.in-Some-type_of.ensures)
-    ∙ dest_same _ _ _ _ (sym c.in_ok-at.ensures) (sym (c.guard-guard.ensures ∙ ap (λ ps. guard_of (shapes_in c.args.here.program.now) ps (type_in c.args.here.program.now c.in-Some-type_of.ty)) c.as_slice.ensures))
+    ∙ dest_same _ _ _ _ (sym c.in_ok-at.ensures) (sym c.guard-guard.ensures)
