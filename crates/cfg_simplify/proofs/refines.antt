@@ -1,5 +1,5 @@
 pub mod Jumps
-pub mod Frames
+pub mod Mirrored
 pub mod Jumped
 pub mod Hops
 pub mod Hopped

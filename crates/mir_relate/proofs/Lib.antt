@@ -14,6 +14,11 @@ pub mod Others
 pub mod BodyLaw
 pub mod Near
 pub mod Single
+pub mod SameLocals
+pub mod Numbered
+pub mod Running
+pub mod Mirror
+pub mod MirrorSteps
 pub mod Itself
 pub mod Living
 pub mod Mild

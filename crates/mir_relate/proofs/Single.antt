@@ -24,6 +24,26 @@ use Rattle.mir_relate.proofs.Leaves.{some_val}
 use Rattle.mir_relate.proofs.Opens.{opened_at, opened_parts}
 use Rattle.mir_relate.proofs.Stacks.{knows_all, below_kept}
 
+-- a frame that is new on both sides: its other locals aren't lent, and nothing else is lent to the target's frame
+module _ (j : Renaming) (k2 k1 : ℕ) (B : ℕ → Option ℕ) (fresh1 : (x : ℕ) → j k1 x ≡ None) (fresh2 : (h x g y : ℕ) → j h x ≡ Some (g, y) → g < k2) where
+  pub opened_none : (x : ℕ) → B x ≡ None → opened j k2 k1 B k1 x ≡ None
+  opened_none x e = go (opened j k2 k1 B k1 x) refl
+    where
+      go : (o : Option (ℕ × ℕ)) → opened j k2 k1 B k1 x ≡ o → opened j k2 k1 B k1 x ≡ None
+      go None q = q
+      go (Some (g, y)) q = none_of (opened_parts j k2 k1 B fresh1 fresh2 k1 x g y q)
+        where
+          none_of : ((k1 ≡ k1) × (g ≡ k2) × (B x ≡ Some y)) ⊎ ((k1 ≡ k1 → ⊥) × (j k1 x ≡ Some (g, y))) → opened j k2 k1 B k1 x ≡ None
+          none_of (inl p) = absurd (let z : None ≡ Some y = sym e ∙ p.2 in grind arith)
+          none_of (inr p) = absurd (p.0 refl)
+
+  pub opened_only : (h x y : ℕ) → opened j k2 k1 B h x ≡ Some (k2, y) → (h ≡ k1) × (B x ≡ Some y)
+  opened_only h x y e = go (opened_parts j k2 k1 B fresh1 fresh2 h x k2 y e)
+    where
+      go : ((h ≡ k1) × (◌≡◌ {A = ℕ} k2 k2) × (B x ≡ Some y)) ⊎ ((k1 ≡ h → ⊥) × (j h x ≡ Some (k2, y))) → (h ≡ k1) × (B x ≡ Some y)
+      go (inl p) = (p.0, p.2)
+      go (inr p) = (let lt = fresh2 h x k2 y p.1 in absurd (omega (arith, lt)))
+
 -- B: the local that stands for a lent one; Here: how far both are in their blocks
 module _ (f : ℕ) (B : ℕ → Option ℕ) (Here : ℕ → Control → Control → Type 0) where
   pub record Stand (n : ℕ) (j : Renaming) (c2 c1 : Control) : Type 0 where
@@ -69,26 +89,10 @@ module _ (f : ℕ) (B : ℕ → Option ℕ) (Here : ℕ → Control → Control 
     block = refl;
     calm = refl;
     roots = opened_at j k2 k1 B fresh1 fresh2;
-    none = λ x e. gone x e;
-    only = λ i x y e. only i x y (opened_parts j k2 k1 B fresh1 fresh2 i x k2 y e);
+    none = opened_none j k2 k1 B fresh1 fresh2;
+    only = opened_only j k2 k1 B fresh1 fresh2;
     here = h;
   }
-    where
-      only : (i x y : ℕ) → ((i ≡ k1) × (◌≡◌ {A = ℕ} k2 k2) × (B x ≡ Some y)) ⊎ ((k1 ≡ i → ⊥) × (j i x ≡ Some (k2, y))) → (i ≡ k1) × (B x ≡ Some y)
-      only i x y (inl p) = (p.0, p.2)
-      only i x y (inr p) = (let lt = fresh2 i x k2 y p.1 in absurd (omega (arith, lt)))
-
-      gone : (x : ℕ) → B x ≡ None → opened j k2 k1 B k1 x ≡ None
-      gone x e = go (opened j k2 k1 B k1 x) refl
-        where
-          go : (o : Option (ℕ × ℕ)) → opened j k2 k1 B k1 x ≡ o → opened j k2 k1 B k1 x ≡ None
-          go None q = q
-          go (Some (g, y)) q = none_of (opened_parts j k2 k1 B fresh1 fresh2 k1 x g y q)
-            where
-              none_of : ((k1 ≡ k1) × (g ≡ k2) × (B x ≡ Some y)) ⊎ ((k1 ≡ k1 → ⊥) × (j k1 x ≡ Some (g, y))) → opened j k2 k1 B k1 x ≡ None
-              none_of (inl p) = absurd (let z : None ≡ Some y = sym e ∙ p.2 in grind arith)
-              none_of (inr p) = absurd (p.0 refl)
-
 -- another function has returned to a frame that waited, and its result is written
 pub back_core : (X : Change) (P : Pass) (V : Valids X) (Inv : State → Type 0) → KeptLaw X P → (n : ℕ) (s2 s1 : State) (r : Related X P V Inv n s2 s1) (m2 m1 m2' m1' : Memory) (c2 c1 : Control) (ds cs2 : List Control) → KnowsAll X r.typed1.types ds → Below X P r.core.lent c2.dest c1.dest c2.frame c1.frame cs2 ds m2 m1 → c1.frame < s1.top.frame → c2.frame < s2.top.frame → Linked r.core.lent r.core.lent m2' m1' → Leaves X.source.shapes r.typed1.types r.core.lent r.core.lent c2.frame c1.frame m2' m1' m2 m1 → Gentle X.source.shapes r.typed1.types c1.frame m1' m1 → (n' : ℕ) → P.own n' r.core.lent c2 c1 [] m2' m1' → Core X P n' (record s2 { memory = m2'; top = c2; callers = cs2 }) (record s1 { memory = m1'; top = c1; callers = ds })
 back_core X P V Inv kept n s2 s1 r m2 m1 m2' m1' c2 c1 ds cs2 ks be l1 l2 l lv ge n' o =

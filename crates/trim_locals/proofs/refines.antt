@@ -1,3 +1,3 @@
 pub mod Slots
-pub mod Steps
+pub mod Mirrored
 pub mod Refined

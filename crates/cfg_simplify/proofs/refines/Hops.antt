@@ -3,7 +3,8 @@ use Rattle.std.proofs.Common.{◌≡◌, ◌⊎◌, inl, inr, refl, sym, ap, ◌
 use Rattle.mir_syntax.specs.declared.body.Term.TheVariants.{Goto}
 use Rattle.mir_syntax.specs.Crate.{TypedBody, TypedBlock, TypedStmt}
 use Rattle.mir_relate.proofs.Leaves.{some_val}
-use Rattle.cfg_simplify.proofs.refines.Jumps.{SameTerm, same_term_map, To, Meets, BodyJumps}
+use Rattle.mir_relate.proofs.Mirror.{To}
+use Rattle.cfg_simplify.proofs.refines.Jumps.{SameTerm, same_term_map, Meets, BodyJumps}
 
 -- a chain of so many blocks without statements, each of which goes to the next, leads from one block to another
 abbrev pub Chain : TypedBody → ℕ → ℕ → ℕ → Type 0

@@ -10,13 +10,15 @@ use Rattle.cfg_simplify.proofs.refines.Jumps.{BodyJumps}
 use Rattle.valid_runs.proofs.Codes.{valid_code}
 use Rattle.valid_runs.proofs.Shown.{step_flat, step_known}
 use Rattle.mir_relate.proofs.Replaced.{change, valids, Runs, replaced}
-use Rattle.cfg_simplify.proofs.refines.Frames.{pass, laws}
+use Rattle.mir_relate.proofs.Mirror.{Positions, pass}
+use Rattle.mir_relate.proofs.MirrorSteps.{laws}
+use Rattle.cfg_simplify.proofs.refines.Mirrored.{mirrors}
 
-pub jumped_refines : (C : Crate) → Valid C → (f : ℕ) (g : TypedFunction) → slice_get C.functions f ≡ Some g → (b : TypedBody) → b.args ≡ g.body.args → b.locals ≡ g.body.locals → (Place : ℕ → ℕ → ℕ → ℕ → ℕ → Type 0) → BodyJumps b g.body Place → Valid (at_function C f g b) → Refines (at_function C f g b) C
+pub jumped_refines : (C : Crate) → Valid C → (f : ℕ) (g : TypedFunction) → slice_get C.functions f ≡ Some g → (b : TypedBody) → b.args ≡ g.body.args → b.locals ≡ g.body.locals → (Place : Positions) → BodyJumps b g.body Place → Valid (at_function C f g b) → Refines (at_function C f g b) C
 jumped_refines C valid f g there b args locals Place jumps valid2 =
     let alike : Alike (with_body g b) g = record { is_drop = refl; args = args; start = ap (λ ts. take (suc g.body.args) ts) locals } in
     let X = change C valid f g there b alike valid2 in
     let V = valids C valid f g there b alike valid2 in
     let apart = apart_in C valid in
-    replaced C valid f g there b alike valid2 (pass X locals Place jumps)
-    (laws X locals Place jumps V (Runs C valid f g there b alike valid2) (step_known (code_of C) apart (valid_code C valid)) (λ s x i e. step_flat (code_of C) apart (valid_code C valid) s x i e))
+    replaced C valid f g there b alike valid2 (pass X Some Place)
+    (laws (mirrors X locals Place jumps) V (Runs C valid f g there b alike valid2) (step_known (code_of C) apart (valid_code C valid)) (λ s x i e. step_flat (code_of C) apart (valid_code C valid) s x i e))

@@ -5,6 +5,7 @@ use Rattle.mir_syntax.specs.declared.body.Term.{Term}
 use Rattle.mir_syntax.specs.declared.body.Term.TheVariants.{Goto, Switch, Return, Unreachable, Drop, Call, Assert}
 use Rattle.mir_syntax.specs.Crate.{TypedBody, TypedBlock, TypedStmt}
 use Rattle.mir_semantics.specs.Step.{take_arm}
+use Rattle.mir_relate.proofs.Mirror.{Positions, To}
 
 -- the same terminator, with targets that stand for each other
 abbrev pub SameTerm : (ℕ → ℕ → Type 0) → Term → Term → Type 0
@@ -28,23 +29,15 @@ same_term_map P Q f (Call p2 g2 os2 t2) (Call p1 g1 os1 t1) h = (h.0, h.1, h.2, 
 same_term_map P Q f (Assert o2 e2 x2 os2 t2) (Assert o1 e1 x1 os1 t1) h = (h.0, h.1, h.2, h.3, f t2 t1 h.4)
 same_term_map P Q f u t h = absurd h
 
--- a place of the target's body stands for one of the source's: number, block and place in it of the target, and of the source
-abbrev pub Standing : Type 1
-Standing = ℕ → ℕ → ℕ → ℕ → ℕ → Type 0
-
--- the start of a block stands for the start of another
-abbrev pub To : Standing → ℕ → ℕ → Type 0
-To Place t2 t1 = (n : ℕ) × Place n t2 0 t1 0
-
 -- at a statement of the source the target has the same one; at its terminator the same one too, or the source's is a goto to a block for whose
 -- start the target's place stands already, at a smaller number
-abbrev pub Meets : Standing → ℕ → TypedBody → ℕ → ℕ → ℕ → ℕ → Term → Option TypedStmt → Type 0
+abbrev pub Meets : Positions → ℕ → TypedBody → ℕ → ℕ → ℕ → ℕ → Term → Option TypedStmt → Type 0
 Meets Place n b2 i2 a2 i1 a1 t1 (Some x) = (k2 : TypedBlock) × (n' : ℕ) × (slice_get b2.blocks i2 ≡ Some k2) × (slice_get k2.stmts a2 ≡ Some x) × Place n' i2 (suc a2) i1 (suc a1)
 Meets Place n b2 i2 a2 i1 a1 t1 None =
     ((u n' : ℕ) × (t1 ≡ Goto u) × Place n' i2 a2 u 0 × (n' < n))
     ⊎ ((k2 : TypedBlock) × (slice_get b2.blocks i2 ≡ Some k2) × (slice_get k2.stmts a2 ≡ None) × SameTerm (To Place) k2.term t1)
 
 -- the target's body has the source's statements under other jumps
-pub record BodyJumps (target source : TypedBody) (Place : ℕ → ℕ → ℕ → ℕ → ℕ → Type 0) : Type 0 where
+pub record BodyJumps (target source : TypedBody) (Place : Positions) : Type 0 where
   pub starts : To Place 0 0
   pub meets : (n i2 a2 i1 a1 : ℕ) → Place n i2 a2 i1 a1 → (k1 : TypedBlock) → slice_get source.blocks i1 ≡ Some k1 → Meets Place n target i2 a2 i1 a1 k1.term (slice_get k1.stmts a1)

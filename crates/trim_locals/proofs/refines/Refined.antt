@@ -10,12 +10,14 @@ use Rattle.mir_semantics.specs.Step.{code_of}
 use Rattle.mir_semantics.specs.Refines.{Refines}
 use Rattle.valid_runs.proofs.Codes.{valid_code}
 use Rattle.valid_runs.proofs.Shown.{step_flat, step_known}
+use Rattle.mir_relate.proofs.Mirror.{pass}
+use Rattle.mir_relate.proofs.MirrorSteps.{laws}
 use Rattle.mir_relate.proofs.Replaced.{change, valids, Runs, replaced}
 use Rattle.trim_locals.specs.Trimmed.{used_marks, trimmed}
 use Rattle.trim_locals.proofs.Numbers.{ahead, ahead_behind}
 use Rattle.trim_locals.proofs.Renumbered.{trimmed_same, start_stays}
 use Rattle.trim_locals.proofs.valid.Stays.{trimmed_valid}
-use Rattle.trim_locals.proofs.refines.Steps.{pass, laws}
+use Rattle.trim_locals.proofs.refines.Mirrored.{InBlock, mirrors}
 
 pub trimmed_refines : (C : Crate) → Valid C → (f : ℕ) (g : TypedFunction) → slice_get C.functions f ≡ Some g → Refines (at_function C f g (trimmed g.body)) C
 trimmed_refines C valid f g there =
@@ -28,8 +30,8 @@ trimmed_refines C valid f g there =
     let X = change C valid f g there (trimmed g.body) alike valid2 in
     let V = valids C valid f g there (trimmed g.body) alike valid2 in
     let apart = apart_in C valid in
-    replaced C valid f g there (trimmed g.body) alike valid2 (pass X (ahead marks) once same)
-    (laws X (ahead marks) once same V (Runs C valid f g there (trimmed g.body) alike valid2) (step_known (code_of C) apart (valid_code C valid)) (λ s x i e. step_flat (code_of C) apart (valid_code C valid) s x i e))
+    replaced C valid f g there (trimmed g.body) alike valid2 (pass X (ahead marks) (InBlock X (ahead marks) same))
+    (laws (mirrors X (ahead marks) same once) V (Runs C valid f g there (trimmed g.body) alike valid2) (step_known (code_of C) apart (valid_code C valid)) (λ s x i e. step_flat (code_of C) apart (valid_code C valid) s x i e))
 
 pub trimmed_refines_in_place : (C : Crate) (f : ℕ) (b : TypedBody) (v : ValidAt C f b) → Refines (at_function C f v.function (trimmed b)) (at_function C f v.function b)
 trimmed_refines_in_place C f b v =
