@@ -35,7 +35,7 @@ use Rattle.mir_relate.proofs.Kept as kept
 use Rattle.mir_relate.proofs.Leaves.{some_val, leaves_less, leaves_source}
 use Rattle.mir_relate.proofs.Mild.{gentle_none, gentle_above, gentle_on}
 use Rattle.mir_relate.proofs.Mirror as mirror
-use Rattle.mir_relate.proofs.Mirror.{Positions, To, TermAs, Meets, Mirrors, pass}
+use Rattle.mir_relate.proofs.Mirror.{Positions, To, TermAs, Meets, Mirrors, Dropped, pass}
 use Rattle.mir_relate.proofs.Near as near
 use Rattle.mir_relate.proofs.Numbered as numbered
 use Rattle.mir_relate.proofs.Numbered.{Homes, sub_self}
@@ -67,9 +67,6 @@ module _ {X : Change} {B : ℕ → Option ℕ} {At : Positions} (same : Mirrors 
 
   abbrev Standing : ℕ → Renaming → Control → Control → Type 0
   Standing = mirror.Stand X B At
-
-  abbrev Dropped : Renaming → Option Dropping → Option Dropping → Type 0
-  Dropped = mirror.Dropped X B At
 
   frames : FrameLaws X P V Inv
   frames = mirror.frames X B At V Inv same
@@ -180,7 +177,7 @@ module _ {X : Change} {B : ℕ → Option ℕ} {At : Positions} (same : Mirrors 
     likewise (Drop p u1) u h nd mo ty = absurd (both_ways true nd refl)
     likewise t u h nd mo ty = absurd h
 
-    begins_drop : (p q : Place) (u1 u2 : ℕ) (o1 o2 : Option Dropping) (d : Dropping) → PlaceSame (Homes B) p q → To At u2 u1 → s1.top.dropping ≡ o1 → Dropped j o1 o2 → begun H1 s1 p u1 o1 ≡ Some d → (e : Dropping) × (begun S.target s2 q u2 o2 ≡ Some e) × Visiting j d e × To At e.target d.target × AddrTy D G d.place.addr d.place.ty × VisitsTy X.source V.valid1 G d.items
+    begins_drop : (p q : Place) (u1 u2 : ℕ) (o1 o2 : Option Dropping) (d : Dropping) → PlaceSame (Homes B) p q → To At u2 u1 → s1.top.dropping ≡ o1 → Dropped X B At j o1 o2 → begun H1 s1 p u1 o1 ≡ Some d → (e : Dropping) × (begun S.target s2 q u2 o2 ≡ Some e) × Visiting j d e × To At e.target d.target × AddrTy D G d.place.addr d.place.ty × VisitsTy X.source V.valid1 G d.items
     unfolding begun
     begins_drop p q u1 u2 (Some d') (Some e') d hp hu p1 dr z =
         let is : d' ≡ d = some_val z in
@@ -276,7 +273,7 @@ module _ {X : Change} {B : ℕ → Option ℕ} {At : Positions} (same : Mirrors 
     -- ---- a step
 
     -- a goto of the source alone
-    goto_step : (u n' : ℕ) (x : Next) → At n' s2.top.block s2.top.at u 0 → n' < n → finish X.source H1 s1 (Goto u) ≡ Some x → Dropped j None s2.top.dropping → Answers X P n s2 x
+    goto_step : (u n' : ℕ) (x : Next) → At n' s2.top.block s2.top.at u 0 → n' < n → finish X.source H1 s1 (Goto u) ≡ Some x → Dropped X B At j None s2.top.dropping → Answers X P n s2 x
     unfolding finish
     goto_step u n' x h lt e none =
         let st' = mirror.moved X B At n n' j s2.top s1.top s2.top (to_block u s1.top) refl refl refl refl none (mirror.calm X B At (to_block u s1.top) refl) h st in
@@ -292,7 +289,7 @@ module _ {X : Change} {B : ℕ → Option ℕ} {At : Positions} (same : Mirrors 
 
     -- what its block tells of the place where the source stands
     module _ (k1 : TypedBlock) (i1 : slice_get X.body1.blocks s1.top.block ≡ Some k1) where
-      only_goto : (u : ℕ) → k1.term ≡ Goto u → (o1 : Option Dropping) → s1.top.dropping ≡ o1 → Dropped j o1 s2.top.dropping → Dropped j None s2.top.dropping
+      only_goto : (u : ℕ) → k1.term ≡ Goto u → (o1 : Option Dropping) → s1.top.dropping ≡ o1 → Dropped X B At j o1 s2.top.dropping → Dropped X B At j None s2.top.dropping
       only_goto u t None z h = h
       only_goto u t (Some d) z h = absurd (both_ways (is_drop k1.term) (ap is_drop t) (st.busy d z k1 i1).0)
 

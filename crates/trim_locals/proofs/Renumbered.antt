@@ -12,6 +12,7 @@ use Rattle.mir_syntax.specs.Tree.{Tree}
 use Rattle.mir_syntax.specs.Crate.{TypedRvalue, «use», binary, overflow, unary, cast, discriminant, tuple, build, TypedStmt, assign, storage_live, storage_dead, set_discriminant, TypedBlock, TypedBody, Crate}
 use Rattle.mir_syntax.specs.Crate as rvalue
 use Rattle.mir_syntax.proofs.Lists.{map_there}
+use Rattle.mir_syntax.proofs.Members.{has_first as first, has_later as later, has_none as none}
 use Rattle.mir_syntax.specs.Parts.{operand_places, rvalue_operands, rvalue_places, term_operands, term_places, targets}
 use Rattle.mir_rules.specs.Formed.{place_formed, operand_formed, shape_formed, call_formed, block_there, stmt_formed, term_formed, body_formed}
 use Rattle.mir_rules.proofs.Lists.{and_true-left, and_true-right}
@@ -39,17 +40,6 @@ pub record BodySame (B : ℕ → Option ℕ) (b2 b1 : TypedBody) : Type 0 where
   pub some1 : NonEmpty b1.locals
   pub some2 : NonEmpty b2.locals
   pub blocks : (i : ℕ) (k1 : TypedBlock) → slice_get b1.blocks i ≡ Some k1 → (k2 : TypedBlock) × (slice_get b2.blocks i ≡ Some k2) × StmtsSame (λ x y. B x ≡ Some y) k1.stmts k2.stmts × TermSame (λ x y. B x ≡ Some y) k1.term k2.term
-
--- ---- lists
-
-first : (y : ℕ) (ys : List ℕ) → Contains (y ∷ ys) y
-first y ys = (0, omega arith, refl)
-
-later : (y x : ℕ) (ys : List ℕ) → Contains ys x → Contains (y ∷ ys) x
-later y x ys h = Contains-append_right (y ∷ []) ys x h
-
-none : (x : ℕ) → Contains [] x → ⊥
-none x h = let l = h.1 in omega (arith, l)
 
 -- ---- text whose locals have numbers
 

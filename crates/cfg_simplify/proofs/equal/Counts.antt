@@ -14,7 +14,8 @@ use Rattle.mir_cfg.specs.Paths.{exits, Closed, is_reached, block_term}
 use Rattle.cfg_simplify.specs.Edges.{goto_block}
 use Rattle.cfg_simplify.specs.Simple.{numbers, incoming, joins_to, only_if, joined}
 use Rattle.cfg_simplify.specs.Code.{at, one_more, counted, joins_by}
-use Rattle.cfg_simplify.proofs.equal.Lists.{same_tests, numbers_push}
+use Rattle.mir_syntax.proofs.Bools.{same_tests}
+use Rattle.cfg_simplify.proofs.equal.Lists.{numbers_push}
 use Rattle.cfg_simplify.proofs.equal.Terms.{block-closed}
 
 -- ---- counting a list of ends

@@ -1,4 +1,4 @@
--- Laws of tests, of lists, of `numbers`, and of walks.
+-- Laws of lists, of `numbers`, and of walks.
 use Rattle.std.proofs.Common.{◌≡◌, ℕ, zero, suc, ◌+◌, ◌-◌, ◌<◌, Bool, true, false, List, [], ◌∷◌, ◌++◌, map, length, get_or, set, take, drop, refl, sym, ap, ◌∙◌, arith, zero-add}
 use Rattle.std.specs.List.{All}
 use Rattle.std.proofs.lemmas.List.{map-id, length-map, length-append, length-take, length-drop, get_or_append_left, get_or-append_right, get_or-drop, get_or_default}
@@ -8,11 +8,6 @@ use Rattle.std.proofs.lemmas.List.FromFn.{map-range_with_len_more, get_or-map-ra
 use Rattle.std.proofs.lemmas.Simd.{map-map}
 use Rattle.cfg_simplify.specs.Simple.{numbers, walk}
 use Rattle.cfg_simplify.specs.Code.{at}
-
-pub same_tests : (a b : Bool) → (a ≡ true → b ≡ true) → (b ≡ true → a ≡ true) → a ≡ b
-same_tests true b f g = sym (f refl)
-same_tests false true f g = g refl
-same_tests false false f g = refl
 
 -- ---- lists from numbers
 

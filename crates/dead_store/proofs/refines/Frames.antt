@@ -21,7 +21,6 @@ use Rattle.liveness.specs.Live.{Live}
 use Rattle.dead_store.specs.Pruned.{is_useless, without, pruned_once}
 use Rattle.mir_renaming.proofs.Stores.{pair_parts, store_split, store_made}
 use Rattle.dead_store.proofs.refines.Reads.{nil_is}
-use Rattle.mir_renaming.proofs.Slots.{slots_rel, value_in}
 use Rattle.mir_relate.specs.Alike.{Same}
 use Rattle.mir_relate.specs.Leaves.{Leaves}
 use Rattle.mir_relate.specs.Frames.{Change, Pass, lowest, DestsRel, opened, Below}
@@ -31,6 +30,7 @@ use Rattle.mir_relate.proofs.Opens.{opened_up}
 use Rattle.mir_relate.proofs.Stacks.{dests_up}
 use Rattle.mir_relate.proofs.Near as near
 use Rattle.mir_relate.proofs.Mild.{gentle_on}
+use Rattle.mir_relate.proofs.SameLocals.{slots_same}
 use Rattle.mir_relate.proofs.Single.{Stand, stand_kept, stand_begins, back_core, knows_waiting}
 use Rattle.mir_relate.proofs.Living.{Holds, Placed, nobody, holds_kept, own_linked, own_leaves, own_holds}
 
@@ -197,9 +197,6 @@ module _ (X : Change) (once : X.body2 ≡ pruned_once X.source.shapes X.body1) w
 
   -- ---- a call
 
-  pub slots_same : (j : Renaming) (vs ws : List Value) → ValuesRel j vs ws → (x : ℕ) (v : Value) → slice_get (new_slots D X.body1.locals vs) x ≡ Some v → SomeRel j v (slice_get (new_slots D X.body2.locals ws) x)
-  slots_same j vs ws h x v e = subst (λ ts. SomeRel j v (slice_get (new_slots D ts ws) x)) (sym same_locals) (value_in j (new_slots D X.body1.locals vs) (new_slots D X.body1.locals ws) x v (slots_rel j D X.body1.locals vs ws h) e)
-
   -- all lives at the start
   pub begins : (j : Renaming) (k2 k1 : ℕ) (d2 d1 : Option Dest) (m2 m1 : Memory) (vs ws : List Value) → ValuesRel j vs ws → ((x : ℕ) → j k1 x ≡ None) → ((h x g y : ℕ) → j h x ≡ Some (g, y) → g < k2) → (n : ℕ) × Standing n (opened j k2 k1 place) (new_control X.f k2 d2) (new_control X.f k1 d1) × Lives (opened j k2 k1 place) (new_control X.f k2 d2) (new_control X.f k1 d1) (open_frame m2 k2 (new_slots D X.body2.locals ws)) (open_frame m1 k1 (new_slots D X.body1.locals vs))
   begins j k2 k1 d2 d1 m2 m1 vs ws hv fresh1 fresh2 =
@@ -208,7 +205,7 @@ module _ (X : Change) (once : X.body2 ≡ pruned_once X.source.shapes X.body1) w
     where
       here : (x : ℕ) (v : Value) → local_at (open_frame m1 k1 (new_slots D X.body1.locals vs)) k1 x ≡ Some v → SomeRel (opened j k2 k1 place) v (local_at (open_frame m2 k2 (new_slots D X.body2.locals ws)) k2 x)
       here x v e =
-          let (w, g, r) = slots_same j vs ws hv x v (sym (open_same m1 k1 (new_slots D X.body1.locals vs) x) ∙ e) in
+          let (w, g, r) = slots_same D X.body2.locals X.body1.locals same_locals j vs ws hv x v (sym (open_same m1 k1 (new_slots D X.body1.locals vs) x) ∙ e) in
           (w, open_same m2 k2 (new_slots D X.body2.locals ws) x ∙ g, value_mono j (opened j k2 k1 place) (opened_up j k2 k1 place fresh1 fresh2) v w r)
 
   -- ---- another function returns
@@ -284,7 +281,7 @@ module _ (X : Change) (once : X.body2 ≡ pruned_once X.source.shapes X.body1) w
     frames = record {
       kept = kept_law;
       once = λ x x' y e e'. (let (a, b) = place_some x y e in let (a', b') = place_some x' y e' in b ∙ sym b');
-      slots = λ j vs ws hv few x y e v k. (let (a, b) = place_some x y e in subst (λ y. SomeRel j v (slice_get (new_slots D X.body2.locals ws) y)) b (slots_same j vs ws hv.0 x v k));
+      slots = λ j vs ws hv few x y e v k. (let (a, b) = place_some x y e in subst (λ y. SomeRel j v (slice_get (new_slots D X.body2.locals ws) y)) b (slots_same D X.body2.locals X.body1.locals same_locals j vs ws hv.0 x v k));
       begins = λ j k2 k1 d2 d1 m2 m1 vs ws hv few f1 f2 l. (let (n, st, h) = begins j k2 k1 d2 d1 m2 m1 vs ws hv.0 f1 f2 in (n, (refl, st, h)));
       resumes = λ n s2 s1 r m2 m1 c2 c1 gs ds cs2 v w x q q2 p2 p1 l wt be l1 l2 lo dt hv k ge. resumed n s2 s1 r m2 m1 c2 c1 gs ds cs2 v w x q l wt be l1 l2 dt hv k ge;
     }

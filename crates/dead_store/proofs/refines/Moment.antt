@@ -1,5 +1,5 @@
 -- A frame of the pruned body at work: what is related, what lives, and what both frames read.
-use Rattle.std.proofs.Common.{◌≡◌, ◌⊎◌, inl, inr, refl, sym, ap, ◌∙◌, subst, ℕ, ◌≤◌, Bool, true, false, List, [], Some, None, slice_get, arith}
+use Rattle.std.proofs.Common.{◌≡◌, ◌⊎◌, inl, inr, refl, sym, ap, ℕ, ◌≤◌, Bool, true, false, List, [], Some, None, slice_get, arith}
 use Rattle.mir_syntax.specs.declared.body.Place.{Place}
 use Rattle.mir_syntax.specs.declared.body.Operand.{Operand}
 use Rattle.mir_syntax.specs.Tree.{Tree}
@@ -10,10 +10,8 @@ use Rattle.mir_semantics.specs.Memory.{Memory, local_at}
 use Rattle.mir_semantics.specs.Step.{Here, Dest, Control, State, local_addr, read_at, dest_of, to_block, exec}
 use Rattle.mir_syntax.specs.Parts.{has_deref}
 use Rattle.mir_renaming.specs.Renaming.{Renaming, Sub}
-use Rattle.mir_renaming.proofs.Statements as text
 use Rattle.mir_renaming.proofs.Statements.{DestRel}
-use Rattle.mir_renaming.proofs.Types.{TypeMap, HasTy, StmtTy, resolve_ty, value_at_ty, blank_fits}
-use Rattle.mir_renaming.proofs.Agree.{whole_tight}
+use Rattle.mir_renaming.proofs.Types.{HasTy, StmtTy}
 use Rattle.mir_renaming.proofs.Among.{Among, OkOperand, OkOperands, OkRvalue}
 use Rattle.mir_relate.specs.Alike.{Between, Sides, Same, GotMemory, Reads, AllRead, Evals}
 use Rattle.mir_relate.specs.Frames.{Change, Pass, Below}
@@ -21,11 +19,10 @@ use Rattle.mir_relate.specs.Pass.{Valids, MoveOk, AllMoves, RvalueMoves, StmtMov
 use Rattle.mir_relate.proofs.Alone.{RvalueSpends}
 use Rattle.mir_relate.proofs.Itself as itself
 use Rattle.mir_relate.proofs.Kept as kept
-use Rattle.mir_relate.proofs.Leaves.{some_val}
 use Rattle.mir_relate.proofs.Living.{Holds, Placed, living, living_at, living_low, living_near, living_once, living_linked, living_lent, holds_near}
 use Rattle.mir_relate.proofs.Near as near
-use Rattle.mir_relate.proofs.Others.{read_at_whole}
 use Rattle.mir_relate.proofs.Own as own
+use Rattle.mir_relate.proofs.Running as running
 use Rattle.mir_relate.proofs.Single.{stand_moved}
 use Rattle.escape_info.specs.Borrowed.{borrowed}
 use Rattle.liveness.specs.Live.{Live}
@@ -43,8 +40,19 @@ pub record Moment (X : Change) (once : X.body2 ≡ pruned_once X.source.shapes X
   pub lives : Lives X once r.core.lent s2.top s1.top s2.memory s1.memory
   pub below : Below X (frames.pass X once) r.core.lent s2.top.dest s1.top.dest s2.top.frame s1.top.frame s2.callers s1.callers s2.memory s1.memory
 
+-- what the frames see: what is related in this one, what both know of their memories, and what is left when it has done something
+pub record Seen : Type 1 where
+  pub K : Renaming
+  pub Q : Between
+  pub S : Sides
+  pub H1 : Here
+  pub H2 : Here
+  pub lent : ℕ → Bool
+  pub Alive : ℕ → Type 0
+  pub Left : Memory → Memory → Type 0
+
 module _ {X : Change} {once : X.body2 ≡ pruned_once X.source.shapes X.body1} {V : Valids X} {Inv : State → Type 0} (now : Moment X once V Inv) where
-  open now use {n, s2, s1, r, st, lives}
+  open now use {n, s2, s1, r, st, lives, r.{core.{lent as j}, typed1.{types as G}}, s2.{top.{frame as f2}}, s1.{top.{frame as f1}}, lives.{set as a}}
 
   abbrev D : List Shape
   D = X.source.shapes
@@ -55,41 +63,20 @@ module _ {X : Change} {once : X.body2 ≡ pruned_once X.source.shapes X.body1} {
   abbrev lent : ℕ → Bool
   lent = borrowed X.source.shapes X.body1
 
-  abbrev j : Renaming
-  j = r.core.lent
-
-  abbrev G : TypeMap
-  G = r.typed1.types
-
-  abbrev f1 : ℕ
-  f1 = s1.top.frame
-
-  abbrev f2 : ℕ
-  f2 = s2.top.frame
-
   abbrev ts1 : List Tree
   ts1 = X.body1.locals
 
   abbrev ts2 : List Tree
   ts2 = X.body2.locals
 
-  abbrev a : ℕ → Bool
-  a = lives.set
-
   abbrev pub K : Renaming
   K = living j f2 f1 lives.set
-
-  pub eb : slice_get X.source.bodies s1.top.function ≡ Some X.body1
-  eb = ap (slice_get X.source.bodies) st.function1 ∙ X.at1
-
-  pub eb2 : slice_get X.bodies s2.top.function ≡ Some X.body2
-  eb2 = ap (slice_get X.bodies) st.function2 ∙ X.at2
 
   abbrev bok : (t : Tree) → HasTy D G t (blank D t)
   bok = V.valid1.blank_ok G
 
   pub lok : (x : ℕ) (t : Tree) → slice_get ts1 x ≡ Some t → G f1 x ≡ Some t
-  lok = r.typed1.top.locals X.body1 eb
+  lok = running.locals_ok r st.function1 st.function2
 
   pub types : (x : ℕ) → slice_get ts1 x ≡ slice_get ts2 x
   types x = ap (λ ts. slice_get ts x) (sym (frames.same_locals X once))
@@ -136,6 +123,9 @@ module _ {X : Change} {once : X.body2 ≡ pruned_once X.source.shapes X.body1} {
   -- lent or alive
   abbrev pub Alive : ℕ → Type 0
   Alive x = (lent x ≡ true) ⊎ (a x ≡ true)
+
+  abbrev pub seen : Seen
+  seen = record { K = K; Q = Q; S = S; H1 = H1; H2 = H2; lent = lent; Alive = Alive; Left = Left }
 
   pub lent_at : (x : ℕ) → lent x ≡ true → j f1 x ≡ Some (f2, x)
   lent_at x e = st.roots x x (frames.place_lent X once x e)
@@ -187,15 +177,8 @@ module _ {X : Change} {once : X.body2 ≡ pruned_once X.source.shapes X.body1} {
   pub rvalue_alone : (q : TypedRvalue) → OkRvalue A q → Lends q → RvalueMoves H1 q → RvalueSpends S Q q
   rvalue_alone q h l m = near.near_spent D ts1 ts2 f1 f2 j K low G bok lok V.needs f2 f1 s2.memory s1.memory nears onces (omega arith) q q (itself.rvalue_self D ts1 ts2 f1 f2 j K low G bok lok types Q keeps q h l m)
 
-  payloads : text.PayloadsOk D ts1 ts2 f1 f2 j K low s2.memory
-  payloads q b t us i u er et ev e =
-      let G2 = r.typed2.types in
-      let at = resolve_ty D G2 (V.valid2.blank_ok G2) ts2 f2 (r.typed2.top.locals X.body2 eb2) s2.memory q b t r.typed2.mem et er in
-      let (us', vt, h) = value_at_ty D G2 s2.memory b t _ r.typed2.mem at e in
-      blank_fits D G2 j us u (subst (λ y. HasTy D G2 y u) (some_val (sym vt ∙ ev)) h)
-
   pub stmt_execs : (s : TypedStmt) → StmtOk s → StmtMoves H1 s → Fits s → (m1' : Memory) → exec S.source s1.memory s ≡ Some m1' → GotMemory Q m1' (exec S.target s2.memory s)
-  stmt_execs s h m ty m1' e = kept.exec_as D ts1 ts2 f1 f2 j K low G bok lok Q keeps s s (itself.stmt_self D ts1 ts2 f1 f2 j K low G bok lok types Q keeps s h m ty) s2.memory s1.memory m1' (λ u. payloads) first e
+  stmt_execs s h m ty m1' e = kept.exec_as D ts1 ts2 f1 f2 j K low G bok lok Q keeps s s (itself.stmt_self D ts1 ts2 f1 f2 j K low G bok lok types Q keeps s h m ty) s2.memory s1.memory m1' (λ u. running.payloads r st.function1 st.function2 K low) first e
 
   pub dest_near : (p : Place) (d1 : Dest) → A p.local → dest_of S.source s1.memory p ≡ Some d1 → (c : Dest) × (dest_of S.target s2.memory p ≡ Some c) × DestRel K d1 c
   dest_near p d1 h e = kept.dest_as D ts1 ts2 f1 f2 j K low G bok lok Q keeps s2.memory s1.memory p p d1 (itself.place_self D ts1 ts2 f1 f2 j K low G bok lok types K p h) first e
@@ -210,7 +193,4 @@ module _ {X : Change} {once : X.body2 ≡ pruned_once X.source.shapes X.body1} {
 
   -- what a return hands over
   pub result : A 0 → (v : Value) → read_at s1.memory (local_addr f1 0) ≡ Some v → (u : Value) × (read_at s2.memory (local_addr f2 0) ≡ Some u) × Same j v u
-  unfolding local_addr
-  result h v e =
-      let ((u, g, rel), _) = text.read_at_rel D ts1 ts2 f1 f2 j K low s2.memory s1.memory (record { frame = f1; local = 0; path = [] }) (record { frame = f2; local = 0; path = [] }) v (record { root = h; path = refl }) first.linked.mem e in
-      (u, g, (rel, whole_tight j v u rel (read_at_whole s1.memory (record { frame = f1; local = 0; path = [] }) v e)))
+  result h = running.result r st.function1 st.function2 K low first.linked.mem h

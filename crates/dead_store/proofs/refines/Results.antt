@@ -6,25 +6,24 @@ use Rattle.mir_syntax.specs.Tree.{Tree}
 use Rattle.mir_syntax.specs.Shapes.{Shape, place_ty, path_ty}
 use Rattle.mir_semantics.specs.Values.{Addr, Value}
 use Rattle.mir_semantics.specs.Memory.{Memory, local_at, value_at, write}
-use Rattle.mir_semantics.specs.Step.{Here, Dest, State, local_addr, type_of, resolve, dest_of, store, to_block}
+use Rattle.mir_semantics.specs.Step.{Dest, State, local_addr, type_of, resolve, dest_of, store, to_block}
 use Rattle.mir_syntax.specs.Parts.{has_deref}
-use Rattle.mir_renaming.specs.Renaming.{Renaming}
 use Rattle.mir_renaming.specs.Places.{solid, is_nil}
 use Rattle.mir_syntax.proofs.Binds.{bind_some, some_bind}
 use Rattle.mir_renaming.proofs.Memory.{same_or_not, value_at_rel}
 use Rattle.mir_renaming.proofs.Statements.{DestRel}
-use Rattle.mir_renaming.proofs.Types.{TypeMap, AddrTy, HasTy, dest_ty}
+use Rattle.mir_renaming.proofs.Types.{AddrTy, HasTy, dest_ty}
 use Rattle.mir_renaming.proofs.Stores.{store_split}
 use Rattle.mir_renaming.proofs.Walks.{walk_root, walk_solid, at_path_solid, solid_plain}
-use Rattle.mir_relate.specs.Alike.{Between, Sides, Same}
+use Rattle.mir_relate.specs.Alike.{Same}
 use Rattle.mir_relate.specs.Frames.{Change, Pass}
 use Rattle.mir_relate.specs.Pass.{Valids}
 use Rattle.mir_relate.proofs.Leaves.{some_val, leaves_then}
 use Rattle.mir_relate.proofs.Living.{Holds, living_at, living_none, lent_holds}
 use Rattle.mir_relate.proofs.Near as near
 use Rattle.mir_relate.proofs.Own as own
+use Rattle.mir_relate.proofs.Running as running
 use Rattle.mir_relate.proofs.Single.{plain_at, dest_plain, dest_there, resolve_whole}
-use Rattle.escape_info.specs.Borrowed.{borrowed}
 use Rattle.liveness.specs.Live.{result_reads, whole, Live}
 use Rattle.dead_store.specs.Pruned.{pruned_once}
 use Rattle.dead_store.proofs.refines.Reads.{whole_is, is_nil_or, reads_result}
@@ -34,7 +33,8 @@ use Rattle.dead_store.proofs.refines.Moment as moment
 use Rattle.dead_store.proofs.refines.Moment.{Moment}
 
 module _ {X : Change} {once : X.body2 ≡ pruned_once X.source.shapes X.body1} {V : Valids X} {Inv : State → Type 0} (now : Moment X once V Inv) where
-  open now use {n, s2, s1, r, st, lives}
+  open now use {n, s2, s1, r, st, lives, r.{core.{lent as j}, typed1.{types as G}}, s2.{top.{frame as f2}}, s1.{top.{frame as f1}}, lives.{set as a}}
+  open moment.seen now use {K, Q, S, H1, H2, lent, Alive, Left}
 
   abbrev D : List Shape
   D = X.source.shapes
@@ -42,47 +42,8 @@ module _ {X : Change} {once : X.body2 ≡ pruned_once X.source.shapes X.body1} {
   abbrev P : Pass
   P = frames.pass X once
 
-  abbrev j : Renaming
-  j = now.r.core.lent
-
-  abbrev G : TypeMap
-  G = now.r.typed1.types
-
-  abbrev f1 : ℕ
-  f1 = now.s1.top.frame
-
-  abbrev f2 : ℕ
-  f2 = now.s2.top.frame
-
   abbrev ts1 : List Tree
   ts1 = X.body1.locals
-
-  abbrev a : ℕ → Bool
-  a = now.lives.set
-
-  abbrev lent : ℕ → Bool
-  lent = borrowed X.source.shapes X.body1
-
-  abbrev K : Renaming
-  K = moment.K now
-
-  abbrev Q : Between
-  Q = moment.Q now
-
-  abbrev S : Sides
-  S = moment.S now
-
-  abbrev H1 : Here
-  H1 = moment.H1 now
-
-  abbrev H2 : Here
-  H2 = moment.H2 now
-
-  abbrev Alive : ℕ → Type 0
-  Alive = moment.Alive now
-
-  abbrev Left : Memory → Memory → Type 0
-  Left = moment.Left now
 
   abbrev pub GoalAt : Dest → Dest → ℕ → Type 0
   GoalAt d2 d1 u = own.Goal X P V Inv (frames.frames X once V Inv) n s2 s1 r [] s1.callers refl (omega arith) now.below S Q (moment.left now) refl (moment.first now) d2 d1 u u
@@ -129,7 +90,7 @@ module _ {X : Change} {once : X.body2 ≡ pruned_once X.source.shapes X.body1} {
 
   -- the local's value in the target, with its type
   room : (x : ℕ) (t : Tree) (o : Value) → lent x ≡ false → slice_get ts1 x ≡ Some t → local_at s1.memory f1 x ≡ Some o → (w : Value) × (local_at s2.memory f2 x ≡ Some w) × HasTy D r.typed2.types t w
-  room x t o nl et e = (let (w, g) = lives.holds.room x o (moment.unlent_at now x nl) e in (w, g, r.typed2.mem.at f2 x t w (r.typed2.top.locals X.body2 (moment.eb2 now) x t (sym (moment.types now x) ∙ et)) g))
+  room x t o nl et e = (let (w, g) = lives.holds.room x o (moment.unlent_at now x nl) e in (w, g, r.typed2.mem.at f2 x t w (r.typed2.top.locals X.body2 (running.body2_at r st.function1 st.function2) x t (sym (moment.types now x) ∙ et)) g))
 
   solid_there : (p : Place) (t u : Tree) → lent p.local ≡ false → a p.local ≡ false → solid D (slice_get ts1 p.local) p.proj ≡ true → slice_get ts1 p.local ≡ Some t → path_ty D t p.proj ≡ Some u → (m2 m1 : Memory) (o : Value) → Q m2 m1 → value_at m1 (record { frame = f1; local = p.local; path = p.proj }) ≡ Some o → (w : Value) × (value_at m2 (record { frame = f2; local = p.local; path = p.proj }) ≡ Some w)
   unfolding value_at

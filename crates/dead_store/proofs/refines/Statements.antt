@@ -13,24 +13,21 @@ use Rattle.mir_syntax.specs.Parts.{rvalue_places, has_deref}
 use Rattle.mir_semantics.specs.Values.{Value, variant, blank}
 use Rattle.mir_semantics.specs.Memory.{Memory, write}
 use Rattle.mir_semantics.specs.Step.{Here, Dest, State, local_addr, type_of, resolve, dest_of, store, is_variant, write_unless, set_blank, next_stmt, exec}
-use Rattle.mir_renaming.specs.Renaming.{Renaming}
 use Rattle.mir_renaming.specs.Places.{is_nil}
 use Rattle.mir_syntax.proofs.Binds.{bind_some, some_bind}
 use Rattle.mir_renaming.proofs.Memory.{same_or_not}
 use Rattle.mir_renaming.proofs.Statements.{blank_rel}
-use Rattle.mir_renaming.proofs.Types.{TypeMap}
 use Rattle.mir_renaming.proofs.Agree.{tight_self}
 use Rattle.mir_renaming.proofs.Among.{OkRvalue}
 use Rattle.mir_renaming.proofs.Stores.{root_of, value_of_root, store_split, store_made}
 use Rattle.mir_renaming.proofs.Walks.{walk_plain}
-use Rattle.mir_relate.specs.Alike.{Between, Sides, Same}
+use Rattle.mir_relate.specs.Alike.{Same}
 use Rattle.mir_relate.specs.Frames.{Change}
 use Rattle.mir_relate.specs.Pass.{Valids, RvalueMoves, StmtMoves}
 use Rattle.mir_relate.proofs.Alone.{eval_alone}
 use Rattle.mir_relate.proofs.Leaves.{some_val, leaves_then, leaves_source}
 use Rattle.mir_relate.proofs.Living.{Holds, own_linked, own_leaves, own_holds, gone_linked, gone_holds}
 use Rattle.mir_relate.proofs.Single.{addr_is, set_blank_is, set_blank_made, plain_at, dest_plain, dest_there, resolve_whole}
-use Rattle.escape_info.specs.Borrowed.{borrowed}
 use Rattle.liveness.specs.Live.{place_local, written_reads, stmt_reads, stmt_fills, Live}
 use Rattle.mir_syntax.proofs.Members.{has_first, has_none}
 use Rattle.liveness.specs.Bits.{stands_has, has_stands}
@@ -44,49 +41,11 @@ use Rattle.dead_store.proofs.refines.Moment as moment
 use Rattle.dead_store.proofs.refines.Moment.{Moment}
 
 module _ {X : Change} {once : X.body2 ≡ pruned_once X.source.shapes X.body1} {V : Valids X} {Inv : State → Type 0} (now : Moment X once V Inv) where
-  open now use {s2, s1, r, st, lives}
+  open now use {s2, s1, r, st, lives, r.{core.{lent as j}, typed1.{types as G}}, s2.{top.{frame as f2}}, s1.{top.{frame as f1}}, lives.{set as a}}
+  open moment.seen now use {K, Q, S, H1, H2, lent, Alive, Left}
 
   abbrev D : List Shape
   D = X.source.shapes
-
-  abbrev j : Renaming
-  j = now.r.core.lent
-
-  abbrev G : TypeMap
-  G = now.r.typed1.types
-
-  abbrev f1 : ℕ
-  f1 = now.s1.top.frame
-
-  abbrev f2 : ℕ
-  f2 = now.s2.top.frame
-
-  abbrev a : ℕ → Bool
-  a = now.lives.set
-
-  abbrev lent : ℕ → Bool
-  lent = borrowed X.source.shapes X.body1
-
-  abbrev K : Renaming
-  K = moment.K now
-
-  abbrev Q : Between
-  Q = moment.Q now
-
-  abbrev S : Sides
-  S = moment.S now
-
-  abbrev H1 : Here
-  H1 = moment.H1 now
-
-  abbrev H2 : Here
-  H2 = moment.H2 now
-
-  abbrev Alive : ℕ → Type 0
-  Alive = moment.Alive now
-
-  abbrev Left : Memory → Memory → Type 0
-  Left = moment.Left now
 
   module _ (k : TypedBlock) (ek : slice_get X.body1.blocks s1.top.block ≡ Some k) (s : TypedStmt) (es : slice_get k.stmts s1.top.at ≡ Some s) where
     reads_stmt : (x : ℕ) → Contains (stmt_reads s) x → Alive x

@@ -4,14 +4,10 @@ use Rattle.std.proofs.lemmas.Option.{slice_get_within}
 use Rattle.mir_syntax.specs.Shapes.{Shape}
 use Rattle.mir_syntax.specs.Crate.{TypedStmt, TypedBlock, TypedBody}
 use Rattle.mir_rules.specs.Drops.{NoDrops}
-use Rattle.mir_semantics.specs.Step.{Here, Control, State, Next, on, next_stmt, perform, step}
-use Rattle.mir_renaming.specs.Renaming.{Renaming}
+use Rattle.mir_semantics.specs.Step.{Control, State, Next, on, next_stmt, perform, step}
 use Rattle.mir_syntax.proofs.Binds.{bind_some, some_bind}
-use Rattle.mir_renaming.proofs.Types.{TypeMap}
 use Rattle.mir_renaming.proofs.Typed.{TermTy}
 use Rattle.mir_renaming.proofs.Ghosts.{Flat}
-use Rattle.mir_renaming.proofs.Items.{step_parts}
-use Rattle.mir_relate.specs.Alike.{Between, Sides}
 use Rattle.mir_relate.specs.Simulation.{keep_on}
 use Rattle.mir_relate.specs.Frames.{Change, target, Pass, lowest, Below}
 use Rattle.mir_relate.specs.Pass.{GentleTo, Valids, StmtMoves, TermMoves, FewTerm, Laws, Goes, Answers, Related}
@@ -19,8 +15,8 @@ use Rattle.mir_relate.proofs.BodyLaw.{goes_answer}
 use Rattle.mir_relate.proofs.Leaves.{some_val}
 use Rattle.mir_relate.proofs.Mild.{gentle_on}
 use Rattle.mir_relate.proofs.Own as own
-use Rattle.mir_relate.proofs.Rest.{drop_some, drop_none, get_drop}
-use Rattle.mir_relate.proofs.Single.{step_is}
+use Rattle.mir_relate.proofs.Rest.{drop_some, drop_none, drop_next, get_drop}
+use Rattle.mir_relate.proofs.Running as running
 use Rattle.dead_store.specs.Pruned.{is_useless, without, pruned_once}
 use Rattle.dead_store.proofs.Without.{without_get, without_goes, without_stays}
 use Rattle.dead_store.proofs.Decided.{useless_of, useful_of}
@@ -32,7 +28,8 @@ use Rattle.dead_store.proofs.refines.Terms as terms
 use Rattle.dead_store.proofs.refines.Statements as statements
 
 module _ {X : Change} {once : X.body2 ≡ pruned_once X.source.shapes X.body1} {V : Valids X} {Inv : State → Type 0} (now : Moment X once V Inv) (no_drops : NoDrops X.body1) where
-  open now use {n, s2, s1, r, st}
+  open now use {n, s2, s1, r, st, r.{core.{lent as j}, typed1.{types as G}}, s1.{top.{frame as f1}}}
+  open moment.seen now use {Q, S, H1}
 
   abbrev D : List Shape
   D = X.source.shapes
@@ -40,32 +37,11 @@ module _ {X : Change} {once : X.body2 ≡ pruned_once X.source.shapes X.body1} {
   abbrev P : Pass
   P = frames.pass X once
 
-  abbrev j : Renaming
-  j = now.r.core.lent
-
-  abbrev G : TypeMap
-  G = now.r.typed1.types
-
-  abbrev f1 : ℕ
-  f1 = now.s1.top.frame
-
   abbrev gone : ℕ → ℕ → TypedStmt → Bool
   gone = is_useless X.source.shapes X.body1
 
-  abbrev Q : Between
-  Q = moment.Q now
-
-  abbrev S : Sides
-  S = moment.S now
-
-  abbrev H1 : Here
-  H1 = moment.H1 now
-
-  abbrev H2 : Here
-  H2 = moment.H2 now
-
-  tails : (c d : TypedStmt) (as' cs' : List TypedStmt) → c ∷ as' ≡ d ∷ cs' → as' ≡ cs'
-  tails c d as' cs' e = grind arith
+  eb : slice_get X.source.bodies s1.top.function ≡ Some X.body1
+  eb = running.body1_at r st.function1 st.function2
 
   module _ (k : TypedBlock) (ek : slice_get X.body1.blocks s1.top.block ≡ Some k) where
     abbrev i0 : ℕ
@@ -80,9 +56,6 @@ module _ {X : Change} {once : X.body2 ≡ pruned_once X.source.shapes X.body1} {
     at_k : slice_get X.body2.blocks s2.top.block ≡ Some k2
     at_k = ap₂ (λ ks i. slice_get ks i) (ap (λ (b : TypedBody). b.blocks) once) st.block ∙ without_get gone 0 i0 X.body1.blocks k ek ∙ (let z : 0 + i0 ≡ i0 = omega arith in ap (λ i. Some (record { stmts = without (gone i) 0 k.stmts; term = k.term })) z)
 
-    target_is : step (target X) s2 ≡ perform (target X) H2 s2 k.term (slice_get left2 s2.top.at)
-    target_is = step_is (target X) s2 X.body2 k2 (moment.eb2 now) at_k
-
     only_k : (k' : TypedBlock) → slice_get X.body1.blocks s1.top.block ≡ Some k' → k ≡ k'
     only_k k' e = some_val (sym ek ∙ e)
 
@@ -91,8 +64,8 @@ module _ {X : Change} {once : X.body2 ≡ pruned_once X.source.shapes X.body1} {
     end_step x none mo ty few e fl ge =
         let nil2 : drop s2.top.at left2 ≡ [] = (st.here k ek).0 ∙ ap (without (gone i0) s1.top.at) (drop_none k.stmts s1.top.at none) in
         let none2 : slice_get left2 s2.top.at ≡ None = get_drop left2 s2.top.at ∙ ap (λ ss. slice_get ss 0) nil2 in
-        goes_answer X P n s2 x (subst (λ o. Goes X P o x) (sym (target_is ∙ ap (perform (target X) S.target s2 k.term) none2))
-        (own.same_step_goes X P V Inv (frames.frames X once V Inv) n s2 s1 r [] s1.callers refl (omega arith) now.below S Q (moment.left now) refl (moment.first now) refl refl X.body1 (moment.eb now) (λ h x y v e q. ((moment.pl now).only h x y e).0) (λ h x y lt e. (let z = ((moment.pl now).only h x y e).0 in omega (arith, z, lt))) k.term k.term x few (terms.same_step now k ek none k.term refl (no_drops.none i0 k ek) mo ty) e fl ge))
+        goes_answer X P n s2 x (subst (λ o. Goes X P o x) (sym (running.target_is r st.function1 st.function2 k2 at_k ∙ ap (perform (target X) S.target s2 k.term) none2))
+        (own.same_step_goes X P V Inv (frames.frames X once V Inv) n s2 s1 r [] s1.callers refl (omega arith) now.below S Q (moment.left now) refl (moment.first now) refl refl X.body1 eb (λ h x y v e q. ((moment.pl now).only h x y e).0) (λ h x y lt e. (let z = ((moment.pl now).only h x y e).0 in omega (arith, z, lt))) k.term k.term x few (terms.same_step now k ek none k.term refl (no_drops.none i0 k ek) mo ty) e fl ge))
 
     module _ (s : TypedStmt) (es : slice_get k.stmts s1.top.at ≡ Some s) where
       rest : List TypedStmt
@@ -112,12 +85,11 @@ module _ {X : Change} {once : X.body2 ≡ pruned_once X.source.shapes X.body1} {
       stay_step x alive mo ty e ge =
           let (m1', e1, q) = bind_some e in
           let left_now : drop s2.top.at left2 ≡ s ∷ without (gone i0) (suc s1.top.at) (drop (suc s1.top.at) k.stmts) = (st.here k ek).0 ∙ ap (without (gone i0) s1.top.at) split_at ∙ without_stays (gone i0) s1.top.at (drop (suc s1.top.at) k.stmts) s alive in
-          let at2 : slice_get left2 s2.top.at ≡ Some s = get_drop left2 s2.top.at ∙ ap (λ ss. slice_get ss 0) left_now in
-          let next2 : drop (suc s2.top.at) left2 ≡ without (gone i0) (suc s1.top.at) (drop (suc s1.top.at) k.stmts) = tails s s _ _ (sym (drop_some left2 s2.top.at s at2) ∙ left_now) in
+          let (at2, next2) = drop_next left2 s2.top.at s (without (gone i0) (suc s1.top.at) (drop (suc s1.top.at) k.stmts)) left_now in
           let m = length (drop (suc s1.top.at) k.stmts) in
           let (m2', g1, l, lv) = statements.stays now k ek s es s refl (useful_of D X.body1 i0 s1.top.at k ek (slice_get_within k.stmts s1.top.at s es) s alive) mo ty m1' e1 in
-          let st' = moment.moved now m (next_stmt s2.top) (next_stmt s1.top) refl refl refl refl st.block st.calm (in_block (next_stmt s2.top) next2) in
-          subst (Answers X P n s2) (some_val q) (1, m, record s2 { memory = m2'; top = next_stmt s2.top }, ap (keep_on (λ s. Some s)) (target_is ∙ ap (perform (target X) S.target s2 k.term) at2 ∙ some_bind _ g1 refl), own.own_core X P V Inv (frames.frames X once V Inv) n s2 s1 r [] s1.callers refl (omega arith) now.below m m2' m1' (next_stmt s2.top) (next_stmt s1.top) refl refl refl refl l (gentle_on X G f1 s1.memory (record s1 { memory = m1'; top = next_stmt s1.top }) x ge q (omega arith)) (refl, st', lv), inl (omega arith))
+          let st' = moment.moved now m (next_stmt s2.top) (next_stmt s1.top) refl refl refl refl st.block st.calm (in_block (next_stmt s2.top) (sym next2)) in
+          subst (Answers X P n s2) (some_val q) (1, m, record s2 { memory = m2'; top = next_stmt s2.top }, ap (keep_on (λ s. Some s)) (running.target_is r st.function1 st.function2 k2 at_k ∙ ap (perform (target X) S.target s2 k.term) at2 ∙ some_bind _ g1 refl), own.own_core X P V Inv (frames.frames X once V Inv) n s2 s1 r [] s1.callers refl (omega arith) now.below m m2' m1' (next_stmt s2.top) (next_stmt s1.top) refl refl refl refl l (gentle_on X G f1 s1.memory (record s1 { memory = m1'; top = next_stmt s1.top }) x ge q (omega arith)) (refl, st', lv), inl (omega arith))
 
       gone_step : (x : Next) → gone i0 s1.top.at s ≡ true → StmtMoves H1 s → perform X.source H1 s1 k.term (Some s) ≡ Some x → GentleTo X G f1 s1.memory x → Answers X P n s2 x
       unfolding perform
@@ -131,16 +103,15 @@ module _ {X : Change} {once : X.body2 ≡ pruned_once X.source.shapes X.body1} {
 
   pub one_step : (x : Next) → step X.source s1 ≡ Some x → Flat x → GentleTo X G f1 s1.memory x → Answers X P n s2 x
   one_step x e fl ge =
-      let (bo, k, ebo, ek, q) = step_parts X.source s1 x e in
-      let sb : bo ≡ X.body1 = some_val (sym ebo ∙ (moment.eb now)) in
-      go k (ap (λ (b : TypedBody). slice_get b.blocks s1.top.block) (sym sb) ∙ ek) (slice_get k.stmts s1.top.at) refl (subst (λ (b : TypedBody). perform X.source (record { shapes = D; locals = b.locals; frame = f1 }) s1 k.term (slice_get k.stmts s1.top.at) ≡ Some x) sb q)
+      let (k, ek, q) = running.stepped r st.function1 st.function2 x e in
+      go k ek (slice_get k.stmts s1.top.at) refl q
     where
       by : (k : TypedBlock) (ek : slice_get X.body1.blocks s1.top.block ≡ Some k) (s : TypedStmt) (es : slice_get k.stmts s1.top.at ≡ Some s) (g : Bool) → gone s1.top.block s1.top.at s ≡ g → perform X.source H1 s1 k.term (Some s) ≡ Some x → Answers X P n s2 x
-      by k ek s es true dead q = gone_step k ek s es x dead (V.stmts f1 s1.top.function X.body1 s1.top.block k s1.top.at s (moment.eb now) ek es) q ge
-      by k ek s es false alive q = stay_step k ek s es x alive (V.stmts f1 s1.top.function X.body1 s1.top.block k s1.top.at s (moment.eb now) ek es) (V.valid1.stmts G f1 s1.top.function X.body1 s1.top.block k s1.top.at s (moment.eb now) ek es (moment.lok now)) q ge
+      by k ek s es true dead q = gone_step k ek s es x dead (V.stmts f1 s1.top.function X.body1 s1.top.block k s1.top.at s eb ek es) q ge
+      by k ek s es false alive q = stay_step k ek s es x alive (V.stmts f1 s1.top.function X.body1 s1.top.block k s1.top.at s eb ek es) (V.valid1.stmts G f1 s1.top.function X.body1 s1.top.block k s1.top.at s eb ek es (moment.lok now)) q ge
 
       go : (k : TypedBlock) (ek : slice_get X.body1.blocks s1.top.block ≡ Some k) (o : Option TypedStmt) → slice_get k.stmts s1.top.at ≡ o → perform X.source H1 s1 k.term o ≡ Some x → Answers X P n s2 x
-      go k ek None es q = end_step k ek x es (V.terms f1 s1.top.function X.body1 s1.top.block k (moment.eb now) ek) (V.valid1.terms f1 s1.top.function X.body1 s1.top.block k (moment.eb now) ek) (V.calls s1.top.function X.body1 s1.top.block k (moment.eb now) ek) q fl ge
+      go k ek None es q = end_step k ek x es (V.terms f1 s1.top.function X.body1 s1.top.block k eb ek) (V.valid1.terms f1 s1.top.function X.body1 s1.top.block k eb ek) (V.calls s1.top.function X.body1 s1.top.block k eb ek) q fl ge
       go k ek (Some s) es q = by k ek s es (gone s1.top.block s1.top.at s) refl q
 
 module _ (X : Change) (once : X.body2 ≡ pruned_once X.source.shapes X.body1) (no_drops : NoDrops X.body1) (V : Valids X) (Inv : State → Type 0) where

@@ -8,12 +8,11 @@ use Rattle.mir_syntax.specs.declared.body.Term.TheVariants.{Goto, Switch, Return
 use Rattle.mir_syntax.specs.Tree.{Tree}
 use Rattle.mir_syntax.specs.Shapes.{Shape}
 use Rattle.mir_syntax.specs.Crate.{TypedBlock}
-use Rattle.mir_semantics.specs.Step.{Here, State, take_arm}
-use Rattle.mir_renaming.specs.Renaming.{Renaming}
+use Rattle.mir_semantics.specs.Step.{State, take_arm}
 use Rattle.mir_renaming.proofs.Typed.{TermTy}
 use Rattle.mir_syntax.specs.Parts.{targets}
 use Rattle.mir_rules.specs.Drops.{is_drop}
-use Rattle.mir_relate.specs.Alike.{Between, Sides, Reads, AllRead}
+use Rattle.mir_relate.specs.Alike.{Reads, AllRead}
 use Rattle.mir_relate.specs.Frames.{Change, Pass}
 use Rattle.mir_relate.specs.Pass.{Valids, MoveOk, AllMoves, TermMoves}
 use Rattle.mir_relate.proofs.Own as own
@@ -28,7 +27,8 @@ use Rattle.dead_store.proofs.refines.Moment.{Moment}
 use Rattle.dead_store.proofs.refines.Results as results
 
 module _ {X : Change} {once : X.body2 ≡ pruned_once X.source.shapes X.body1} {V : Valids X} {Inv : State → Type 0} (now : Moment X once V Inv) where
-  open now use {n, s2, s1, r, st, lives}
+  open now use {n, s2, s1, r, st, lives, r.{core.{lent as j}}, s2.{top.{frame as f2}}, s1.{top.{frame as f1}}}
+  open moment.seen now use {Q, S, H1, Alive}
 
   abbrev D : List Shape
   D = X.source.shapes
@@ -36,29 +36,8 @@ module _ {X : Change} {once : X.body2 ≡ pruned_once X.source.shapes X.body1} {
   abbrev P : Pass
   P = frames.pass X once
 
-  abbrev j : Renaming
-  j = now.r.core.lent
-
-  abbrev f1 : ℕ
-  f1 = now.s1.top.frame
-
-  abbrev f2 : ℕ
-  f2 = now.s2.top.frame
-
   abbrev ts1 : List Tree
   ts1 = X.body1.locals
-
-  abbrev Q : Between
-  Q = moment.Q now
-
-  abbrev S : Sides
-  S = moment.S now
-
-  abbrev H1 : Here
-  H1 = moment.H1 now
-
-  abbrev Alive : ℕ → Type 0
-  Alive = moment.Alive now
 
   module _ (k : TypedBlock) (ek : slice_get X.body1.blocks s1.top.block ≡ Some k) (none : slice_get k.stmts s1.top.at ≡ None) where
     reads : (x : ℕ) → Contains (term_reads D ts1 k.term) x → Alive x

@@ -9,7 +9,7 @@ use Rattle.mir_relate.specs.Renumbered.{TermSame, StmtsSame}
 use Rattle.mir_relate.proofs.Leaves.{some_val}
 use Rattle.mir_relate.proofs.Mirror.{Positions, To, TermAs, Meets, Mirrors}
 use Rattle.mir_relate.proofs.Numbered.{Homes}
-use Rattle.mir_relate.proofs.Rest.{drop_some, drop_none, get_drop}
+use Rattle.mir_relate.proofs.Rest.{drop_some, drop_none, drop_next, get_drop}
 use Rattle.trim_locals.proofs.Renumbered.{BodySame}
 use Rattle.trim_locals.proofs.refines.Slots.{slots_of, slots_agree}
 
@@ -43,9 +43,6 @@ module _ (X : Change) (B : ℕ → Option ℕ) (same : BodySame B X.body2 X.body
   term_as (Assert o e x os u1) (Assert p f y ps u2) h = (h.0, h.1, h.2, h.3, leads u1 u2 h.4)
   term_as t u h = absurd h
 
-  tails : (a c : TypedStmt) (as' cs' : List TypedStmt) → a ∷ as' ≡ c ∷ cs' → as' ≡ cs'
-  tails a c as' cs' e = grind arith
-
   -- two places in the block of this number
   module _ (n i a2 a1 : ℕ) (k1 k2 : TypedBlock) (i1 : slice_get X.body1.blocks i ≡ Some k1) (i2 : slice_get X.body2.blocks i ≡ Some k2) where
     further : (b2 b1 : ℕ) → StmtsSame (Homes B) (drop b1 k1.stmts) (drop b2 k2.stmts) → InBlock (length (drop b1 k1.stmts)) i b2 i b1
@@ -60,8 +57,7 @@ module _ (X : Change) (B : ℕ → Option ℕ) (same : BodySame B X.body2 X.body
         less : length (drop (suc a1) k1.stmts) < n
         less = (let z : n ≡ suc (length (drop (suc a1) k1.stmts)) = len ∙ ap length (drop_some k1.stmts a1 s at) in omega arith)
     at_statement s at len (inr (t, rest2, z, ps, ss)) =
-        let at2 : slice_get k2.stmts a2 ≡ Some t = get_drop k2.stmts a2 ∙ ap (λ ss. slice_get ss 0) z in
-        let next : rest2 ≡ drop (suc a2) k2.stmts = tails t t rest2 (drop (suc a2) k2.stmts) (sym z ∙ drop_some k2.stmts a2 t at2) in
+        let (at2, next) = drop_next k2.stmts a2 t rest2 z in
         inr (k2, t, length (drop (suc a1) k1.stmts), i2, at2, ps, further (suc a2) (suc a1) (subst (λ ts. StmtsSame (Homes B) (drop (suc a1) k1.stmts) ts) next ss))
 
     at_end : slice_get k1.stmts a1 ≡ None → StmtsSame (Homes B) (drop a1 k1.stmts) (drop a2 k2.stmts) → TermSame (Homes B) k1.term k2.term → Meets B InBlock n X.body2 i a2 i a1 k1.term None

@@ -8,6 +8,7 @@ use Rattle.mir_semantics.specs.Step.{blanks, new_slots}
 use Rattle.mir_renaming.specs.Renaming.{Renaming, ValueRel, SomeRel}
 use Rattle.mir_renaming.proofs.Statements.{ValuesRel, blank_rel}
 use Rattle.mir_renaming.proofs.Agree.{Agree, Tight, tight_agree, tight_self}
+use Rattle.mir_renaming.proofs.Slots.{value_in}
 use Rattle.mir_renaming.proofs.Tight.{tight_in}
 use Rattle.mir_relate.specs.Alike.{AllSame}
 use Rattle.mir_relate.proofs.Leaves.{some_val}
@@ -56,12 +57,6 @@ module _ (D : List Shape) where
   rest_blank (w ∷ vs) ts zero t l e = absurd (omega (arith, l))
   rest_blank (w ∷ vs) [] (suc x) t l e = absurd (grind arith)
   rest_blank (w ∷ vs) (u ∷ ts) (suc x) t l e = rest_blank vs ts x t (omega (arith, l)) e
-
-  value_there : (j : Renaming) (vs ws : List Value) (x : ℕ) (v : Value) → ValuesRel j vs ws → slice_get vs x ≡ Some v → (w : Value) × (slice_get ws x ≡ Some w) × ValueRel j v w
-  value_there j (v' ∷ vs) (w ∷ ws) zero v h e = (w, refl, subst (λ y. ValueRel j y w) (let z : v' ≡ v = grind arith in z) h.0)
-  value_there j (v' ∷ vs) (w ∷ ws) (suc x) v h e = value_there j vs ws x v h.1 e
-  value_there j [] ws x v h e = absurd (grind arith)
-  value_there j (v' ∷ vs) [] x v h e = absurd h
 
   same_length : (j : Renaming) (vs ws : List Value) → ValuesRel j vs ws → length vs ≡ length ws
   same_length j [] [] h = refl
@@ -118,7 +113,7 @@ module _ (D : List Shape) where
             let l = slice_get_within vs x v a in
             let z : suc x ≡ suc y = kept (suc x) (suc y) b (omega (arith, l, few)) in
             let q : x ≡ y = omega (arith, z) in
-            let (w, aw, rel) = value_there j vs ws x v h a in
+            let (w, aw, rel) = value_in j vs ws x v h a in
             (w, subst (λ y. slice_get (rest ws ts2) y ≡ Some w) q (rest_arg ws (blanks D (drop (length ws) ts2)) x w aw), rel)
         go (inr (l, (t, at, is))) = (blank D t, rest_blank ws ts2 y t (reach (below (suc x) args) l) (sym (types (suc x) (suc y) b) ∙ at), subst (λ y. ValueRel j y (blank D t)) is (blank_rel j D t))
 

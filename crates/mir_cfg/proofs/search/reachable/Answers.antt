@@ -1,14 +1,41 @@
-use Rattle.std.proofs.Common.{◌≡◌, ◌<◌, ◌∷◌, ◌++◌, [], List, map, length, sym, ap, ◌∙◌, subst, arith}
+use Rattle.std.proofs.Common.{◌≡◌, ℕ, ◌<◌, ◌∷◌, ◌++◌, [], Bool, List, map, length, get_or, sym, ap, ◌∙◌, subst, arith}
 use Rattle.std.specs.List.{All}
 use Rattle.std.proofs.lemmas.List.{length-map, nil_from_length}
 use Rattle.bit_rows.specs.Rows.{row_at, HasSize}
 use Rattle.mir_syntax.specs.declared.body.Block.{Block}
+use Rattle.mir_syntax.specs.declared.body.Term.{Term}
 use Rattle.mir_syntax.specs.Parts.{targets}
 use Rattle.mir_cfg.specs.Paths.{block_term, exits, Closed}
 use Rattle.mir_cfg.specs.Search.{IsSearch, Finds}
 use Rattle.mir_cfg.proofs.Sources.{exits_at}
 use Rattle.mir_cfg.proofs.Searching.{search_made, search_step, search_ends, popped_within}
 use Rattle.mir_cfg.proofs.search.reachable.Goals as goal
+
+-- a block is taken out of those that are open, and `to` are the blocks that its edges lead to
+module _ (blocks bs : List Block) (same : blocks ≡ bs) (closed : Closed (map block_term bs)) (rows : List (List Bool)) (opened rest : List ℕ) (block : ℕ) (item : Block) (to : List ℕ) (held : HasSize rows 1 (length blocks) × IsSearch (map block_term blocks) (row_at rows 0) opened) (popped : opened ≡ rest ++ block ∷ []) (leads : to ≡ targets (get_or blocks block item).term) where
+  abbrev terms : List Term
+  terms = map block_term blocks
+
+  long : length terms ≡ length blocks
+  long = length-map blocks block_term
+
+  are_exits : to ≡ exits terms block
+  are_exits = (let low = popped_within terms (row_at rows 0) opened rest block held.1 popped in let l = long in leads ∙ sym (exits_at blocks block item (omega (arith, l, low))))
+
+  exits_within : All (λ b. b < length terms) (exits terms block)
+  exits_within = subst (λ (bs : List Block). Closed (map block_term bs)) (sym same) closed block
+
+  bits : length (row_at rows 0) ≡ length blocks
+  bits = held.0.bits_is 0 (omega arith)
+
+  edges_within : All (λ b. b < length (row_at rows 0)) to
+  edges_within = subst (λ n. All (λ b. b < n) to) (long ∙ sym bits) (subst (λ ts. All (λ b. b < length terms) ts) (sym are_exits) exits_within)
+
+  edges_followed : (rows2 : List (List Bool)) (opened2 : List ℕ) → HasSize rows2 1 (length (row_at rows 0)) → Finds (row_at rows 0) (row_at rows2 0) rest opened2 to → HasSize rows2 1 (length blocks) × IsSearch terms (row_at rows2 0) opened2
+  edges_followed rows2 opened2 one finds = (
+    subst (HasSize rows2 1) bits one,
+    search_step terms (row_at rows 0) (row_at rows2 0) opened rest opened2 block held.1 popped (subst (λ ts. Finds (row_at rows 0) (row_at rows2 0) rest opened2 ts) are_exits finds) exits_within,
+  )
 
 pub loop-block-init : goal.loop-block-init
 loop-block-init c =
@@ -21,54 +48,13 @@ loop-block-init c =
     (subst (HasSize c.set.new.self 1) long r.0, r.1)
 
 pub find_all-requires-clause-within : goal.find_all-requires-clause-within
-find_all-requires-clause-within c =
-    let blocks = c.as_slice-blocks.result.now in
-    let terms = map block_term blocks in
-    let block = c.in-Some.block in
-    let now = row_at c.loop-block.found 0 in
-    let item = c.index-blocks-block.result in
-    let long : length terms ≡ length blocks = length-map blocks block_term in
-    let low : block < length terms = popped_within terms now c.loop-block.opened.items c.pop.new.self.items block c.loop-block.invariant.1 c.in-Some.ensures.items in
-    let closed : Closed terms = subst (λ (bs : List Block). Closed (map block_term bs)) (sym c.as_slice-blocks.ensures) c.requires.closed in
-    let ex : c.as_slice.result.now ≡ exits terms block = c.as_slice.ensures ∙ c.in_ok-to.ensures ∙ ap (λ (b : Block). targets b.term) c.index-blocks-block.is ∙ sym (exits_at blocks block item (omega (arith, long, low))) in
-    let bits : length now ≡ length blocks = c.loop-block.invariant.0.bits_is 0 (omega arith) in
-    subst (λ n. All (λ b. b < n) c.as_slice.result.now) (long ∙ sym bits) (subst (λ ts. All (λ b. b < length terms) ts) (sym ex) (closed block))
+find_all-requires-clause-within c = edges_within c.as_slice-blocks.result.now c.args.body.now.blocks c.as_slice-blocks.ensures c.requires.closed c.loop-block.found c.loop-block.opened.items c.pop.new.self.items c.in-Some.block c.index-blocks-block.result c.as_slice.result.now c.loop-block.invariant c.in-Some.ensures.items (c.as_slice.ensures ∙ c.in_ok-to.ensures ∙ ap (λ (b : Block). targets b.term) c.index-blocks-block.is)
 
 pub loop-block-preserved-in_ok-find_all : goal.loop-block-preserved-in_ok-find_all
-loop-block-preserved-in_ok-find_all c =
-    let blocks = c.as_slice-blocks.result.now in
-    let terms = map block_term blocks in
-    let block = c.in-Some.block in
-    let now = row_at c.loop-block.found 0 in
-    let item = c.index-blocks-block.result in
-    let long : length terms ≡ length blocks = length-map blocks block_term in
-    let popped = c.in-Some.ensures.items in
-    let low : block < length terms = popped_within terms now c.loop-block.opened.items c.pop.new.self.items block c.loop-block.invariant.1 popped in
-    let closed : Closed terms = subst (λ (bs : List Block). Closed (map block_term bs)) (sym c.as_slice-blocks.ensures) c.requires.closed in
-    let ex : c.as_slice.result.now ≡ exits terms block = c.as_slice.ensures ∙ c.in_ok-to.ensures ∙ ap (λ (b : Block). targets b.term) c.index-blocks-block.is ∙ sym (exits_at blocks block item (omega (arith, long, low))) in
-    let bits : length now ≡ length blocks = c.loop-block.invariant.0.bits_is 0 (omega arith) in
-    let finds = subst (λ ts. Finds now (row_at c.find_all.new.found 0) c.pop.new.self.items c.find_all.new.opened.items ts) ex c.in_ok-find_all.ensures.finds in (
-      subst (HasSize c.find_all.new.found 1) bits c.in_ok-find_all.ensures.one,
-      search_step terms now (row_at c.find_all.new.found 0) c.loop-block.opened.items c.pop.new.self.items c.find_all.new.opened.items block c.loop-block.invariant.1 popped finds (closed block),
-    )
+loop-block-preserved-in_ok-find_all c = edges_followed c.as_slice-blocks.result.now c.args.body.now.blocks c.as_slice-blocks.ensures c.requires.closed c.loop-block.found c.loop-block.opened.items c.pop.new.self.items c.in-Some.block c.index-blocks-block.result c.as_slice.result.now c.loop-block.invariant c.in-Some.ensures.items (c.as_slice.ensures ∙ c.in_ok-to.ensures ∙ ap (λ (b : Block). targets b.term) c.index-blocks-block.is) c.find_all.new.found c.find_all.new.opened.items c.in_ok-find_all.ensures.one c.in_ok-find_all.ensures.finds
 
 pub loop-block-preserved : goal.loop-block-preserved
-loop-block-preserved c =
-    let blocks = c.as_slice-blocks.result.now in
-    let terms = map block_term blocks in
-    let block = c.in-Some.block in
-    let now = row_at c.loop-block.found 0 in
-    let item = c.index-blocks-block.result in
-    let long : length terms ≡ length blocks = length-map blocks block_term in
-    let popped = c.in-Some.ensures.items in
-    let low : block < length terms = popped_within terms now c.loop-block.opened.items c.pop.new.self.items block c.loop-block.invariant.1 popped in
-    let closed : Closed terms = subst (λ (bs : List Block). Closed (map block_term bs)) (sym c.as_slice-blocks.ensures) c.requires.closed in
-    let ex : c.as_slice.result.now ≡ exits terms block = c.as_slice.ensures ∙ c.in_ok-to.ensures ∙ ap (λ (b : Block). targets b.term) c.index-blocks-block.is ∙ sym (exits_at blocks block item (omega (arith, long, low))) in
-    let bits : length now ≡ length blocks = c.loop-block.invariant.0.bits_is 0 (omega arith) in
-    let finds = subst (λ ts. Finds now (row_at c.find_all.new.found 0) c.pop.new.self.items c.find_all.new.opened.items ts) ex c.in_ok-find_all.ensures.finds in (
-      subst (HasSize c.find_all.new.found 1) bits c.in_ok-find_all.ensures.one,
-      search_step terms now (row_at c.find_all.new.found 0) c.loop-block.opened.items c.pop.new.self.items c.find_all.new.opened.items block c.loop-block.invariant.1 popped finds (closed block),
-    )
+loop-block-preserved c = edges_followed c.as_slice-blocks.result.now c.args.body.now.blocks c.as_slice-blocks.ensures c.requires.closed c.loop-block.found c.loop-block.opened.items c.pop.new.self.items c.in-Some.block c.index-blocks-block.result c.as_slice.result.now c.loop-block.invariant c.in-Some.ensures.items (c.as_slice.ensures ∙ c.in_ok-to.ensures ∙ ap (λ (b : Block). targets b.term) c.index-blocks-block.is) c.find_all.new.found c.find_all.new.opened.items c.in_ok-find_all.ensures.one c.in_ok-find_all.ensures.finds
 
 pub returns-clause-reached : goal.returns-clause-reached
 returns-clause-reached c =
