@@ -93,6 +93,7 @@ module _ (f : ℕ) (B : ℕ → Option ℕ) (Here : ℕ → Control → Control 
     only = opened_only j k2 k1 B fresh1 fresh2;
     here = h;
   }
+
 -- another function has returned to a frame that waited, and its result is written
 pub back_core : (X : Change) (P : Pass) (V : Valids X) (Inv : State → Type 0) → KeptLaw X P → (n : ℕ) (s2 s1 : State) (r : Related X P V Inv n s2 s1) (m2 m1 m2' m1' : Memory) (c2 c1 : Control) (ds cs2 : List Control) → KnowsAll X r.typed1.types ds → Below X P r.core.lent c2.dest c1.dest c2.frame c1.frame cs2 ds m2 m1 → c1.frame < s1.top.frame → c2.frame < s2.top.frame → Linked r.core.lent r.core.lent m2' m1' → Leaves X.source.shapes r.typed1.types r.core.lent r.core.lent c2.frame c1.frame m2' m1' m2 m1 → Gentle X.source.shapes r.typed1.types c1.frame m1' m1 → (n' : ℕ) → P.own n' r.core.lent c2 c1 [] m2' m1' → Core X P n' (record s2 { memory = m2'; top = c2; callers = cs2 }) (record s1 { memory = m1'; top = c1; callers = ds })
 back_core X P V Inv kept n s2 s1 r m2 m1 m2' m1' c2 c1 ds cs2 ks be l1 l2 l lv ge n' o =
