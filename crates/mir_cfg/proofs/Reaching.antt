@@ -1,9 +1,9 @@
 -- A block to which a path leads is led to by no more edges than there are blocks.
-use Rattle.std.proofs.Common.{◌≡◌, ◌⊎◌, inl, inr, refl, sym, ap, ◌∙◌, ℕ, zero, suc, ◌+◌, ◌-◌, ◌<◌, ◌≤◌, Bool, true, false, cond, ◌==◌, List, [], ◌∷◌, length, get_or, arith}
+use Rattle.std.proofs.Common.{◌≡◌, ◌⊎◌, inl, inr, refl, sym, ap, ◌∙◌, ℕ, zero, suc, ◌+◌, ◌-◌, ◌<◌, ◌≤◌, Bool, true, false, cond, ◌==◌, List, length, get_or, arith}
 use Rattle.std.specs.Prelude.{IsTrue, ◌↔◌}
 use Rattle.std.specs.List.{All, Contains, list_any}
 use Rattle.std.proofs.lemmas.Bool.{eqb-true, eq-eqb, or_cases, or_left, or_right, cases_Bool, cases_lt, both_ways}
-use Rattle.std.proofs.lemmas.List.Folds.{list_any_at}
+use Rattle.std.proofs.lemmas.List.Folds.{Any-from_list_any, list_any_at}
 use Rattle.std.proofs.lemmas.List.Elements.{All-contains, All-contains_itself}
 use Rattle.mir_syntax.specs.declared.body.Term.{Term}
 use Rattle.mir_cfg.specs.Paths.{exits, Closed, leads, is_reached, ReachedBy, Reached}
@@ -14,14 +14,7 @@ any_in : (p : ℕ → Bool) (xs : List ℕ) (x : ℕ) → Contains xs x → p x 
 any_in p xs x (k, l, e) h = list_any_at p xs k x l (ap p e ∙ h)
 
 pub any_which : (p : ℕ → Bool) (xs : List ℕ) → list_any p xs ≡ true → (x : ℕ) × Contains xs x × (p x ≡ true)
-any_which p xs a = let (k, l, h) = place xs a in (get_or xs k 0, All-contains_itself xs k 0 l, h)
-  where
-    place : (xs : List ℕ) → list_any p xs ≡ true → (k : ℕ) × (k < length xs) × (p (get_or xs k 0) ≡ true)
-    place [] a = absurd (both_ways (list_any p []) refl a)
-    place (x ∷ xs) a = elim (or_cases (p x) (list_any p xs) a) [
-      | inl e ↦ (0, omega arith, e)
-      | inr e ↦ (let (k, l, h) = place xs e in (suc k, omega (arith, l), h))
-    ]
+any_which p xs a = let h = Any-from_list_any p xs a in (h.1, (h.0, h.2, h.3), h.4)
 
 -- ---- counts
 

@@ -3,6 +3,7 @@ use Rattle.std.proofs.Common.{◌≡◌, refl, sym, ap, ◌∙◌, subst, ℕ, z
 use Rattle.std.proofs.lemmas.List.FromFn.{get_or-map-range_with_len}
 use Rattle.std.proofs.lemmas.List.Sums.{sum_by-cons}
 use Rattle.mir_syntax.specs.Tree.{Tree}
+use Rattle.liveness.specs.Bits.{bit_within}
 use Rattle.trim_locals.specs.Trimmed.{self, new_number, new_numbers, number_in, marked_items}
 
 next_if : Bool → ℕ → ℕ
@@ -68,15 +69,10 @@ ahead_counts (false ∷ ms) zero e = absurd (grind arith)
 ahead_counts (true ∷ ms) (suc x) e = ap (option_map (next_if true)) (ahead_counts ms x e) ∙ ap Some (let h = counts true ms x in let z : suc (new_number ms x) ≡ new_number (true ∷ ms) (suc x) = omega (arith, h) in z)
 ahead_counts (false ∷ ms) (suc x) e = ap (option_map (next_if false)) (ahead_counts ms x e) ∙ ap Some (let h = counts false ms x in let z : new_number ms x ≡ new_number (false ∷ ms) (suc x) = omega (arith, h) in z)
 
-marked_within : (ms : List Bool) (x : ℕ) → get_or ms x false ≡ true → x < length ms
-marked_within [] x e = absurd (grind arith)
-marked_within (m ∷ ms) zero e = omega arith
-marked_within (m ∷ ms) (suc x) e = let h = marked_within ms x e in omega (arith, h)
-
 pub ahead_is : (ms : List Bool) (x : ℕ) → get_or ms x false ≡ true → ahead ms x ≡ Some (number_in (new_numbers ms) x)
 ahead_is ms x e =
     let z : 0 + x ≡ x = omega arith in
-    ahead_counts ms x e ∙ ap Some (sym (get_or-map-range_with_len (new_number ms) 0 (length ms) x x 0 (marked_within ms x e) z))
+    ahead_counts ms x e ∙ ap Some (sym (get_or-map-range_with_len (new_number ms) 0 (length ms) x x 0 (bit_within ms x e) z))
 
 -- where all before it are marked, a local keeps its number
 pub ahead_fixed : (ms : List Bool) (x : ℕ) → ((z : ℕ) → z ≤ x → get_or ms z false ≡ true) → ahead ms x ≡ Some x
