@@ -2,4 +2,5 @@ pub mod Same
 pub mod Ends
 pub mod Heights
 pub mod Rising
-pub mod Rows
+pub mod WorkedRows
+pub mod Looking

@@ -2,3 +2,5 @@ pub mod Rounds
 pub mod Facts
 pub mod ConstAt
 pub mod Order
+pub mod Cells
+pub mod Sights

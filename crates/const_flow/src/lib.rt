@@ -6,5 +6,16 @@
 #![tactic(auto)]
 
 mod cell;
+mod edges;
+mod effects;
+mod facts;
+mod flow;
+mod places;
+mod rows;
+mod sight;
+#[cfg(test)]
+mod tests;
 
-pub use cell::Cell;
+pub use cell::{Cell, Known};
+pub use facts::Facts;
+pub use rows::{ConstRows, consts};
