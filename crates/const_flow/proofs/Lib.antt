@@ -1,6 +1,9 @@
 pub mod Same
 pub mod Ends
-pub mod Heights
 pub mod Rising
 pub mod WorkedRows
 pub mod Looking
+pub mod Halves
+pub mod CarriedLeast
+pub mod EachEdge
+pub mod Nodes
