@@ -7,3 +7,4 @@ pub mod Halves
 pub mod CarriedLeast
 pub mod EachEdge
 pub mod Nodes
+pub mod Joins

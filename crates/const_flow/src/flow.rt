@@ -1,4 +1,4 @@
-ghost use Rattle.std.specs.Prelude.{◌≡◌, ◌≢◌, ℕ, ◌↔◌, ◌+◌, ◌<◌, ◌^◌, map, length, slice_get, Some, Contains, IsTrue, IfOk};
+ghost use Rattle.std.specs.Prelude.{◌≡◌, ◌≢◌, ℕ, ◌↔◌, ◌+◌, ◌<◌, ◌^◌, map, length, slice_get, Some, true, false, Contains, IsTrue, IfOk};
 ghost use Rattle.mir_syntax.specs.Crate.{block_of};
 ghost use Rattle.mir_syntax.specs.Parts.{targets};
 ghost use Rattle.mir_cfg.specs.Paths.{terms_of};
@@ -77,7 +77,7 @@ fn sent_out(
 
 /// What is known of the tracked places where the body begins.
 fn first_cells(alloc: Global, sight: Sight<'_>) -> Result<List<Cell>, OutOfMemory>
-    ensures { IfOk result (λ cells. Some cells ≡ row_of (begun (body_in sight.entry) sight.paths.now 0)) }
+    ensures { IfOk result (λ cells. Some cells ≡ row_of (begun (body_in sight.entry) sight.entry.paths.now 0)) }
 {
     let mut cells = List::new(alloc);
     for place in sight.paths.places() {
@@ -91,6 +91,13 @@ fn first_cells(alloc: Global, sight: Sight<'_>) -> Result<List<Cell>, OutOfMemor
     Ok(cells)
 }
 
+fn is_same(a: Cell, b: Cell) -> bool
+    ensures same { result ≡ true → a ≡ b }
+    ensures other { result ≡ false → a ≢ b }
+{
+    a == b
+}
+
 /// Joins cells to others, and tells whether one of them changed.
 fn join_cells(into: &mut [Cell], from: &[Cell]) -> bool
     requires { length from.now ≡ length into.old }
@@ -100,7 +107,7 @@ fn join_cells(into: &mut [Cell], from: &[Cell]) -> bool
     let mut changed = false;
     for (at, cell) in from.iter().enumerate() {
         let joined = into[at].join(*cell);
-        changed |= joined != into[at];
+        changed |= !is_same(joined, into[at]);
         into[at] = joined;
     }
     changed
