@@ -4,3 +4,6 @@ pub mod Heights
 pub mod Rising
 pub mod WorkedRows
 pub mod Looking
+pub mod Learning
+pub mod Types
+pub mod Valued
