@@ -7,3 +7,4 @@ pub mod Looking
 pub mod Learning
 pub mod Types
 pub mod Valued
+pub mod Leading
