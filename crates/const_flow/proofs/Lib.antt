@@ -3,8 +3,13 @@ pub mod Ends
 pub mod Rising
 pub mod WorkedRows
 pub mod Looking
+pub mod Learning
+pub mod Types
+pub mod Valued
+pub mod Leading
 pub mod Halves
 pub mod CarriedLeast
 pub mod EachEdge
 pub mod Nodes
 pub mod Joins
+pub mod FlownRows

@@ -1,20 +1,20 @@
 //! What statements and terminators make of facts.
-ghost use Rattle.std.specs.Prelude.{◌≡◌, ◌+◌, ◌-◌, ◌≤◌, length, map, Contains, OnOk, OnErr};
-ghost use Rattle.std.specs.List.{replicate};
-ghost use Rattle.mir_syntax.specs.Parts.{targets, rvalue_operands};
+ghost use Rattle.std.specs.Prelude.{◌≡◌, ◌+◌, ◌-◌, ◌≤◌, [], ◌∷◌, ◌++◌, length, map, drop, replicate, is_some, IsTrue, Contains, OnOk, OnErr};
+ghost use Rattle.mir_syntax.specs.Parts.{arm_block, targets, rvalue_operands};
 ghost use Rattle.mir_syntax.specs.Crate.{rvalue_of, stmt_of};
 ghost use Rattle.mir_semantics.specs.Step.{take_arm};
-ghost use Rattle.place_map.specs.Tracked.{SpansUnder};
+ghost use Rattle.place_map.specs.Tracked.{way, SpansUnder};
 ghost use Rattle.const_flow.specs.declared.cell.Cell.TheVariants.{Nothing};
 ghost use Rattle.const_flow.specs.Facts as facts;
-ghost use Rattle.const_flow.specs.Facts.{always, whole_local, value_known, moved, moved_all, after_stmt, after_all, after_term};
+ghost use Rattle.const_flow.specs.Facts.{switch_to, can_be, always, whole_local, value_known, moved, moved_all, after_stmt, after_all, after_term};
 ghost use Rattle.const_flow.specs.Cells.{put_from, places_between, known_under};
 ghost use Rattle.const_flow.specs.Sights.{text_in, trees_in, facts_in};
 
 use crate::cell::Cell;
 use crate::places::known;
 use crate::sight::Sight;
-use mir_syntax::{Arm, List, Operand, OutOfMemory, Place, Rvalue, Stmt, Term};
+use mir_num::flag;
+use mir_syntax::{Arm, List, Operand, OutOfMemory, Place, Proj, Rvalue, Stmt, Term};
 use place_map::Span;
 use std::alloc::Global;
 
@@ -41,9 +41,17 @@ fn put(cells: &mut [Cell], from: u32, fresh: &[Cell])
     requires { from + length fresh.now ≤ length cells.old }
     ensures { cells.new ≡ put_from cells.old from fresh.now }
 {
-    for (at, cell) in fresh.iter().enumerate() {
-        cells[from as usize + at] = *cell;
-    }
+    let from = from as usize;
+    cells[from..from + fresh.len()].copy_from_slice(fresh);
+}
+
+/// The way from a place to one at or under it.
+#[tactic(auto, using(crate::proofs::Learning::way_long))]
+fn way_under<'a>(place: &Place, tracked: &'a Place) -> &'a [Proj]
+    requires { IsTrue (is_some (way place.now tracked.now)) }
+    ensures { result.now ≡ drop (length place.now.proj) tracked.now.proj }
+{
+    &tracked.proj.as_slice()[place.proj.len()..]
 }
 
 /// The block of the first arm with the value, else the other one.
@@ -58,40 +66,66 @@ fn taken_arm(number: u128, arms: &[Arm], other: u32) -> u32
     other
 }
 
+/// Whether a switch on what is known can lead to a block, which is one of its targets.
+fn switch_leads(known: Cell, arms: &[Arm], other: u32, to: u32) -> bool
+    requires { Contains (map arm_block arms.now ++ other ∷ []) to }
+    ensures { result ≡ switch_to to known arms.now other }
+{
+    match known {
+        Cell::Nothing => false,
+        Cell::Num(number) => taken_arm(number, arms, other) == to,
+        Cell::Many => true,
+    }
+}
+
+/// Whether a condition of which this is known can be as expected.
+#[tactic(auto, unfolding(mir_num::specs::Numbers::flag))]
+fn can_be(expected: bool, known: Cell) -> bool
+    ensures { result ≡ can_be expected known }
+{
+    match known {
+        Cell::Nothing => false,
+        Cell::Num(number) => number == flag(expected),
+        Cell::Many => true,
+    }
+}
+
 /// Whether a terminator can lead to a block, which is one of its targets.
+#[tactic(auto, unfolding(crate::specs::Facts::leads))]
 pub(crate) fn leads(sight: Sight<'_>, cells: &[Cell], term: &Term, to: u32) -> bool
     requires cells { length cells.now ≡ length sight.paths.now }
     requires target { Contains (targets term.now) to }
     ensures { result ≡ facts.leads (facts_in sight.entry cells.now) term.now to }
 {
     match term {
-        Term::Switch(operand, arms, other) => match known(sight.paths, cells, operand) {
-            Cell::Nothing => false,
-            Cell::Num(number) => taken_arm(number, arms.as_slice(), *other) == to,
-            Cell::Many => true,
-        },
-        Term::Assert(operand, expected, _, _, _) => match known(sight.paths, cells, operand) {
-            Cell::Nothing => false,
-            Cell::Num(number) => number == u128::from(*expected),
-            Cell::Many => true,
-        },
-        Term::Goto(_) | Term::Drop(_, _) | Term::Call(_, _, _, _) => true,
-        Term::Return | Term::Unreachable => false,
+        Term::Goto(next) => *next == to,
+        Term::Switch(operand, arms, other) => {
+            switch_leads(known(sight.paths, cells, operand), arms.as_slice(), *other, to)
+        }
+        Term::Return => false,
+        Term::Unreachable => false,
+        Term::Drop(_, next) => *next == to,
+        Term::Call(_, _, _, next) => *next == to,
+        Term::Assert(operand, expected, _, _, next) => {
+            can_be(*expected, known(sight.paths, cells, operand)) && *next == to
+        }
     }
 }
 
 impl Walk {
     fn learn(&mut self, sight: Sight<'_>, place: &Place, cell: Cell)
         requires { length self.old.cells ≡ length sight.paths.now }
-        ensures cells { length self.new.cells ≡ length sight.paths.now }
+        ensures cells { length self.new.cells ≡ length sight.entry.paths.now }
+        ensures fresh { self.new.fresh ≡ self.old.fresh }
         ensures facts { facts_in sight.entry self.new.cells ≡ facts.learn place.now (always cell) (facts_in sight.entry self.old.cells) }
     {
-        fill(self.cells.as_mut_slice(), sight.paths.under(place), cell);
+        let span = sight.paths.under(place);
+        fill(self.cells.as_mut_slice(), span, cell);
     }
 
     fn forget_local(&mut self, alloc: Global, sight: Sight<'_>, local: u32)
         requires { length self.old.cells ≡ length sight.paths.now }
-        ensures cells { length self.new.cells ≡ length sight.paths.now }
+        ensures cells { length self.new.cells ≡ length sight.entry.paths.now }
         ensures facts { facts_in sight.entry self.new.cells ≡ facts.learn (whole_local local) (always Nothing) (facts_in sight.entry self.old.cells) }
     {
         let place = Place {
@@ -102,19 +136,24 @@ impl Walk {
     }
 
     /// What was moved is a hole.
+    #[tactic(auto, unfolding(crate::specs::Facts::moved))]
     fn forget_moved(&mut self, sight: Sight<'_>, operand: &Operand)
         requires { length self.old.cells ≡ length sight.paths.now }
-        ensures cells { length self.new.cells ≡ length sight.paths.now }
+        ensures cells { length self.new.cells ≡ length sight.entry.paths.now }
+        ensures fresh { self.new.fresh ≡ self.old.fresh }
         ensures facts { facts_in sight.entry self.new.cells ≡ moved operand.now (facts_in sight.entry self.old.cells) }
     {
-        if let Operand::Move(place) = operand {
-            self.learn(sight, place, Cell::Nothing);
+        match operand {
+            Operand::Copy(_) => {}
+            Operand::Move(place) => self.learn(sight, place, Cell::Nothing),
+            Operand::Const(_) => {}
         }
     }
 
     fn forget_all_moved(&mut self, sight: Sight<'_>, operands: &[Operand])
         requires { length self.old.cells ≡ length sight.paths.now }
-        ensures cells { length self.new.cells ≡ length sight.paths.now }
+        ensures cells { length self.new.cells ≡ length sight.entry.paths.now }
+        ensures fresh { self.new.fresh ≡ self.old.fresh }
         ensures facts { facts_in sight.entry self.new.cells ≡ moved_all operands.now (facts_in sight.entry self.old.cells) }
     {
         for operand in operands {
@@ -125,7 +164,8 @@ impl Walk {
     /// What an rvalue moves is a hole.
     fn forget_moved_by(&mut self, sight: Sight<'_>, rvalue: &Rvalue)
         requires { length self.old.cells ≡ length sight.paths.now }
-        ensures cells { length self.new.cells ≡ length sight.paths.now }
+        ensures cells { length self.new.cells ≡ length sight.entry.paths.now }
+        ensures fresh { self.new.fresh ≡ self.old.fresh }
         ensures facts { facts_in sight.entry self.new.cells ≡ moved_all (rvalue_operands (rvalue_of (trees_in sight.entry) rvalue.now)) (facts_in sight.entry self.old.cells) }
     {
         match rvalue {
@@ -158,12 +198,11 @@ impl Walk {
         requires spans { SpansUnder sight.paths.now place.now span.from span.to }
         requires within { (span.from ≤ span.to) × (span.to ≤ length sight.paths.now) }
         ensures cells { self.new.cells ≡ self.old.cells }
-        ensures fresh { OnOk result (self.new.fresh ≡ map (known_under place.now (value_known (text_in sight.entry) (facts_in sight.entry self.old.cells) (rvalue_of (trees_in sight.entry) rvalue.now))) (places_between sight.paths.now span.from span.to)) }
+        ensures fresh { OnOk result (self.new.fresh ≡ map (known_under place.now (value_known (text_in sight.entry) (facts_in sight.entry self.old.cells) (rvalue_of (trees_in sight.entry) rvalue.now))) (places_between sight.entry.paths.now span.from span.to)) }
     {
         self.fresh.truncate(0);
-        let places = sight.paths.places();
-        for path in span.from..span.to {
-            let way = &places[path as usize].proj.as_slice()[place.proj.len()..];
+        for tracked in &sight.paths.places()[span.from as usize..span.to as usize] {
+            let way = way_under(place, tracked);
             let cell = sight.value(self.cells.as_slice(), rvalue, way);
             self.fresh.push(cell)?;
         }
@@ -177,7 +216,7 @@ impl Walk {
         rvalue: &Rvalue,
     ) -> Result<(), OutOfMemory>
         requires { length self.old.cells ≡ length sight.paths.now }
-        ensures cells { length self.new.cells ≡ length sight.paths.now }
+        ensures cells { length self.new.cells ≡ length sight.entry.paths.now }
         ensures ok { OnOk result (facts_in sight.entry self.new.cells ≡ facts.learn place.now (value_known (text_in sight.entry) (facts_in sight.entry self.old.cells) (rvalue_of (trees_in sight.entry) rvalue.now)) (moved_all (rvalue_operands (rvalue_of (trees_in sight.entry) rvalue.now)) (facts_in sight.entry self.old.cells))) }
         ensures err { OnErr result (self.new.cells ≡ self.old.cells) }
     {
@@ -189,6 +228,7 @@ impl Walk {
     }
 
     /// Goes over a statement. After an `Err` what is known is as it was before.
+    #[tactic(auto, unfolding(crate::specs::Facts::after_stmt))]
     pub fn pass(
         &mut self,
         alloc: Global,
@@ -196,7 +236,7 @@ impl Walk {
         stmt: &Stmt,
     ) -> Result<(), OutOfMemory>
         requires { length self.old.cells ≡ length sight.paths.now }
-        ensures cells { length self.new.cells ≡ length sight.paths.now }
+        ensures cells { length self.new.cells ≡ length sight.entry.paths.now }
         ensures ok { OnOk result (facts_in sight.entry self.new.cells ≡ after_stmt (text_in sight.entry) (stmt_of (trees_in sight.entry) stmt.now) (facts_in sight.entry self.old.cells)) }
         ensures err { OnErr result (self.new.cells ≡ self.old.cells) }
     {
@@ -222,7 +262,7 @@ impl Walk {
         stmts: &[Stmt],
     ) -> Result<(), OutOfMemory>
         requires { length self.old.cells ≡ length sight.paths.now }
-        ensures cells { length self.new.cells ≡ length sight.paths.now }
+        ensures cells { length self.new.cells ≡ length sight.entry.paths.now }
         ensures ok { OnOk result (facts_in sight.entry self.new.cells ≡ after_all (text_in sight.entry) (map (stmt_of (trees_in sight.entry)) stmts.now) (facts_in sight.entry self.old.cells)) }
     {
         for stmt in stmts {
@@ -232,9 +272,10 @@ impl Walk {
     }
 
     /// Goes over a terminator.
+    #[tactic(auto, unfolding(crate::specs::Facts::after_term))]
     pub fn leave(&mut self, sight: Sight<'_>, term: &Term)
         requires { length self.old.cells ≡ length sight.paths.now }
-        ensures cells { length self.new.cells ≡ length sight.paths.now }
+        ensures cells { length self.new.cells ≡ length sight.entry.paths.now }
         ensures facts { facts_in sight.entry self.new.cells ≡ after_term term.now (facts_in sight.entry self.old.cells) }
     {
         match term {
@@ -243,11 +284,11 @@ impl Walk {
                 self.forget_all_moved(sight, args.as_slice());
                 self.learn(sight, place, Cell::Many);
             }
-            Term::Goto(_)
-            | Term::Switch(_, _, _)
-            | Term::Return
-            | Term::Unreachable
-            | Term::Assert(_, _, _, _, _) => {}
+            Term::Goto(_) => {}
+            Term::Switch(_, _, _) => {}
+            Term::Return => {}
+            Term::Unreachable => {}
+            Term::Assert(_, _, _, _, _) => {}
         }
     }
 }

@@ -1,10 +1,11 @@
 //! What is known of rvalues.
-ghost use Rattle.std.specs.Prelude.{◌≡◌, ℕ, [], ◌∷◌, Some, length};
+ghost use Rattle.std.specs.Prelude.{◌≡◌, ℕ, List, [], ◌∷◌, Some, length, MatchOption};
+ghost use Rattle.mir_syntax.specs.declared.body.Proj.{Proj};
 ghost use Rattle.mir_syntax.specs.declared.body.Proj.TheVariants.{Field};
 ghost use Rattle.mir_syntax.specs.declared.body.Operand.TheVariants as operand;
 ghost use Rattle.mir_syntax.specs.Tree.{at_id, trees_of};
 ghost use Rattle.mir_syntax.specs.Crate.{rvalue_of, overflow, tuple, build};
-ghost use Rattle.mir_semantics.specs.Step.{scalar_in, scalar_ty_of};
+ghost use Rattle.mir_semantics.specs.Step.{const_ty, scalar_in, scalar_ty_of};
 ghost use Rattle.const_flow.specs.Facts as facts;
 ghost use Rattle.const_flow.specs.Facts.{known, one, both, binary_of, wrapped_of, flag_of, unary_of, cast_of, value_known};
 ghost use Rattle.const_flow.specs.Sights.{text_in, trees_in, facts_in};
@@ -13,7 +14,7 @@ use crate::cell::Cell;
 use crate::places::{known, part_known};
 use mir_num::{binop, cast_scalar, flag, over_scalar, unary};
 use mir_syntax::{
-    BinOp, Body, Const, Operand, OverOp, Place, Program, Proj, Rvalue, ScalarTy, Ty, TyId, UnOp,
+    BinOp, Body, Const, List, Operand, OverOp, Place, Program, Proj, Rvalue, ScalarTy, Ty, TyId, UnOp,
 };
 use place_map::PathMap;
 
@@ -39,6 +40,28 @@ fn scalar_of(program: &Program, id: TyId) -> Option<ScalarTy>
     }
 }
 
+fn const_scalar(value: Const) -> Option<ScalarTy>
+    ensures { result ≡ scalar_in (const_ty value) }
+{
+    match value {
+        Const::Int(ty, _) => Some(ScalarTy::Int(ty)),
+        Const::Bool(_) => Some(ScalarTy::Bool),
+        Const::Unit => None,
+    }
+}
+
+/// The field that comes first on a way, and what is left of it.
+fn split_field(way: &[Proj]) -> Option<(u32, &[Proj])>
+    ensures { MatchOption result
+        ((i : ℕ) (ps : List Proj) → way.now ≡ Field i ∷ ps → ⊥)
+        (λ split. way.now ≡ Field split.0 ∷ split.1.now) }
+{
+    match way {
+        [Proj::Field(index), rest @ ..] => Some((*index, rest)),
+        _ => None,
+    }
+}
+
 impl Sight<'_> {
     fn place_scalar(self, place: &Place) -> Option<ScalarTy>
         ensures copied { result ≡ scalar_ty_of (text_in self.entry) (operand.Copy place.now) }
@@ -54,9 +77,7 @@ impl Sight<'_> {
         match operand {
             Operand::Copy(place) => self.place_scalar(place),
             Operand::Move(place) => self.place_scalar(place),
-            Operand::Const(Const::Int(ty, _)) => Some(ScalarTy::Int(*ty)),
-            Operand::Const(Const::Bool(_)) => Some(ScalarTy::Bool),
-            Operand::Const(Const::Unit) => None,
+            Operand::Const(value) => const_scalar(*value),
         }
     }
 
@@ -144,15 +165,15 @@ impl Sight<'_> {
     }
 
     /// What is known of a part of the value that is made of some values.
-    fn made_of(self, cells: &[Cell], parts: &[Operand], way: &[Proj]) -> Cell
+    fn made_of(self, cells: &[Cell], parts: &List<Operand>, way: &[Proj]) -> Cell
         requires { length cells.now ≡ length self.paths.now }
         ensures tuple { result ≡ value_known (text_in self.entry) (facts_in self.entry cells.now) (tuple parts.now) way.now }
         ensures build { (d k : ℕ) → result ≡ value_known (text_in self.entry) (facts_in self.entry cells.now) (build d k parts.now) way.now }
     {
-        let [Proj::Field(index), rest @ ..] = way else {
+        let Some((index, rest)) = split_field(way) else {
             return Cell::Many;
         };
-        match parts.get(*index as usize) {
+        match parts.get(index as usize) {
             Some(operand) => part_known(self.paths, cells, operand, rest),
             None => Cell::Many,
         }
@@ -170,14 +191,21 @@ impl Sight<'_> {
         requires { length cells.now ≡ length self.paths.now }
         ensures { result ≡ value_known (text_in self.entry) (facts_in self.entry cells.now) (overflow op left.now right.now) way.now }
     {
-        match way {
-            [Proj::Field(0)] => self.overflow(cells, op, left, right).0,
-            [Proj::Field(1)] => self.overflow(cells, op, left, right).1,
-            _ => Cell::Many,
+        let Some((index, rest)) = split_field(way) else {
+            return Cell::Many;
+        };
+        if !rest.is_empty() {
+            return Cell::Many;
         }
+        if 1 < index {
+            return Cell::Many;
+        }
+        let (bits, is_over) = self.overflow(cells, op, left, right);
+        if index == 0 { bits } else { is_over }
     }
 
     /// What is known of the whole value of an rvalue.
+    #[tactic(auto, unfolding(crate::specs::Facts::value_known))]
     pub fn scalar(self, cells: &[Cell], rvalue: &Rvalue) -> Cell
         requires { length cells.now ≡ length self.paths.now }
         ensures { result ≡ value_known (text_in self.entry) (facts_in self.entry cells.now) (rvalue_of (trees_in self.entry) rvalue.now) [] }
@@ -187,7 +215,12 @@ impl Sight<'_> {
             Rvalue::Binary(op, left, right) => self.binary(cells, *op, left, right),
             Rvalue::Unary(op, operand) => self.unary(cells, *op, operand),
             Rvalue::Cast(operand, to) => self.cast(cells, operand, *to),
-            _ => Cell::Many,
+            Rvalue::Overflow(_, _, _) => Cell::Many,
+            Rvalue::Ref(_) => Cell::Many,
+            Rvalue::RefMut(_) => Cell::Many,
+            Rvalue::Discriminant(_) => Cell::Many,
+            Rvalue::Tuple(_) => Cell::Many,
+            Rvalue::Build(_, _, _) => Cell::Many,
         }
     }
 
@@ -198,8 +231,8 @@ impl Sight<'_> {
     {
         match rvalue {
             Rvalue::Use(operand) => part_known(self.paths, cells, operand, way),
-            Rvalue::Tuple(parts) => self.made_of(cells, parts.as_slice(), way),
-            Rvalue::Build(_, _, parts) => self.made_of(cells, parts.as_slice(), way),
+            Rvalue::Tuple(parts) => self.made_of(cells, parts, way),
+            Rvalue::Build(_, _, parts) => self.made_of(cells, parts, way),
             Rvalue::Overflow(op, left, right) => {
                 self.overflow_part(cells, *op, left, right, way)
             }
