@@ -13,3 +13,5 @@ pub mod EachEdge
 pub mod Nodes
 pub mod Joins
 pub mod FlownRows
+pub mod Gathering
+pub mod Tracking

@@ -79,8 +79,9 @@ fn sent_out(
 fn first_cells(alloc: Global, sight: Sight<'_>) -> Result<List<Cell>, OutOfMemory>
     ensures { IfOk result (λ cells. Some cells ≡ row_of (begun (body_in sight.entry) sight.entry.paths.now 0)) }
 {
+    let places = sight.paths.places();
     let mut cells = List::new(alloc);
-    for place in sight.paths.places() {
+    for place in places {
         let is_argument = place.local != 0 && place.local <= sight.body.args;
         cells.push(if is_argument {
             Cell::Many

@@ -9,6 +9,7 @@ ghost use Rattle.mir_cfg.specs.Paths.{terms_of, Closed};
 ghost use Rattle.const_flow.specs.declared.cell.Cell.TheVariants.{Many};
 ghost use Rattle.const_flow.specs.ConstAt.{tracked, const_at};
 ghost use Rattle.const_flow.specs.Cells.{facts_of, reached_of, told};
+ghost use Rattle.const_flow.specs.Compact.{reached_in, IsCompact};
 ghost use Rattle.const_flow.specs.Nodes.{cells_of, IsRow};
 
 use crate::cell::{Cell, Known};
@@ -112,22 +113,31 @@ pub fn consts(alloc: Global, program: &Program, body: &Body) -> Result<ConstRows
     gathered(alloc, paths, facts.as_slice())
 }
 
-impl ConstRows {
-    /// The cells at a block's start. `None` where the block is unreached, and where there is no such block.
-    fn row(&self, block: u32) -> Option<&[Cell]>
-        ensures { MatchOption result (get_or self.now block None ≡ None) (λ cells. get_or self.now block None ≡ Some (facts_of self.entry.paths cells.now)) }
-    {
-        let from = (*self.rows.get(block as usize)?)?;
-        let to = from + self.paths.len() as usize;
-        Some(&self.cells.as_slice()[from..to])
-    }
+/// The cells at a block's start. `None` where the block is unreached, and where there is no such block.
+fn row<'a>(
+    paths: &PathMap,
+    rows: &[Option<usize>],
+    cells: &'a [Cell],
+    block: u32,
+) -> Option<&'a [Cell]>
+    requires { IsCompact paths.now cells.now rows.now }
+    ensures length { MatchOption result (Unit {0}) (λ row. length row.now ≡ length paths.now) }
+    ensures facts { MatchOption result (get_or (map (reached_in paths.now cells.now) rows.now) block None ≡ None) (λ row. get_or (map (reached_in paths.now cells.now) rows.now) block None ≡ Some (facts_of paths.now row.now)) }
+{
+    let Some(Some(from)) = rows.get(block as usize) else {
+        return None;
+    };
+    Some(&cells[*from..*from + paths.len() as usize])
+}
 
+impl ConstRows {
     /// What is known at the start of a block of the tracked place with a number: anything may be where there is no such place. A block that isn't
     /// there is unreached.
     pub fn at(&self, block: u32, path: u32) -> Known
         ensures { result ≡ told (option_map (λ fs. get_or (cells_of fs) path Many) (get_or self.now block None)) }
     {
-        let Some(cells) = self.row(block) else {
+        let rows = self.rows.as_slice();
+        let Some(cells) = row(&self.paths, rows, self.cells.as_slice(), block) else {
             return Known::Unreached;
         };
         match cells.get(path as usize) {
@@ -140,7 +150,8 @@ impl ConstRows {
     pub fn facts(&self, alloc: Global, block: u32) -> Result<Facts<'_>, OutOfMemory>
         ensures { IfOk result (λ facts. facts ≡ get_or self.now block None) }
     {
-        let walk = match self.row(block) {
+        let rows = self.rows.as_slice();
+        let walk = match row(&self.paths, rows, self.cells.as_slice(), block) {
             Some(cells) => Some(Walk {
                 cells: copied(alloc, cells)?,
                 fresh: List::new(alloc),

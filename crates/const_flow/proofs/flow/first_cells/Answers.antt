@@ -8,5 +8,5 @@ pub returns : goal.returns
 returns c =
     let ps = c.args.sight.paths.now in
     let b = body_in c.args.sight in
-    let all : c.loop-place.place-index ≡ length ps = omega (arith, ap length c.before.places.ensures) in
+    let all : c.loop-place.place-index ≡ length ps = omega (arith, ap length c.places-places.ensures) in
     ap Some (c.loop-place.invariant ∙ ap (λ n. map (first_cell b) (take n ps)) all ∙ ap (map (first_cell b)) (take-length ps) ∙ sym (first_row b ps))
