@@ -15,3 +15,4 @@ pub mod Joins
 pub mod FlownRows
 pub mod Gathering
 pub mod Tracking
+pub mod Starts

@@ -82,6 +82,7 @@ fn solved(
     ensures rows { IfOk result (λ facts. All (IsRow paths.now) facts) }
     ensures starts { IfOk result (λ facts. map (reached_of paths.now) (take (length body.now.blocks) facts) ≡ const_at (shapes_of (crate_of program.now)) (body_of (trees_of program.now.types) body.now)) }
 {
+    let edges = edges(alloc, body.blocks.as_slice())?;
     let blocks = body.blocks.len() as u32;
     let flow = ConstFlow {
         sight: Sight {
@@ -90,7 +91,7 @@ fn solved(
             paths,
         },
         blocks,
-        edges: edges(alloc, body.blocks.as_slice())?,
+        edges,
     };
     solve(alloc, &flow, 2 * blocks, flow.edges.as_slice())
 }
