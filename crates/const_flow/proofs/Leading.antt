@@ -1,5 +1,5 @@
 -- The blocks that a switch can lead to.
-use Rattle.std.proofs.Common.{◌≡◌, refl, ap, ◌∙◌, ℕ, zero, suc, ◌<◌, Bool, true, false, ◌||◌, nat_eq, List, [], ◌∷◌, ◌++◌, map, length, arith}
+use Rattle.std.proofs.Common.{◌≡◌, refl, ap, ℕ, zero, suc, ◌<◌, Bool, true, false, ◌||◌, nat_eq, List, [], ◌∷◌, ◌++◌, map, length, arith}
 use Rattle.std.specs.Prelude.{slice_index_or, Contains}
 use Rattle.mir_syntax.specs.declared.body.Arm.{Arm}
 use Rattle.mir_syntax.specs.Parts.{arm_block}

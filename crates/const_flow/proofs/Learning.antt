@@ -1,5 +1,5 @@
 -- Cells that are put in the place of a span are what is learnt of its place.
-use Rattle.std.proofs.Common.{◌≡◌, refl, sym, ap, ap₂, ◌∙◌, ℕ, zero, suc, ◌+◌, ◌-◌, ◌≤◌, ◌<◌, Bool, true, false, List, [], ◌∷◌, ◌++◌, map, length, take, drop, set, replicate, Option, Some, None, is_some, IsTrue, ◌↔◌, slice_get, arith}
+use Rattle.std.proofs.Common.{◌≡◌, refl, sym, ap, ap₂, ◌∙◌, ℕ, zero, suc, ◌+◌, ◌-◌, ◌≤◌, ◌<◌, List, [], ◌∷◌, ◌++◌, map, length, take, drop, set, replicate, Option, Some, None, is_some, IsTrue, arith}
 use Rattle.std.proofs.lemmas.List.{length-take, length-drop, length-append, length-map, length-replicate, drop_at, take_at}
 use Rattle.std.proofs.lemmas.List.Edits.{paste_none, paste_all, fill_from_more}
 use lib.Seq.{paste}

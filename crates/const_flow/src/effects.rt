@@ -100,7 +100,12 @@ pub(crate) fn leads(sight: Sight<'_>, cells: &[Cell], term: &Term, to: u32) -> b
     match term {
         Term::Goto(next) => *next == to,
         Term::Switch(operand, arms, other) => {
-            switch_leads(known(sight.paths, cells, operand), arms.as_slice(), *other, to)
+            switch_leads(
+                known(sight.paths, cells, operand),
+                arms.as_slice(),
+                *other,
+                to,
+            )
         }
         Term::Return => false,
         Term::Unreachable => false,
@@ -229,12 +234,7 @@ impl Walk {
 
     /// Goes over a statement. After an `Err` what is known is as it was before.
     #[tactic(auto, unfolding(crate::specs::Facts::after_stmt))]
-    pub fn pass(
-        &mut self,
-        alloc: Global,
-        sight: Sight<'_>,
-        stmt: &Stmt,
-    ) -> Result<(), OutOfMemory>
+    pub fn pass(&mut self, alloc: Global, sight: Sight<'_>, stmt: &Stmt) -> Result<(), OutOfMemory>
         requires { length self.old.cells ≡ length sight.paths.now }
         ensures cells { length self.new.cells ≡ length sight.entry.paths.now }
         ensures ok { OnOk result (facts_in sight.entry self.new.cells ≡ after_stmt (text_in sight.entry) (stmt_of (trees_in sight.entry) stmt.now) (facts_in sight.entry self.old.cells)) }

@@ -14,7 +14,8 @@ use crate::cell::Cell;
 use crate::places::{known, part_known};
 use mir_num::{binop, cast_scalar, flag, over_scalar, unary};
 use mir_syntax::{
-    BinOp, Body, Const, List, Operand, OverOp, Place, Program, Proj, Rvalue, ScalarTy, Ty, TyId, UnOp,
+    BinOp, Body, Const, List, Operand, OverOp, Place, Program, Proj, Rvalue, ScalarTy, Ty, TyId,
+    UnOp,
 };
 use place_map::PathMap;
 

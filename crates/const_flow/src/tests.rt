@@ -1,7 +1,7 @@
 use crate::{Known, consts};
 use mir_syntax::{
-    Arm, Block, Body, Const, IntTy, List, Operand, OutOfMemory, Place, Program, Rvalue, ScalarTy,
-    Stmt, Term, Ty,
+    Arm, Block, Body, Const, IntTy, List, Operand, OutOfMemory, OverOp, Place, Program, Rvalue,
+    ScalarTy, Stmt, Term, Ty,
 };
 use std::alloc::Global;
 use std::test::Fail;
@@ -75,5 +75,25 @@ fn a_known_choice_goes_one_way(rt: HostRuntime) -> Result<(), Fail> {
     assert_eq!(rt; rows.at(2, 0), Known::Unreached);
     assert_eq!(rt; rows.at(3, 0), Known::Num(1));
     assert_eq!(rt; rows.at(3, 1), Known::Num(0));
+    Ok(())
+}
+
+#[test]
+fn a_statement_is_passed(rt: HostRuntime) -> Result<(), Fail> {
+    let alloc = rt.alloc();
+    let mut program = Program::new(alloc);
+    let body = choice(alloc, &mut program, 1, None)?;
+    let rows = consts(alloc, &program, &body)?;
+    let mut facts = rows.facts(alloc, 0)?;
+    let copy = Operand::Copy(local(alloc, 1));
+    assert_eq!(rt; facts.operand(&copy), Known::Many);
+    facts.pass(&program, &body, &sets(alloc, 1, 255))?;
+    assert_eq!(rt; facts.operand(&copy), Known::Num(255));
+    let one = Operand::Const(Const::Int(IntTy::U8, 1));
+    let sum = Rvalue::Overflow(OverOp::Add, copy, one);
+    assert_eq!(rt;
+        facts.pair(&program, &body, &sum),
+        (Known::Num(0), Known::Num(1))
+    );
     Ok(())
 }

@@ -1,4 +1,4 @@
-use Rattle.std.proofs.Common.{◌≡◌, ◌≤◌, ◌-◌, ◌∙◌, ap, replicate, arith}
+use Rattle.std.proofs.Common.{◌≡◌, ◌-◌, ◌∙◌, ap, replicate, arith}
 use Rattle.const_flow.specs.Cells.{put_from}
 use Rattle.const_flow.proofs.Learning.{filled_none, filled_more}
 use Rattle.const_flow.proofs.effects.fill.Goals as goal

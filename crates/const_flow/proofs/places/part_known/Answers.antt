@@ -1,4 +1,4 @@
-use Rattle.std.proofs.Common.{◌≡◌, sym, ap, ◌∙◌}
+use Rattle.std.proofs.Common.{sym, ap, ◌∙◌}
 use Rattle.const_flow.specs.Facts.{part_known}
 use Rattle.const_flow.specs.Cells.{facts_of}
 use Rattle.const_flow.proofs.Looking.{no_parts}

@@ -1,4 +1,4 @@
-use Rattle.std.proofs.Common.{◌≡◌, sym, ap, ◌∙◌}
+use Rattle.std.proofs.Common.{sym}
 use Rattle.place_map.specs.Tracked.{beyond}
 use Rattle.const_flow.proofs.Looking.{look_none, look_number}
 use Rattle.const_flow.proofs.places.place_known.Goals as goal

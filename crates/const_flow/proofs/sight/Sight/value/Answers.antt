@@ -13,4 +13,4 @@ returns-in-Use c = c.part_known.ensures ∙ sym (ap (λ (x : Rvalue). value_know
 pub returns-in_default-2 : goal.returns-in_default-2
 returns-in_default-2 c =
     no_part (text_in c.args.self) (facts_in c.args.self c.args.cells.now) (trees_in c.args.self) c.args.rvalue.now c.args.way.now (sym c.is_empty.ensures ∙ c.if-is_empty.false)
-        c.in_default-2.not-Use c.in_default-2.not-Tuple c.in_default-2.not-Build c.in_default-2.not-Overflow
+    c.in_default-2.not-Use c.in_default-2.not-Tuple c.in_default-2.not-Build c.in_default-2.not-Overflow
