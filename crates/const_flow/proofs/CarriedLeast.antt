@@ -93,7 +93,7 @@ module _ {A B : Type 0} (OkA : A → Type 0) (OkB : B → Type 0) (read : A → 
       };
       facts = λ b y g. (let w = get_mapped read ys b y g in subst OkB w.2 (naming.read_ok w.0 (m.facts b w.0 w.1)));
       least = λ ws ok s b y z gy gz.
-        let w = get_mapped read ys b y gy in
-        let below = m.least (map written ws) (named_ok ws ok s) (named_solves ws ok s) b w.0 (written z) w.1 (mapped_get written ws b z gz) in
-        subst (Below y) (naming.read_written z (ok b z gz)) (subst (λ v. Below v (read (written z))) w.2 below.1);
+          let w = get_mapped read ys b y gy in
+          let below = m.least (map written ws) (named_ok ws ok s) (named_solves ws ok s) b w.0 (written z) w.1 (mapped_get written ws b z gz) in
+          subst (Below y) (naming.read_written z (ok b z gz)) (subst (λ v. Below v (read (written z))) w.2 below.1);
     }

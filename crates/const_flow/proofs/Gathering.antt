@@ -48,6 +48,6 @@ one_reached ps cells row rows xs long w = record {
     | inr g ↦ (let old = w.compact b from g in omega (arith, length-append cells row))
   ];
   known = map_push (reached_in ps (cells ++ row)) rows (Some (length cells))
-    ∙ ap₂ (λ ys (ks : List Cell). ys ++ Some (facts_of ps ks) ∷ []) (kept_rows ps cells row rows w.compact ∙ w.known) (ap (take (length ps)) (past_cells cells row) ∙ ap (λ n. take n row) (sym long) ∙ take-length row)
-    ∙ sym (map_push (reached_of ps) xs (Some row));
+      ∙ ap₂ (λ ys (ks : List Cell). ys ++ Some (facts_of ps ks) ∷ []) (kept_rows ps cells row rows w.compact ∙ w.known) (ap (take (length ps)) (past_cells cells row) ∙ ap (λ n. take n row) (sym long) ∙ take-length row)
+      ∙ sym (map_push (reached_of ps) xs (Some row));
 }

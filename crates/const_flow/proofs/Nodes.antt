@@ -47,9 +47,11 @@ arrow_get : (h : Here) (a : ℕ) (ks : List TypedBlock) (b : ℕ) (k : TypedBloc
 arrow_get h a [] b k t e c = absurd (grind arith)
 arrow_get h a (l ∷ ks) zero k t e c =
     let (i, q) = at_contains (targets k.term) t c in
-    let same : l ≡ k = some_one e in
-    (i, slice_get-front (map (arrow h a l) (targets l.term)) (arrows_from h (suc a) ks) i (arrow h (a + 0) k t)
-      (subst (λ (m : TypedBlock). slice_get (map (arrow h a m) (targets m.term)) i ≡ Some (arrow h (a + 0) k t)) (sym same) (subst (λ n. slice_get (map (arrow h a k) (targets k.term)) i ≡ Some (arrow h n k t)) (let z : a ≡ a + 0 = omega arith in z) (mapped_at (arrow h a k) (targets k.term) i t q))))
+    let same : l ≡ k = some_one e in (
+      i,
+      slice_get-front (map (arrow h a l) (targets l.term)) (arrows_from h (suc a) ks) i (arrow h (a + 0) k t)
+          (subst (λ (m : TypedBlock). slice_get (map (arrow h a m) (targets m.term)) i ≡ Some (arrow h (a + 0) k t)) (sym same) (subst (λ n. slice_get (map (arrow h a k) (targets k.term)) i ≡ Some (arrow h n k t)) (let z : a ≡ a + 0 = omega arith in z) (mapped_at (arrow h a k) (targets k.term) i t q))),
+    )
 arrow_get h a (l ∷ ks) (suc b) k t e c =
     let (i, q) = arrow_get h (suc a) ks b k t e c in
     (length (map (arrow h a l) (targets l.term)) + i, subst (λ n. slice_get (map (arrow h a l) (targets l.term) ++ arrows_from h (suc a) ks) (length (map (arrow h a l) (targets l.term)) + i) ≡ Some (arrow h n k t)) (let z : suc a + b ≡ a + suc b = omega arith in z) (get_later (map (arrow h a l) (targets l.term)) (arrows_from h (suc a) ks) i (arrow h (suc a + b) k t) q))
@@ -141,22 +143,30 @@ module _ (D : List Shape) (b : TypedBody) (terms : List Term) (es : List Edge) (
       flows d s x = ap (λ (f : Reached → Reached). f x) w.flows ∙ ap (λ o. along (text D b) b.blocks o x) (w.at ∙ ap (λ (d : Edge). Some d) s)
 
       go : (n : ℕ) × (n < length b.blocks) × IsOf (length b.blocks) terms n w.edge → ((n : ℕ) × IsOver (length b.blocks) half n e) ⊎ ((j : ℕ) × (a : Arrow Reached) × (slice_get (arrows_from (text D b) 0 b.blocks) j ≡ Some a) × IsBehind (length b.blocks) half a e)
-      go (n, l, inl s) = inl (n, record {
-        low = l;
-        from = w.from ∙ ap (λ (d : Edge). d.from) s;
-        to = w.to ∙ ap (λ (d : Edge). d.to) s;
-        flows = λ x. flows (over (length b.blocks) n) s x ∙ over_along n x l;
-      })
+      go (n, l, inl s) = inl (
+        n,
+        record {
+          low = l;
+          from = w.from ∙ ap (λ (d : Edge). d.from) s;
+          to = w.to ∙ ap (λ (d : Edge). d.to) s;
+          flows = λ x. flows (over (length b.blocks) n) s x ∙ over_along n x l;
+        },
+      )
       go (n, l, inr (t, c, s)) =
           let k = block_at b.blocks n in
           let (j, g) = arrow_get (text D b) 0 b.blocks n k t (block_is n l) (subst (λ us. Contains us t) (same_terms n k (block_is n l)) c) in
-          inr (j, arrow (text D b) n k t, g ∙ ap (λ m. Some (arrow (text D b) m k t)) (let z : 0 + n ≡ n = omega arith in z), record {
-            low = l;
-            low_to = closed n t l c;
-            from = w.from ∙ ap (λ (d : Edge). d.from) s;
-            to = w.to ∙ ap (λ (d : Edge). d.to) s;
-            flows = λ x. sent_is (text D b) k t x ∙ sym (flows (out (length b.blocks) n t) s (half n x) ∙ out_along n t (half n x));
-          })
+          inr (
+            j,
+            arrow (text D b) n k t,
+            g ∙ ap (λ m. Some (arrow (text D b) m k t)) (let z : 0 + n ≡ n = omega arith in z),
+            record {
+              low = l;
+              low_to = closed n t l c;
+              from = w.from ∙ ap (λ (d : Edge). d.from) s;
+              to = w.to ∙ ap (λ (d : Edge). d.to) s;
+              flows = λ x. sent_is (text D b) k t x ∙ sym (flows (out (length b.blocks) n t) s (half n x) ∙ out_along n t (half n x));
+            },
+          )
 
   -- the arrow of an edge
   flown_at : (d : Edge) → Contains es d → (i : ℕ) × (e : Arrow Reached) × (slice_get (arrows_at (flown (text D b) b.blocks es) 0 es) i ≡ Some e) × (e.from ≡ d.from) × (e.to ≡ d.to) × ((x : Reached) → e.flow x ≡ along (text D b) b.blocks (Some d) x)
@@ -177,14 +187,18 @@ module _ (D : List Shape) (b : TypedBody) (terms : List Term) (es : List Edge) (
       let same : arrow (text D b) n r.block r.to ≡ a = ap (λ m. arrow (text D b) m r.block r.to) (let z : n ≡ 0 + n = omega arith in z) ∙ r.same in
       let inside = slice_get_within b.blocks n r.block r.there in
       let here : block_at b.blocks n ≡ r.block = get_or_from_slice_get b.blocks n r.block no_block r.there in
-      let (i, e, ie, from, to, flows) = flown_at (out (length b.blocks) n r.to) (has.outs n r.to inside (subst (λ us. Contains us r.to) (sym (same_terms n r.block r.there)) r.target)) in
-      (i, e, ie, subst (λ a. IsBehind (length b.blocks) half a e) same (record {
-        low = inside;
-        low_to = subst (λ (a : Arrow Reached). a.to < length b.blocks) (sym same) low_to;
-        from = from;
-        to = to;
-        flows = λ x. sent_is (text D b) r.block r.to x ∙ ap (λ (k : TypedBlock). sent_out k.term r.to (gone_over (text D b) k x)) (sym here) ∙ sym (flows (half n x) ∙ out_along n r.to (half n x));
-      }))
+      let (i, e, ie, from, to, flows) = flown_at (out (length b.blocks) n r.to) (has.outs n r.to inside (subst (λ us. Contains us r.to) (sym (same_terms n r.block r.there)) r.target)) in (
+        i,
+        e,
+        ie,
+        subst (λ a. IsBehind (length b.blocks) half a e) same (record {
+          low = inside;
+          low_to = subst (λ (a : Arrow Reached). a.to < length b.blocks) (sym same) low_to;
+          from = from;
+          to = to;
+          flows = λ x. sent_is (text D b) r.block r.to x ∙ ap (λ (k : TypedBlock). sent_out k.term r.to (gone_over (text D b) k x)) (sym here) ∙ sym (flows (half n x) ∙ out_along n r.to (half n x));
+        }),
+      )
 
   halves : IsHalves (OkReached (tracked D b)) BelowReached (length b.blocks) half (const_flow D b) (problem join_reached (begun b (tracked D b)) (flown (text D b) b.blocks es) (length b.blocks + length b.blocks) es)
   unfolding const_flow problem

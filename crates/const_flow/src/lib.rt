@@ -6,6 +6,9 @@
 //!
 //! `Facts` carries what is known from statement to statement: `pass` makes of it what `after_stmt` says, and `operand`, `scalar` and `pair` tell
 //! what `known` and `value_known` say, or that the block is unreached (`told` of `specs/Cells.antt`).
+//!
+//! `consts` solves that problem over the blocks' starts and ends (`specs/Nodes.antt`), and its rows are exactly `const_at`. `ConstRows::at` tells what
+//! is known of one tracked place at a block's start, and `ConstRows::facts` gives the `Facts` that stand there.
 #![tactic(auto)]
 
 mod cell;
@@ -16,8 +19,6 @@ mod flow;
 mod places;
 mod rows;
 mod sight;
-#[cfg(test)]
-mod tests;
 
 pub use cell::{Cell, Known};
 pub use facts::Facts;

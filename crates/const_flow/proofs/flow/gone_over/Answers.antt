@@ -11,4 +11,4 @@ pub returns : goal.returns
 returns c =
     let s = c.args.sight in
     walked_row s.paths.now c.pass_all.new.self.cells (after_all (text_in s) (map (stmt_of (trees_in s)) c.args.block.now.stmts) (facts_in s c.args.cells.now)) c.pass_all.ensures.cells
-      (c.in_ok-pass_all.ensures.ok ∙ ap₂ (λ (ss : List Stmt) (ks : List Cell). after_all (text_in s) (map (stmt_of (trees_in s)) ss) (facts_in s ks)) c.as_slice.ensures c.in_ok-copied.ensures)
+    (c.in_ok-pass_all.ensures.ok ∙ ap₂ (λ (ss : List Stmt) (ks : List Cell). after_all (text_in s) (map (stmt_of (trees_in s)) ss) (facts_in s ks)) c.as_slice.ensures c.in_ok-copied.ensures)

@@ -56,7 +56,7 @@ returns c =
     let block : get_or typed (e.from - n) no_block ≡ block_of (trees_in s) (get_or body.blocks (e.from - n) item) = get_or-map (block_of (trees_in s)) body.blocks (e.from - n) item no_block (end_within n (terms_of body) e tested low) in
     let term : item.term ≡ (block_at typed (e.from - length typed)).term = ap (λ (b : Block). b.term) here ∙ ap (λ (b : TypedBlock). b.term) (sym block) ∙ ap (λ k. (block_at typed (e.from - k)).term) (sym count) in
     let sent : row_of (sent_out item.term e.to (Some (facts_of ps c.as_slice-2.result.now))) ≡ sent_row (text_in s) typed a.edges ps c.args.edge c.args.fact.now =
-      ap₂ (λ (t : Term) (ks : List Cell). row_of (sent_out t e.to (Some (facts_of ps ks)))) term c.as_slice-2.ensures
-      ∙ out_sent (text_in s) typed a.edges ps c.args.edge e c.in-Some-Some.cells at (omega (arith, count))
-      ∙ ap (sent_row (text_in s) typed a.edges ps c.args.edge) (sym c.in-Some-Some.is-1) in
+    ap₂ (λ (t : Term) (ks : List Cell). row_of (sent_out t e.to (Some (facts_of ps ks)))) term c.as_slice-2.ensures
+    ∙ out_sent (text_in s) typed a.edges ps c.args.edge e c.in-Some-Some.cells at (omega (arith, count))
+    ∙ ap (sent_row (text_in s) typed a.edges ps c.args.edge) (sym c.in-Some-Some.is-1) in
     IfOk-weaker c.sent_out.result (λ made. made ≡ row_of (sent_out item.term e.to (Some (facts_of ps c.as_slice-2.result.now)))) (λ made. made ≡ sent_row (text_in s) typed a.edges ps c.args.edge c.args.fact.now) (λ made q. q ∙ sent) c.sent_out.ensures

@@ -13,7 +13,7 @@ returns-in-Some-get c =
     let cells = c.in-Some.cells.now in
     let cell = c.in-Some-get.cell.now in
     let known : get_or c.args.self.now c.args.block None ≡ Some (facts_of ps cells) =
-      ap (λ xs. get_or xs c.args.block None) (sym c.self.view_is) ∙ ap₂ (λ (ks : List Cell) (rows : List (Option ℕ)). get_or (map (reached_in ps ks) rows) c.args.block None) (sym c.as_slice.ensures) (sym c.as_slice-rows.ensures) ∙ c.in-Some.ensures.facts in
+    ap (λ xs. get_or xs c.args.block None) (sym c.self.view_is) ∙ ap₂ (λ (ks : List Cell) (rows : List (Option ℕ)). get_or (map (reached_in ps ks) rows) c.args.block None) (sym c.as_slice.ensures) (sym c.as_slice-rows.ensures) ∙ c.in-Some.ensures.facts in
     let here : get_or cells c.args.path Many ≡ cell = get_or_default cells c.args.path Many cell c.in-Some-get.ensures.lookup.3.0 ∙ sym c.in-Some-get.ensures.lookup.1 in
     c.of.ensures ∙ told_some ps cells c.args.path cell (get_or c.args.self.now c.args.block None) c.in-Some.ensures.length known here
 
@@ -22,5 +22,5 @@ returns-in-None c =
     let ps = c.self.inside.paths in
     let cells = c.in-Some.cells.now in
     let known : get_or c.args.self.now c.args.block None ≡ Some (facts_of ps cells) =
-      ap (λ xs. get_or xs c.args.block None) (sym c.self.view_is) ∙ ap₂ (λ (ks : List Cell) (rows : List (Option ℕ)). get_or (map (reached_in ps ks) rows) c.args.block None) (sym c.as_slice.ensures) (sym c.as_slice-rows.ensures) ∙ c.in-Some.ensures.facts in
+    ap (λ xs. get_or xs c.args.block None) (sym c.self.view_is) ∙ ap₂ (λ (ks : List Cell) (rows : List (Option ℕ)). get_or (map (reached_in ps ks) rows) c.args.block None) (sym c.as_slice.ensures) (sym c.as_slice-rows.ensures) ∙ c.in-Some.ensures.facts in
     told_some ps cells c.args.path Many (get_or c.args.self.now c.args.block None) c.in-Some.ensures.length known (get_or_past cells c.args.path Many c.in-None.ensures.lookup.3)
