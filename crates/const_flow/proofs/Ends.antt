@@ -4,7 +4,7 @@ use Rattle.std.proofs.lemmas.Bool.{eqb-true}
 use Rattle.flow_engine.specs.Flow.{Arrow, Flow, Solves, Least}
 use Rattle.const_flow.specs.Rounds.{along, gather, rows_from, round, repeated}
 use Rattle.flow_engine.proofs.Laws.{Laws}
-use Rattle.const_flow.proofs.Same.{same_or_not}
+use Rattle.const_flow.specs.Same.{same_or_not}
 
 some_one : {A : Type 0} {x y : A} → Some x ≡ Some y → x ≡ y
 some_one e = grind arith

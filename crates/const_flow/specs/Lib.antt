@@ -2,3 +2,12 @@ pub mod Rounds
 pub mod Facts
 pub mod ConstAt
 pub mod Order
+pub mod Cells
+pub mod Sights
+pub mod Nodes
+pub mod Compact
+pub mod Carried
+pub mod Same
+pub mod Heights
+pub mod Rises
+pub mod Lattice

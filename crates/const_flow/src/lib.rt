@@ -3,8 +3,23 @@
 //! Of each tracked place of a body (`place_map`) is known, at a point, that it is a hole, or a hole or one number, or that it may be anything
 //! (`Cell`). What statements and terminators make of that stands in `specs/Facts.antt`, and what is known at the start of each block
 //! (`const_at`) in `specs/ConstAt.antt`, as the least solution of the flow problem `const_flow`.
+//!
+//! `Facts` carries what is known from statement to statement: `pass` makes of it what `after_stmt` says, and `operand`, `scalar` and `pair` tell
+//! what `known` and `value_known` say, or that the block is unreached (`told` of `specs/Cells.antt`).
+//!
+//! `consts` solves that problem over the blocks' starts and ends (`specs/Nodes.antt`), and its rows are exactly `const_at`. `ConstRows::at` tells what
+//! is known of one tracked place at a block's start, and `ConstRows::facts` gives the `Facts` that stand there.
 #![tactic(auto)]
 
 mod cell;
+mod edges;
+mod effects;
+mod facts;
+mod flow;
+mod places;
+mod rows;
+mod sight;
 
-pub use cell::Cell;
+pub use cell::{Cell, Known};
+pub use facts::Facts;
+pub use rows::{ConstRows, consts};

@@ -1,4 +1,4 @@
--- The order of what is known, its height, and that more known before gives more known of operands.
+-- The order of what is known, its height, and that more known before gives more known of operands: proofs alone, of the law that `solve` asks for.
 use Rattle.std.proofs.Common.{◌≡◌, ◌⊎◌, inl, inr, ⊎_elim, refl, sym, ap, ap₂, ◌∙◌, subst, ℕ, zero, suc, ◌+◌, ◌*◌, ◌≤◌, Bool, true, false, nat_eq, if◌then◌else◌, List, [], ◌∷◌, length, Option, Some, arith}
 use Rattle.mir_syntax.specs.declared.body.Proj.{Proj}
 use Rattle.mir_syntax.specs.declared.body.Place.{Place}
@@ -10,8 +10,8 @@ use Rattle.const_flow.specs.declared.cell.Cell.{Cell}
 use Rattle.const_flow.specs.declared.cell.Cell.TheVariants.{Nothing, Num, Many}
 use Rattle.const_flow.specs.Facts.{Facts, join, is_end, look, part_known, known, nth_known, outcome, one, both}
 use Rattle.const_flow.specs.ConstAt.{join_each}
-use Rattle.const_flow.specs.Order.{BelowCell, BelowFacts}
-use Rattle.const_flow.proofs.Same.{same_or_not}
+use Rattle.const_flow.specs.Order.{BelowCell, BelowFacts, weight, places, sum}
+use Rattle.const_flow.specs.Same.{same_or_not}
 
 some_one : {A : Type 0} {x y : A} → Some x ≡ Some y → x ≡ y
 some_one e = grind arith
@@ -80,11 +80,6 @@ known_least (Num a) (Num b) Many h k = to_many (join (Num a) (Num b))
 known_least (Num a) Many c h k = k
 known_least Many b c h k = h
 
-abbrev pub weight : Cell → ℕ
-weight Nothing = 0
-weight (Num n) = 1
-weight Many = 2
-
 weight_below : (a b : Cell) → BelowCell a b → weight a ≤ weight b
 weight_below Nothing b h = omega arith
 weight_below (Num a) (Num b) h = omega arith
@@ -111,10 +106,6 @@ weight_high (Num n) = omega arith
 weight_high Many = omega arith
 
 -- lists of facts
-abbrev pub places : Facts → List Place
-places [] = []
-places (e ∷ fs) = e.place ∷ places fs
-
 pub facts_same : (fs : Facts) → BelowFacts fs fs
 facts_same [] = tt
 facts_same (e ∷ fs) = ((refl, known_same e.known), facts_same fs)
@@ -126,10 +117,6 @@ facts_then [] (d ∷ gs) hs h k = absurd h
 facts_then (e ∷ fs) [] hs h k = absurd h
 facts_then [] [] (c ∷ hs) h k = absurd k
 facts_then (e ∷ fs) (d ∷ gs) [] h k = absurd k
-
-abbrev pub sum : Facts → ℕ
-sum [] = 0
-sum (e ∷ fs) = weight e.known + sum fs
 
 pub sum_below : (fs gs : Facts) → BelowFacts fs gs → sum fs ≤ sum gs
 sum_below [] [] h = omega arith

@@ -1,0 +1,230 @@
+-- The problem over the nodes has the halves of the body's, so its least solution has what is known at the blocks' starts.
+use Rattle.std.proofs.Common.{◌≡◌, ◌⊎◌, inl, inr, refl, sym, ap, ap₂, ◌∙◌, subst, ℕ, zero, suc, ◌+◌, ◌-◌, ◌<◌, Bool, true, false, nat_eq, nat_lt, if◌then◌else◌, List, [], ◌∷◌, ◌++◌, map, take, length, get_or, Option, Some, None, slice_get, arith}
+use Rattle.std.specs.List.{Contains}
+use Rattle.std.proofs.lemmas.Option.{slice_get_within, slice_get-get_or, get_or_from_slice_get}
+use Rattle.mir_syntax.proofs.Trees.{slice_get-front}
+use Rattle.mir_syntax.specs.declared.body.Place.{Place}
+use Rattle.mir_syntax.specs.declared.body.Term.{Term}
+use Rattle.mir_syntax.specs.Crate.{TypedBlock, TypedBody}
+use Rattle.mir_syntax.specs.Shapes.{Shape}
+use Rattle.mir_syntax.specs.Parts.{targets}
+use Rattle.mir_semantics.specs.Step.{Here}
+use Rattle.mir_cfg.specs.Paths.{exits}
+use Rattle.flow_engine.specs.declared.edges.Edge.{Edge}
+use Rattle.flow_engine.specs.Flow.{Arrow, Least, starts_to, arrows_at, problem}
+use Rattle.flow_engine.proofs.Lists.{some_one, length-starts, start_at, IsArrow, arrow_is, arrow_to}
+use Rattle.const_flow.specs.declared.cell.Cell.{Cell}
+use Rattle.const_flow.specs.ConstAt.{Reached, join_reached, sent, text, tracked, first_fact, unreached, begins, arrow, arrows_from, const_flow, const_at}
+use Rattle.const_flow.specs.Order.{BelowReached, OkReached, rank, height}
+use Rattle.const_flow.specs.Cells.{reached_of}
+use Rattle.const_flow.specs.Nodes.{over, out, IsOf, HasEdges, no_block, block_at, gone_over, sent_out, along, flown, begun, row_of, IsRow}
+use Rattle.const_flow.specs.Carried.{BelowAs, joined_as, started_as, sent_as}
+use Rattle.const_flow.specs.Rises.{same_reached, then_reached}
+use Rattle.const_flow.specs.Lattice.{over_ok, along_below, reached_lawful, rows_name}
+use Rattle.const_flow.proofs.EachEdge.{contains_at, at_contains}
+use Rattle.const_flow.proofs.CarriedLeast.{start_get, carried_least}
+use Rattle.const_flow.proofs.Halves.{IsOver, IsBehind, IsHalves, halves_least, least_one}
+use Rattle.const_flow.proofs.Rising.{begins_length, const_laws, const_least}
+
+-- ---- the body's arrows
+
+sent_is : (h : Here) (k : TypedBlock) (b : ℕ) (x : Reached) → sent h k b x ≡ sent_out k.term b (gone_over h k x)
+unfolding sent
+sent_is h k b None = refl
+sent_is h k b (Some fs) = refl
+
+get_later : {A : Type 0} (xs ys : List A) (i : ℕ) (x : A) → slice_get ys i ≡ Some x → slice_get (xs ++ ys) (length xs + i) ≡ Some x
+get_later [] ys i x e = subst (λ n. slice_get ys n ≡ Some x) (let z : i ≡ 0 + i = omega arith in z) e
+get_later (y ∷ xs) ys i x e = subst (λ n. slice_get (y ∷ (xs ++ ys)) n ≡ Some x) (let z : suc (length xs + i) ≡ suc (length xs) + i = omega arith in z) (get_later xs ys i x e)
+
+mapped_at : {A B : Type 0} (f : A → B) (xs : List A) (i : ℕ) (x : A) → slice_get xs i ≡ Some x → slice_get (map f xs) i ≡ Some (f x)
+mapped_at f [] i x e = absurd (grind arith)
+mapped_at f (y ∷ xs) zero x e = ap (λ z. Some (f z)) (some_one e)
+mapped_at f (y ∷ xs) (suc i) x e = mapped_at f xs i x e
+
+-- each target has its arrow
+arrow_get : (h : Here) (a : ℕ) (ks : List TypedBlock) (b : ℕ) (k : TypedBlock) (t : ℕ) → slice_get ks b ≡ Some k → Contains (targets k.term) t → (i : ℕ) × (slice_get (arrows_from h a ks) i ≡ Some (arrow h (a + b) k t))
+arrow_get h a [] b k t e c = absurd (grind arith)
+arrow_get h a (l ∷ ks) zero k t e c =
+    let (i, q) = at_contains (targets k.term) t c in
+    let same : l ≡ k = some_one e in (
+      i,
+      slice_get-front (map (arrow h a l) (targets l.term)) (arrows_from h (suc a) ks) i (arrow h (a + 0) k t)
+          (subst (λ (m : TypedBlock). slice_get (map (arrow h a m) (targets m.term)) i ≡ Some (arrow h (a + 0) k t)) (sym same) (subst (λ n. slice_get (map (arrow h a k) (targets k.term)) i ≡ Some (arrow h n k t)) (let z : a ≡ a + 0 = omega arith in z) (mapped_at (arrow h a k) (targets k.term) i t q))),
+    )
+arrow_get h a (l ∷ ks) (suc b) k t e c =
+    let (i, q) = arrow_get h (suc a) ks b k t e c in
+    (length (map (arrow h a l) (targets l.term)) + i, subst (λ n. slice_get (map (arrow h a l) (targets l.term) ++ arrows_from h (suc a) ks) (length (map (arrow h a l) (targets l.term)) + i) ≡ Some (arrow h n k t)) (let z : suc a + b ≡ a + suc b = omega arith in z) (get_later (map (arrow h a l) (targets l.term)) (arrows_from h (suc a) ks) i (arrow h (suc a + b) k t) q))
+
+-- and each arrow is a target's
+record IsArrowOf (h : Here) (a : ℕ) (ks : List TypedBlock) (e : Arrow Reached) : Type 0 where
+  at : ℕ
+  block : TypedBlock
+  to : ℕ
+  there : slice_get ks at ≡ Some block
+  target : Contains (targets block.term) to
+  same : arrow h (a + at) block to ≡ e
+
+get_parts : {A : Type 0} (xs ys : List A) (i : ℕ) (x : A) → slice_get (xs ++ ys) i ≡ Some x → (slice_get xs i ≡ Some x) ⊎ ((n : ℕ) × (slice_get ys n ≡ Some x))
+get_parts [] ys i x e = inr (i, e)
+get_parts (a ∷ xs) ys zero x e = inl e
+get_parts (a ∷ xs) ys (suc i) x e = get_parts xs ys i x e
+
+unmapped_at : {A B : Type 0} (f : A → B) (xs : List A) (i : ℕ) (y : B) → slice_get (map f xs) i ≡ Some y → (x : A) × (slice_get xs i ≡ Some x) × (f x ≡ y)
+unmapped_at f [] i y e = absurd (grind arith)
+unmapped_at f (x ∷ xs) zero y e = (x, refl, some_one e)
+unmapped_at f (x ∷ xs) (suc i) y e = unmapped_at f xs i y e
+
+arrow_of : (h : Here) (a : ℕ) (ks : List TypedBlock) (i : ℕ) (e : Arrow Reached) → slice_get (arrows_from h a ks) i ≡ Some e → IsArrowOf h a ks e
+arrow_of h a [] i e q = absurd (grind arith)
+arrow_of h a (k ∷ ks) i e q = elim (get_parts (map (arrow h a k) (targets k.term)) (arrows_from h (suc a) ks) i e q) [
+  | inl g ↦ (let (t, u, s) = unmapped_at (arrow h a k) (targets k.term) i e g in
+      record { at = 0; block = k; to = t; there = refl; target = contains_at (targets k.term) i t u; same = ap (λ n. arrow h n k t) (let z : a + 0 ≡ a = omega arith in z) ∙ s })
+  | inr (n, g) ↦ (let r = arrow_of h (suc a) ks n e g in
+      record { at = suc r.at; block = r.block; to = r.to; there = r.there; target = r.target; same = ap (λ n. arrow h n r.block r.to) (let z : a + suc r.at ≡ suc a + r.at = omega arith in z) ∙ r.same })
+]
+
+-- ---- the nodes
+
+module _ (D : List Shape) (b : TypedBody) (terms : List Term) (es : List Edge) (has : HasEdges (length b.blocks) terms (length b.blocks) es) (same_terms : (i : ℕ) (k : TypedBlock) → slice_get b.blocks i ≡ Some k → exits terms i ≡ targets k.term) (closed : (i t : ℕ) → i < length b.blocks → Contains (exits terms i) t → t < length b.blocks) where
+  abbrev H : Here
+  H = text D b
+
+  abbrev P : List Place
+  P = tracked D b
+
+  abbrev N : ℕ
+  N = length b.blocks
+
+  abbrev half : ℕ → Reached → Reached
+  half i x = gone_over (text D b) (block_at b.blocks i) x
+
+  unreached_get : (ks : List TypedBlock) (i : ℕ) → i < length ks → slice_get (unreached ks) i ≡ Some None
+  unreached_get [] i l = absurd (omega arith)
+  unreached_get (k ∷ ks) zero l = refl
+  unreached_get (k ∷ ks) (suc i) l = unreached_get ks i (omega arith)
+
+  begun_later : (node : ℕ) → begun b (tracked D b) (suc node) ≡ None
+  begun_later node = ap (λ c. if c then Some (map (first_fact b) (tracked D b)) else None) (let z : nat_eq (suc node) 0 ≡ false = grind arith in z)
+
+  begins_get : (ks : List TypedBlock) (i : ℕ) → i < length ks → slice_get (begins D b ks) i ≡ Some (begun b (tracked D b) i)
+  begins_get [] i l = absurd (omega arith)
+  begins_get (k ∷ ks) zero l = refl
+  begins_get (k ∷ ks) (suc i) l = unreached_get ks i (omega arith) ∙ ap Some (sym (begun_later i))
+
+  over_along : (i : ℕ) (x : Reached) → i < length b.blocks → along (text D b) b.blocks (Some (over (length b.blocks) i)) x ≡ half i x
+  over_along i x l = ap (λ c. if c then gone_over (text D b) (block_at b.blocks i) x else sent_out (block_at b.blocks (i - length b.blocks)).term (length b.blocks + i) x) (let z : nat_lt i (length b.blocks) ≡ true = grind arith in z)
+
+  out_along : (i t : ℕ) (x : Reached) → along (text D b) b.blocks (Some (out (length b.blocks) i t)) x ≡ sent_out (block_at b.blocks i).term t x
+  out_along i t x =
+      ap (λ c. if c then gone_over (text D b) (block_at b.blocks (length b.blocks + i)) x else sent_out (block_at b.blocks (length b.blocks + i - length b.blocks)).term t x) (let z : nat_lt (length b.blocks + i) (length b.blocks) ≡ false = grind arith in z)
+      ∙ ap (λ j. sent_out (block_at b.blocks j).term t x) (let z : length b.blocks + i - length b.blocks ≡ i = omega arith in z)
+
+  block_is : (i : ℕ) → i < length b.blocks → slice_get b.blocks i ≡ Some (block_at b.blocks i)
+  block_is i l = slice_get-get_or b.blocks i no_block l
+
+  bottom : (i : ℕ) (s x : Reached) → slice_get (starts_to (begun b (tracked D b)) 0 (length b.blocks + length b.blocks)) (length b.blocks + i) ≡ Some s → BelowReached s x
+  bottom i s x is =
+      let low = slice_get_within (starts_to (begun b (tracked D b)) 0 (length b.blocks + length b.blocks)) (length b.blocks + i) s is in
+      let room : length b.blocks + i < length b.blocks + length b.blocks = omega (arith, length-starts (begun b (tracked D b)) 0 (length b.blocks + length b.blocks)) in
+      subst (λ s. BelowReached s x) (sym (start_at (begun b (tracked D b)) 0 (length b.blocks + length b.blocks) (length b.blocks + i) s is)) (later (0 + (length b.blocks + i)) (omega arith))
+    where
+      later : (node : ℕ) → 0 < node → BelowReached (begun b (tracked D b) node) x
+      later zero l = absurd (omega arith)
+      later (suc node) l = subst (λ s. BelowReached s x) (sym (begun_later node)) tt
+
+  only : (i : ℕ) (e : Arrow Reached) → slice_get (arrows_at (flown (text D b) b.blocks es) 0 es) i ≡ Some e → ((n : ℕ) × IsOver (length b.blocks) half n e) ⊎ ((j : ℕ) × (a : Arrow Reached) × (slice_get (arrows_from (text D b) 0 b.blocks) j ≡ Some a) × IsBehind (length b.blocks) half a e)
+  only i e is = go (has.only w.edge (contains_at es i w.edge w.at))
+    where
+      w : IsArrow (flown (text D b) b.blocks es) i es e
+      w = arrow_is (flown (text D b) b.blocks es) es i e is
+
+      flows : (d : Edge) → w.edge ≡ d → (x : Reached) → e.flow x ≡ along (text D b) b.blocks (Some d) x
+      flows d s x = ap (λ (f : Reached → Reached). f x) w.flows ∙ ap (λ o. along (text D b) b.blocks o x) (w.at ∙ ap (λ (d : Edge). Some d) s)
+
+      go : (n : ℕ) × (n < length b.blocks) × IsOf (length b.blocks) terms n w.edge → ((n : ℕ) × IsOver (length b.blocks) half n e) ⊎ ((j : ℕ) × (a : Arrow Reached) × (slice_get (arrows_from (text D b) 0 b.blocks) j ≡ Some a) × IsBehind (length b.blocks) half a e)
+      go (n, l, inl s) = inl (
+        n,
+        record {
+          low = l;
+          from = w.from ∙ ap (λ (d : Edge). d.from) s;
+          to = w.to ∙ ap (λ (d : Edge). d.to) s;
+          flows = λ x. flows (over (length b.blocks) n) s x ∙ over_along n x l;
+        },
+      )
+      go (n, l, inr (t, c, s)) =
+          let k = block_at b.blocks n in
+          let (j, g) = arrow_get (text D b) 0 b.blocks n k t (block_is n l) (subst (λ us. Contains us t) (same_terms n k (block_is n l)) c) in
+          inr (
+            j,
+            arrow (text D b) n k t,
+            g ∙ ap (λ m. Some (arrow (text D b) m k t)) (let z : 0 + n ≡ n = omega arith in z),
+            record {
+              low = l;
+              low_to = closed n t l c;
+              from = w.from ∙ ap (λ (d : Edge). d.from) s;
+              to = w.to ∙ ap (λ (d : Edge). d.to) s;
+              flows = λ x. sent_is (text D b) k t x ∙ sym (flows (out (length b.blocks) n t) s (half n x) ∙ out_along n t (half n x));
+            },
+          )
+
+  -- the arrow of an edge
+  flown_at : (d : Edge) → Contains es d → (i : ℕ) × (e : Arrow Reached) × (slice_get (arrows_at (flown (text D b) b.blocks es) 0 es) i ≡ Some e) × (e.from ≡ d.from) × (e.to ≡ d.to) × ((x : Reached) → e.flow x ≡ along (text D b) b.blocks (Some d) x)
+  flown_at d c =
+      let (i, at) = at_contains es d c in
+      let r : Arrow Reached = record { from = d.from; to = d.to; flow = flown (text D b) b.blocks es (0 + i) } in
+      (i, r, arrow_to (flown (text D b) b.blocks es) 0 es i d at, refl, refl, λ x. ap (λ o. along (text D b) b.blocks o x) (ap (slice_get es) (let z : 0 + i ≡ i = omega arith in z) ∙ at))
+
+  overs : (n : ℕ) → n < length b.blocks → (i : ℕ) × (e : Arrow Reached) × (slice_get (arrows_at (flown (text D b) b.blocks es) 0 es) i ≡ Some e) × IsOver (length b.blocks) half n e
+  overs n l =
+      let (i, e, is, from, to, flows) = flown_at (over (length b.blocks) n) (has.overs n l) in
+      (i, e, is, record { low = l; from = from; to = to; flows = λ x. flows x ∙ over_along n x l })
+
+  outs : (j : ℕ) (a : Arrow Reached) → slice_get (arrows_from (text D b) 0 b.blocks) j ≡ Some a → a.from < length b.blocks → a.to < length b.blocks → (i : ℕ) × (e : Arrow Reached) × (slice_get (arrows_at (flown (text D b) b.blocks es) 0 es) i ≡ Some e) × IsBehind (length b.blocks) half a e
+  outs j a is low low_to =
+      let r = arrow_of (text D b) 0 b.blocks j a is in
+      let n = r.at in
+      let same : arrow (text D b) n r.block r.to ≡ a = ap (λ m. arrow (text D b) m r.block r.to) (let z : n ≡ 0 + n = omega arith in z) ∙ r.same in
+      let inside = slice_get_within b.blocks n r.block r.there in
+      let here : block_at b.blocks n ≡ r.block = get_or_from_slice_get b.blocks n r.block no_block r.there in
+      let (i, e, ie, from, to, flows) = flown_at (out (length b.blocks) n r.to) (has.outs n r.to inside (subst (λ us. Contains us r.to) (sym (same_terms n r.block r.there)) r.target)) in (
+        i,
+        e,
+        ie,
+        subst (λ a. IsBehind (length b.blocks) half a e) same (record {
+          low = inside;
+          low_to = subst (λ (a : Arrow Reached). a.to < length b.blocks) (sym same) low_to;
+          from = from;
+          to = to;
+          flows = λ x. sent_is (text D b) r.block r.to x ∙ ap (λ (k : TypedBlock). sent_out k.term r.to (gone_over (text D b) k x)) (sym here) ∙ sym (flows (half n x) ∙ out_along n r.to (half n x));
+        }),
+      )
+
+  halves : IsHalves (OkReached (tracked D b)) BelowReached (length b.blocks) half (const_flow D b) (problem join_reached (begun b (tracked D b)) (flown (text D b) b.blocks es) (length b.blocks + length b.blocks) es)
+  unfolding const_flow problem
+  halves = record {
+    short = begins_length D b b.blocks;
+    long = length-starts (begun b (tracked D b)) 0 (length b.blocks + length b.blocks);
+    begin = λ i l. start_get (begun b (tracked D b)) 0 (length b.blocks + length b.blocks) i (omega arith) ∙ ap (λ n. Some (begun b (tracked D b) n)) (let z : 0 + i ≡ i = omega arith in z) ∙ sym (begins_get b.blocks i l);
+    bottom = bottom;
+    same = λ x k. same_reached (tracked D b) x;
+    then_below = then_reached (tracked D b);
+    half_ok = λ i x k. over_ok (tracked D b) (text D b) (block_at b.blocks i) x k;
+    rises = λ i e x y is k m le. (let w = arrow_is (flown (text D b) b.blocks es) es i e is in subst (λ (f : Reached → Reached). BelowReached (f x) (f y)) (sym w.flows) (along_below (text D b) b.blocks (slice_get es i) x y le));
+    only = only;
+    over = overs;
+    out = outs;
+  }
+
+  take_map : {A B : Type 0} (f : A → B) (n : ℕ) (xs : List A) → map f (take n xs) ≡ take n (map f xs)
+  take_map f zero xs = refl
+  take_map f (suc n) [] = refl
+  take_map f (suc n) (x ∷ xs) = ap (λ ys. f x ∷ ys) (take_map f n xs)
+
+  -- what is found by cells
+  pub starts_known : (ys : List (Option (List Cell))) → Least (IsRow (tracked D b)) (BelowAs (IsRow (tracked D b)) BelowReached (reached_of (tracked D b))) (problem (joined_as (reached_of (tracked D b)) row_of join_reached) (started_as row_of (begun b (tracked D b))) (sent_as (reached_of (tracked D b)) row_of (flown (text D b) b.blocks es)) (length b.blocks + length b.blocks) es) ys → map (reached_of (tracked D b)) (take (length b.blocks) ys) ≡ const_at D b
+  starts_known ys l =
+      let carried = carried_least (IsRow (tracked D b)) (OkReached (tracked D b)) (reached_of (tracked D b)) row_of (rows_name (tracked D b)) BelowReached rank (height (tracked D b)) (begun b (tracked D b)) join_reached (flown (text D b) b.blocks es) (reached_lawful (text D b) b (tracked D b) es) (length b.blocks + length b.blocks) es ys l in
+      let least = halves_least (OkReached (tracked D b)) BelowReached (length b.blocks) half (const_flow D b) (problem join_reached (begun b (tracked D b)) (flown (text D b) b.blocks es) (length b.blocks + length b.blocks) es) halves (map (reached_of (tracked D b)) ys) carried in
+      take_map (reached_of (tracked D b)) (length b.blocks) ys
+      ∙ least_one (OkReached (tracked D b)) BelowReached rank (height (tracked D b)) (const_flow D b) (const_laws D b) (take (length b.blocks) (map (reached_of (tracked D b)) ys)) (const_at D b) least (const_least D b)
