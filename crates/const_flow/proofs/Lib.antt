@@ -3,3 +3,4 @@ pub mod Ends
 pub mod Heights
 pub mod Rising
 pub mod Rows
+pub mod sound

@@ -2,3 +2,4 @@ pub mod Rounds
 pub mod Facts
 pub mod ConstAt
 pub mod Order
+pub mod Holding
