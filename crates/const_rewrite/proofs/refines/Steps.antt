@@ -4,7 +4,7 @@ use Rattle.mir_syntax.specs.declared.body.Place.{Place}
 use Rattle.mir_syntax.specs.Tree.{Tree}
 use Rattle.mir_syntax.specs.Shapes.{Shape}
 use Rattle.mir_syntax.specs.Crate.{TypedRvalue, TypedStmt, assign, storage_live, storage_dead, set_discriminant, TypedBlock, TypedBody}
-use Rattle.mir_semantics.specs.Values.{Addr, Value}
+use Rattle.mir_semantics.specs.Values.{Addr, Value, blank}
 use Rattle.mir_semantics.specs.Memory.{Memory}
 use Rattle.mir_semantics.specs.Step.{Here, Dest, Control, State, Next, on, resolve, type_of, guard_of, dest_of, allows, next_stmt, exec, perform, step}
 use Rattle.mir_syntax.proofs.Binds.{bind_some, some_bind}
@@ -12,7 +12,7 @@ use Rattle.mir_rules.specs.Drops.{NoDrops}
 use Rattle.mir_renaming.specs.Renaming.{Renaming}
 use Rattle.mir_renaming.proofs.Ghosts.{Flat}
 use Rattle.mir_renaming.proofs.Items.{step_parts}
-use Rattle.mir_renaming.proofs.Types.{TypeMap, AddrTy, StmtTy, resolve_ty, eval_ty}
+use Rattle.mir_renaming.proofs.Types.{TypeMap, AddrTy, HasTy, StmtTy, resolve_ty, eval_ty}
 use Rattle.mir_relate.specs.Alike.{GotMemory, Sides}
 use Rattle.mir_relate.specs.Frames.{Change, target, Pass, lowest, Below}
 use Rattle.mir_relate.specs.Pass.{GentleTo, Valids, RvalueMoves, StmtMoves, Laws, Answers, Related}
@@ -69,6 +69,12 @@ module _ {X : Change} {xs : List Reached} {V : Valids X} {Inv : State → Type 0
   abbrev ts : List Tree
   ts = X.body1.locals
 
+  abbrev K : Renaming
+  K = moment.K now
+
+  abbrev bok : (t : Tree) → HasTy X.source.shapes now.r.typed1.types t (blank X.source.shapes t)
+  bok = moment.bok now
+
   abbrev S : Sides
   S = moment.S now
 
@@ -79,31 +85,26 @@ module _ {X : Change} {xs : List Reached} {V : Valids X} {Inv : State → Type 0
 
   module _ (fs : Facts) (first : Knows now fs s2.memory s1.memory) (m1' : Memory) where
     abbrev Fits : TypedStmt → Type 0
-    Fits = StmtTy D G (moment.bok now) ts f1 (moment.lok now)
+    Fits = StmtTy D G bok ts f1 (moment.lok now)
 
     abbrev As : TypedStmt → TypedStmt → Type 0
-    As = kept.StmtAs D ts ts f1 f2 j (moment.K now) (moment.low now) G (moment.bok now) (moment.lok now) (moment.Q now) (moment.keeps now)
+    As = kept.StmtAs D ts ts f1 f2 j K (moment.low now) G bok (moment.lok now) (moment.Q now) (moment.keeps now)
 
     same_exec : (s : TypedStmt) → As s s → exec S.source s1.memory s ≡ Some m1' → GotMemory (moment.Q now) m1' (exec S.target s2.memory s)
-    same_exec s as' e = kept.exec_as D ts ts f1 f2 j (moment.K now) (moment.low now) G (moment.bok now) (moment.lok now) (moment.Q now) (moment.keeps now) s s as' s2.memory s1.memory m1' (λ u. moment.payloads now) first.near e
+    same_exec s as' e = kept.exec_as D ts ts f1 f2 j K (moment.low now) G bok (moment.lok now) (moment.Q now) (moment.keeps now) s s as' s2.memory s1.memory m1' (λ u. moment.payloads now) first.near e
 
     assign_execs : (p : Place) (x : TypedRvalue) → RvalueMoves S.source x → RefsOk D X.body1 x → Fits (assign p x) → exec S.source s1.memory (assign p x) ≡ Some m1' → GotMemory (moment.Q now) m1' (exec S.target s2.memory (assign p (folded_rvalue T fs x)))
     unfolding exec
     assign_execs p x mo ok (t, pt, xt) e =
-        let bok = moment.bok now in
-        let lok = moment.lok now in
-        let low = moment.low now in
-        let K = moment.K now in
-        let keeps = moment.keeps now in
         let (v, e1, k1) = bind_some e in
         let (d, e2, k2) = bind_some k1 in
-        let (vt, mt) = eval_ty D G bok ts f1 lok s1.memory x t v first.near.typed xt e1 in
+        let (vt, mt) = eval_ty D G bok ts f1 (moment.lok now) s1.memory x t v first.near.typed xt e1 in
         let (w, g1, h1, q1) = (folded_evals now fs x mo ok (t, xt)).evals s2.memory s1.memory v first e1 in
-        let (c, g2, h2) = kept.dest_as D ts ts f1 f2 j K low G bok lok (moment.Q now) keeps w.1 v.1 p p d (moment.place_self now p) q1.near e2 in
+        let (c, g2, h2) = kept.dest_as D ts ts f1 f2 j K (moment.low now) G bok (moment.lok now) (moment.Q now) (moment.keeps now) w.1 v.1 p p d (moment.place_self now p) q1.near e2 in
         let (a, u, r1, r2, r3) = dest_parts S.source v.1 p d e2 in
-        let at : AddrTy D G d.addr t = subst (λ (d : Dest). AddrTy D G d.addr t) r3 (resolve_ty D G bok ts f1 lok v.1 p a t mt pt r1) in
-        let fair : (old : Value) → allows D d.guard old ≡ true → kept.Fair D ts ts f1 f2 j K low G bok lok d.addr t old = subst (λ (d : Dest). (old : Value) → allows D d.guard old ≡ true → kept.Fair D ts ts f1 f2 j K low G bok lok d.addr t old) r3 (λ old yes. kept.dest_fair D ts ts f1 f2 j K low G bok lok (moment.Q now) keeps v.1 p a t old r1 (subst (λ u. allows D (guard_of D p.proj u) old ≡ true) (some_val (sym r2 ∙ pt)) yes)) in
-        let (m2', g3, q3) = kept.store_as D ts ts f1 f2 j K low G bok lok (moment.Q now) keeps w.1 v.1 m1' d c t v.0 w.0 fair h2 at vt h1 q1.near k2 in
+        let at : AddrTy D G d.addr t = subst (λ (d : Dest). AddrTy D G d.addr t) r3 (resolve_ty D G bok ts f1 (moment.lok now) v.1 p a t mt pt r1) in
+        let fair : (old : Value) → allows D d.guard old ≡ true → kept.Fair D ts ts f1 f2 j K (moment.low now) G bok (moment.lok now) d.addr t old = subst (λ (d : Dest). (old : Value) → allows D d.guard old ≡ true → kept.Fair D ts ts f1 f2 j K (moment.low now) G bok (moment.lok now) d.addr t old) r3 (λ old yes. kept.dest_fair D ts ts f1 f2 j K (moment.low now) G bok (moment.lok now) (moment.Q now) (moment.keeps now) v.1 p a t old r1 (subst (λ u. allows D (guard_of D p.proj u) old ≡ true) (some_val (sym r2 ∙ pt)) yes)) in
+        let (m2', g3, q3) = kept.store_as D ts ts f1 f2 j K (moment.low now) G bok (moment.lok now) (moment.Q now) (moment.keeps now) w.1 v.1 m1' d c t v.0 w.0 fair h2 at vt h1 q1.near k2 in
         (m2', some_bind _ g1 (some_bind _ g2 g3), q3)
 
     stmt_execs : (s : TypedStmt) → StmtMoves S.source s → StmtRefsOk D X.body1 s → Fits s → exec S.source s1.memory s ≡ Some m1' → GotMemory (moment.Q now) m1' (exec S.target s2.memory (folded_stmt T fs s))
@@ -134,7 +135,7 @@ module _ {X : Change} {xs : List Reached} {V : Valids X} {Inv : State → Type 0
     first : Knows now fs s2.memory s1.memory
     first = record { near = moment.start now; known = runs.known k ek }
 
-    stmt_step : (s : TypedStmt) (x : Next) → slice_get k.stmts s1.top.at ≡ Some s → StmtMoves S.source s → StmtTy D G (moment.bok now) ts f1 (moment.lok now) s → perform X.source S.source s1 k.term (Some s) ≡ Some x → GentleTo X G f1 s1.memory x → Answers X P n s2 x
+    stmt_step : (s : TypedStmt) (x : Next) → slice_get k.stmts s1.top.at ≡ Some s → StmtMoves S.source s → StmtTy D G bok ts f1 (moment.lok now) s → perform X.source S.source s1 k.term (Some s) ≡ Some x → GentleTo X G f1 s1.memory x → Answers X P n s2 x
     unfolding perform
     stmt_step s x at mo ty e ge =
         let (m1', e1, q) = bind_some e in
