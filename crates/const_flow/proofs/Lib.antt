@@ -16,3 +16,4 @@ pub mod FlownRows
 pub mod Gathering
 pub mod Tracking
 pub mod Starts
+pub mod sound

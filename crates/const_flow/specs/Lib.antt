@@ -11,3 +11,4 @@ pub mod Same
 pub mod Heights
 pub mod Rises
 pub mod Lattice
+pub mod Holding
