@@ -1,5 +1,5 @@
 -- A crate with a body as it is at a stage.
-use Rattle.std.proofs.Common.{◌≡◌, refl, sym, ap, ◌∙◌, subst, ℕ, ◌<◌, List, [], ◌∷◌, map, take, length, get_or, Option, Some, None, Result, Ok, Err, option_map, slice_get, arith}
+use Rattle.std.proofs.Common.{◌≡◌, refl, sym, ap, ◌∙◌, subst, ℕ, ◌<◌, List, [], ◌∷◌, map, take, length, get_or, Option, Some, None, Result, Ok, Err, option_map, slice_get}
 use Rattle.std.specs.Prelude.{IfOk}
 use Rattle.std.proofs.lemmas.Option.{slice_get-get_or}
 use Rattle.mir_syntax.specs.declared.body.Body.{Body}
