@@ -137,6 +137,11 @@ pub fn write<K: Sink>(output: &Output, out: &mut K) -> Result<(), Failed>
     match output {
         Output::Line(line) => write_all(out, line.as_slice()),
         Output::Crate(program) => print_program(program, out),
-        Output::Function(program, function) => print_function(program, function, &function.body, out),
+        Output::Function(program, function) => print_function(
+            program,
+            function,
+            &function.body,
+            out,
+        ),
     }
 }

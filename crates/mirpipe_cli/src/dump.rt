@@ -19,12 +19,7 @@ use pass_order::dumped;
 use std::alloc::Global;
 
 /// The function with a path as it is at a stage, whose step is there.
-pub fn dump(
-    alloc: Global,
-    accepted: Accepted,
-    stage: Stage,
-    path: Name,
-) -> Result<Output, Refusal>
+pub fn dump(alloc: Global, accepted: Accepted, stage: Stage, path: Name) -> Result<Output, Refusal>
     requires step { HasStep stage }
     requires knows { KnowsDrops accepted.program }
     requires ids { IdsInTable accepted.program }

@@ -32,12 +32,7 @@ pub fn passes_behind(stage: Stage) -> Option<usize>
 }
 
 // The body at a stage: after the passes up to its step.
-fn body_at(
-    alloc: Global,
-    program: &Program,
-    body: Body,
-    stage: Stage,
-) -> Result<Body, OutOfMemory>
+fn body_at(alloc: Global, program: &Program, body: Body, stage: Stage) -> Result<Body, OutOfMemory>
     requires step { HasStep stage }
     requires knows { KnowsDrops program.now }
     requires ids { IdsInTable program.now }
