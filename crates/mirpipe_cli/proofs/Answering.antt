@@ -5,20 +5,24 @@ use Rattle.std.specs.Prelude.{IfErr, IsErrAnd}
 use Rattle.std.specs.Io.KnownBytes.{Appends}
 use Rattle.mir_syntax.specs.declared.lines.Lines.{Lines}
 use Rattle.mir_syntax.specs.declared.number.Number.{Number}
+use Rattle.mir_syntax.specs.declared.stage.Stage.{Stage}
+use Rattle.mir_syntax.specs.declared.stage.Stage.TheVariants as at
 use Rattle.mir_syntax.specs.Crate.{Crate}
 use Rattle.mir_text.specs.Text.{text}
 use Rattle.pass_order.specs.Passes.{optimised}
+use Rattle.pass_order.specs.Stages.{HasStep}
 use Rattle.crate_run.specs.Ran.{IsRunText, IsNoEntry}
 use Rattle.pipe_words.specs.declared.command.Command.{Command}
-use Rattle.pipe_words.specs.declared.command.Command.TheVariants.{Check, Seq, Run}
+use Rattle.pipe_words.specs.declared.command.Command.TheVariants.{Check, Seq, Run, Dump}
 use Rattle.pipe_words.specs.Commands.{Says, IsMisfit}
+use Rattle.pipe_words.specs.Stages.{IsStage}
 use Rattle.mirpipe_cli.specs.declared.fault.InputFault.{InputFault}
 use Rattle.mirpipe_cli.specs.declared.fault.InputFault.TheVariants.{Long, Text, Rule, Limit, Drops, NoFunction, NoEntry}
 use Rattle.mirpipe_cli.specs.declared.fault.Refusal.{Refusal}
 use Rattle.mirpipe_cli.specs.declared.fault.Refusal.TheVariants.{ReadFault, OutOfMemory, Input}
 use Rattle.mirpipe_cli.specs.FirstDrop.{first_drop}
 use Rattle.mirpipe_cli.specs.Refused.{IsAccepted, IsFaulty, OfInput, IsNoDrop}
-use Rattle.mirpipe_cli.specs.Answer.{done, refused, word_fault, RefusesRun, Refuses, Writes, Answers, IsOptimised}
+use Rattle.mirpipe_cli.specs.Answer.{done, refused, word_fault, RefusesRun, RefusesDump, Refuses, Writes, AsksSteps, Answers, IsOptimised}
 use Rattle.mirpipe_cli.proofs.Refined.{passed_refines}
 
 pub appends_none : (known : Option (List ℕ)) → Appends known known []
@@ -39,6 +43,26 @@ pub says_seq : (words : List (List ℕ)) (command : Command) → Says words Seq 
 says_seq words Check seq other = let wrong : codes "seq" ∷ [] ≡ codes "check" ∷ [] = sym seq ∙ other in absurd cc
 says_seq words Seq seq other = refl
 says_seq words (Run name args answers count) seq (rest, e, run) = let wrong : codes "seq" ∷ [] ≡ codes "run" ∷ rest = sym seq ∙ e in absurd cc
+says_seq words (Dump stage name) seq (rest, e, dump) = let wrong : codes "seq" ∷ [] ≡ codes "dump" ∷ rest = sym seq ∙ e in absurd cc
+
+-- a stage that has a word has a step
+step_there : (stage : Stage) (word : List ℕ) → IsStage word stage → HasStep stage
+step_there at.Built word e = (0, refl)
+step_there at.Promoted word e = (1, refl)
+step_there at.Elaborated word e = absurd cc
+step_there at.Spliced word e = absurd cc
+step_there at.Split word e = absurd cc
+step_there at.Folded word e = absurd cc
+step_there at.Threaded word e = absurd cc
+step_there at.Merged word e = absurd cc
+step_there at.Pruned word e = (2, refl)
+step_there at.Optimised word e = (4, refl)
+
+pub asks_steps : (words : List (List ℕ)) (command : Command) → Says words command → AsksSteps command
+asks_steps words Check says = tt
+asks_steps words Seq says = tt
+asks_steps words (Run name args answers count) says = tt
+asks_steps words (Dump stage name) (rest, e, dump) = step_there stage dump.stage_word dump.is_stage
 
 -- what the passes make of an accepted crate refines it
 pub printed_refines : (input : List ℕ) (C D : Crate) (lines : Lines) → IsAccepted input C lines → first_drop lines C ≡ None → D ≡ optimised C → IsOptimised input (text D)
@@ -61,11 +85,21 @@ refuses_run path args input (Drops line) h = h
 refuses_run path args input NoFunction h = absurd h.0
 refuses_run path args input NoEntry h = absurd h.0
 
+pub refuses_dump : (path input : List ℕ) (fault : InputFault) → IsFaulty input fault → RefusesDump path input fault
+refuses_dump path input Long h = h
+refuses_dump path input (Text code line) h = h
+refuses_dump path input (Rule code line) h = h
+refuses_dump path input (Limit code line) h = h
+refuses_dump path input (Drops line) h = h
+refuses_dump path input NoFunction h = absurd h
+refuses_dump path input NoEntry h = h
+
 -- a fault of an input other than a `drop` is one for which each command refuses
 refuses_any : (command : Command) (input : List ℕ) (fault : InputFault) → IsFaulty input fault × IsNoDrop fault → Refuses command input fault
 refuses_any Check input fault h = h
 refuses_any Seq input fault h = h.0
 refuses_any (Run path args answers steps) input fault h = refuses_run path args input fault h
+refuses_any (Dump stage path) input fault h = refuses_dump path input fault h.0
 
 of_any : (r : Refusal) (command : Command) (input : List ℕ) → OfInput (λ fault. IsFaulty input fault × IsNoDrop fault) r → OfInput (Refuses command input) r
 of_any ReadFault command input h = h

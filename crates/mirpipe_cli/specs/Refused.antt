@@ -1,4 +1,4 @@
--- Inputs that are accepted, and inputs that are refused: by which code, on which line, and runs that can't be begun.
+-- Inputs that are accepted, and inputs that are refused: by which code, on which line; runs that can't be begun, and functions that aren't there.
 use Rattle.std.specs.Prelude.{◌≡◌, ◌≤◌, ◌<◌, ℕ, nat_lt, List, [], ◌++◌, length, codes, decimal, Some, None, if◌then◌else◌, ⊤}
 use Rattle.mir_syntax.specs.declared.lines.Lines.{Lines}
 use Rattle.mir_syntax.specs.declared.number.Number.{Number}
@@ -54,7 +54,7 @@ pub record HasDrop (input : List ℕ) (line : ℕ) : Type 0 where
   pub accepted : IsAccepted input C lines
   pub first : first_drop lines C ≡ Some line
 
--- an input has a fault; the two of runs are none of an input alone
+-- an input has a fault; the two of functions are none of an input alone
 abbrev pub IsFaulty : List ℕ → InputFault → Type 0
 IsFaulty input Long = most_bytes < length input
 IsFaulty input (Text code line) = IsUnread input code line
@@ -90,6 +90,14 @@ pub record LacksEntry (input path : List ℕ) (args : List Number) : Type 0 wher
   pub lines : Lines
   pub accepted : IsAccepted input C lines
   pub none : IsNoEntry C path args
+
+-- an accepted crate without `drop` in which no function has the path
+pub record LacksDumped (input path : List ℕ) : Type 0 where
+  pub C : Crate
+  pub lines : Lines
+  pub accepted : IsAccepted input C lines
+  pub no_drop : first_drop lines C ≡ None
+  pub none : HasNoFunction C path
 
 -- ---- the line of notes
 

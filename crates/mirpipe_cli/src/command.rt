@@ -8,16 +8,17 @@ ghost use Rattle.mir_rules.specs.Valid.{Valid, Within};
 ghost use Rattle.mir_print.specs.Prints.{Prints};
 ghost use Rattle.pipe_words.specs.declared.command.Command.TheVariants.{Check, Seq, Run};
 ghost use Rattle.mirpipe_cli.specs.Refused.{IsAccepted, IsFaulty, OfInput};
-ghost use Rattle.mirpipe_cli.specs.Answer.{counted, Writes, Refuses, IsOptimised};
+ghost use Rattle.mirpipe_cli.specs.Answer.{counted, AsksSteps, Writes, Refuses, IsOptimised};
 ghost use Rattle.mirpipe_cli.specs.Output.{bytes_of};
 
 use crate::drops::first_drop;
+use crate::dump::dump;
 use crate::fault::{InputFault, Refusal};
 use crate::load::{Accepted, load};
 use crate_run::{RunFault, run_function};
 use itoa::Buffer;
-use mir_print::print_program;
-use mir_syntax::{List, Name, Number, OutOfMemory, Program};
+use mir_print::{print_function, print_program};
+use mir_syntax::{Function, List, Name, Number, OutOfMemory, Program};
 use pass_order::optimised;
 use pipe_io::{Failed, Sink, Source, write_all};
 use pipe_words::Command;
@@ -28,6 +29,8 @@ use std::alloc::Global;
 pub enum Output {
     Line(List<u8>),
     Crate(Program),
+    /// A function alone, whose types are those of the program.
+    Function(Program, Function),
 }
 
 // The line of the command `check`.
@@ -106,6 +109,7 @@ fn run(
 
 /// Does the work of a command: what it writes, or why there is nothing to write. All memory is taken here.
 pub fn work<S: Source>(alloc: Global, command: Command, source: &mut S) -> Result<Output, Refusal>
+    requires steps { AsksSteps command }
     ensures writes { (input : List ℕ) → S.left source.old ≡ Some input → IfOk result (λ output. Writes command input (bytes_of output)) }
     ensures refines { (input : List ℕ) → S.left source.old ≡ Some input → command ≡ Seq → IfOk result (λ output. IsOptimised input (bytes_of output)) }
     ensures refused { (input : List ℕ) → S.left source.old ≡ Some input → IfErr result (OfInput (Refuses command input)) }
@@ -122,6 +126,7 @@ pub fn work<S: Source>(alloc: Global, command: Command, source: &mut S) -> Resul
         Command::Run(path, args, answers, steps) => {
             run(alloc, accepted, path, args, answers, steps)
         }
+        Command::Dump(stage, path) => dump(alloc, accepted, stage, path),
     }
 }
 
@@ -132,5 +137,11 @@ pub fn write<K: Sink>(output: &Output, out: &mut K) -> Result<(), Failed>
     match output {
         Output::Line(line) => write_all(out, line.as_slice()),
         Output::Crate(program) => print_program(program, out),
+        Output::Function(program, function) => print_function(
+            program,
+            function,
+            &function.body,
+            out,
+        ),
     }
 }

@@ -11,7 +11,7 @@ pub enum InputFault {
     Limit { code: u8, line: u32 },
     /// A body has a `drop`, which the passes are not made for yet.
     Drops { line: u32 },
-    /// No function has the path that is to be run.
+    /// No function has the path.
     NoFunction,
     /// The function that is to be run can't be called from outside, or not with these arguments.
     NoEntry,

@@ -19,12 +19,13 @@ use std::alloc::Global;
 /// | `check` | `ok F`, F the number of functions |
 /// | `seq` | the text of the crate after the passes |
 /// | `run FN ARGS --answers LIST --steps N` | the text of a run of the function with the path FN |
+/// | `dump STAGE FN` | the text of the function with the path FN as it is at the stage |
 ///
 /// | Status | Meaning | Notes |
 /// |---|---|---|
 /// | 0 | done, and the input was read to its end | none |
 /// | 1 | the input is refused | code and line, as `S04 line 8`, `V05 line 9`, `L02 line 260000`; or `L01 67108865` |
-/// | 1 | the run can't be begun | `E01` where no function has the path, `E02` where ARGS makes no call of it |
+/// | 1 | no function has the path FN, or ARGS makes no call of it | `E01`, or `E02` |
 /// | 2 | the words fit no command | `word K`, the place of the first that doesn't fit |
 /// | 3 | the source failed | `read fault` |
 /// | 4 | `out` failed, and a front of the answer is written | `write fault` |

@@ -102,6 +102,17 @@ fn answers_by_words_and_input(rt: HostRuntime) -> Result<(), Fail> {
             none,
             b"word 3\n".as_slice(),
         ),
+        ("dump promoted g", SKIPS, 0, SKIPPED, none),
+        ("dump optimised h", UNREAD, 0, READ, none),
+        ("dump built h", SKIPS, 1, none, b"E01\n".as_slice()),
+        (
+            "dump built eats",
+            DROPS,
+            1,
+            none,
+            b"S16 line 21\n".as_slice(),
+        ),
+        ("dump split g", SKIPS, 2, none, b"word 2\n".as_slice()),
     ] {
         let words = words(&rt, asked)?;
         let mut source = PlainSource::new(list(&rt, input)?);

@@ -22,10 +22,10 @@ use Rattle.pass_order.proofs.Alone.{blocks_within, locals_within}
 -- ---- one function
 
 module _ (C : Crate) (valid : Valid C) (f : ℕ) (g : TypedFunction) (is : slice_get C.functions f ≡ Some g) where
-  own : at_function C f g g.body ≡ C
+  pub own : at_function C f g g.body ≡ C
   own = ap (λ fs. let c : Crate = record C { functions = fs } in c) (set_same C.functions f g is)
 
-  own_fits : length g.body.blocks ≤ most_in_body → length g.body.locals ≤ most_in_body → FitsAt C f g g.body
+  pub own_fits : length g.body.blocks ≤ most_in_body → length g.body.locals ≤ most_in_body → FitsAt C f g g.body
   own_fits blocks locals = record { is = is; valid = subst Valid (sym own) valid; args = refl; start = refl; blocks = blocks; locals = locals }
 
 -- ---- the first functions of one list, and the others of another

@@ -6,3 +6,5 @@ pub mod Ready
 pub mod Alone
 pub mod Going
 pub mod Whole
+pub mod Running
+pub mod Staged

@@ -1,5 +1,5 @@
 -- The passes in their order keep what each of them keeps.
-use Rattle.std.proofs.Common.{◌≡◌, ◌↔◌, refl, ap, ◌∙◌, List}
+use Rattle.std.proofs.Common.{◌≡◌, ◌↔◌, refl, ap, ◌∙◌, ℕ, zero, suc, List, [], ◌∷◌, take}
 use Rattle.mir_syntax.specs.Crate.{TypedBody}
 use Rattle.mir_syntax.specs.Shapes.{Shape}
 use Rattle.mir_rules.specs.Valid.{with_body, at_function}
@@ -12,7 +12,10 @@ use Rattle.dead_store.proofs.PassLaws as pruning
 use Rattle.trim_locals.specs.Trimmed.{trimmed}
 use Rattle.trim_locals.proofs.PassLaws as trimming
 use Rattle.trim_locals.proofs.Renumbered.{start_stays}
-use Rattle.pass_order.specs.Passes.{passes, after_passes}
+use Rattle.pass_order.specs.declared.passes.Pass.{Pass}
+use Rattle.pass_order.specs.declared.passes.Pass.TheVariants.{Clean, Prune, Trim}
+use Rattle.pass_order.specs.Passes.{BodyPass, passes, after, after_passes}
+use Rattle.pass_order.specs.Steps.{pass_of}
 use Rattle.pass_order.proofs.Keeps.{PassKeeps, AllKeep, after_keeps}
 
 pub simple_keeps : PassKeeps (λ (D : List Shape). simple)
@@ -36,10 +39,20 @@ pub passes_keep : PassKeeps after_passes
 unfolding after_passes
 passes_keep = after_keeps passes all_keep
 
--- one after another
-pub in_order : (D : List Shape) (b cleaned read joined left : TypedBody) → cleaned ≡ simple b → read ≡ pruned D cleaned → joined ≡ simple read → left ≡ trimmed joined → left ≡ after_passes D b
-unfolding after_passes
-in_order D b cleaned read joined left e1 e2 e3 e4 = e4 ∙ ap trimmed (e3 ∙ ap simple (e2 ∙ ap (pruned D) e1))
+-- each entry of the code's list
+pub each_keeps : (p : Pass) → PassKeeps (pass_of p)
+each_keeps Clean = simple_keeps
+each_keeps Prune = pruned_keeps
+each_keeps Trim = trimmed_keeps
+
+-- the first passes alone
+front_keep : (n : ℕ) (list : List BodyPass) → AllKeep list → AllKeep (take n list)
+front_keep zero list h = tt
+front_keep (suc n) [] h = tt
+front_keep (suc n) (pass ∷ rest) h = (h.0, front_keep n rest h.1)
+
+pub front_keeps : (n : ℕ) → PassKeeps (after (take n passes))
+front_keeps n = after_keeps (take n passes) (front_keep n passes all_keep)
 
 -- the definitions one after another have one result
 pub one_result : (D : List Shape) (b c : TypedBody) → ((left : TypedBody) × IsPruned D (simple b) left × (c ≡ trimmed (simple left))) ↔ c ≡ after_passes D b

@@ -7,11 +7,9 @@ ghost use Rattle.mir_syntax.specs.Ids.{IdsInTable, BodyInTable};
 ghost use Rattle.pass_order.specs.Passes.{after_passes as passed_body};
 ghost use Rattle.pass_order.specs.Fits.{FitsAt};
 
-use cfg_simplify::simple;
-use dead_store::pruned;
+use crate::passes::{PASSES, after_all};
 use mir_syntax::{Body, OutOfMemory, Program};
 use std::alloc::Global;
-use trim_locals::trimmed;
 
 /// The body after the passes: its control flow is cleaned, what nobody reads goes, the control flow is cleaned again, and locals that are left
 /// without use go. The body fits a function of the program, which need not hold it. `Err` is for want of memory alone, and the body is
@@ -24,9 +22,5 @@ pub fn after_passes(alloc: Global, program: &Program, body: Body) -> Result<Body
     ensures passed { IfOk result (λ left. body_of (trees_of program.now.types) left ≡ passed_body (shapes_of (crate_of program.now)) (body_of (trees_of program.now.types) body)) }
     ensures in_table { IfOk result (λ left. BodyInTable program.now.types left) }
 {
-    let cleaned = simple(alloc, program, body)?;
-    let read = pruned(alloc, program, cleaned)?;
-    let joined = simple(alloc, program, read)?;
-    let left = trimmed(alloc, program, joined)?;
-    Ok(left)
+    after_all(alloc, program, body, &PASSES)
 }

@@ -1,4 +1,5 @@
 pub mod FirstNames
 pub mod NumberLists
 pub mod Rows
+pub mod StageWords
 pub mod Tokens

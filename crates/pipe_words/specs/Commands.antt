@@ -2,10 +2,12 @@
 use Rattle.std.specs.Prelude.{◌≡◌, ◌≤◌, ◌⊎◌, ℕ, suc, List, [], ◌∷◌, map, codes, decimal, if◌then◌else◌}
 use Rattle.std.specs.Str.{bytes_eq}
 use Rattle.mir_syntax.specs.declared.number.Number.{Number}
+use Rattle.mir_syntax.specs.declared.stage.Stage.{Stage}
 use Rattle.pipe_words.specs.declared.command.Command.{Command}
-use Rattle.pipe_words.specs.declared.command.Command.TheVariants.{Check, Seq, Run}
+use Rattle.pipe_words.specs.declared.command.Command.TheVariants.{Check, Seq, Run, Dump}
 use Rattle.pipe_words.specs.Numbers.{IsNumbers, wrapped}
 use Rattle.pipe_words.specs.Paths.{IsPath}
+use Rattle.pipe_words.specs.Stages.{IsStage}
 
 -- ---- what words say
 
@@ -38,11 +40,27 @@ abbrev pub SaysRun : List (List ℕ) → Command → Type 0
 SaysRun words Check = ⊥
 SaysRun words Seq = ⊥
 SaysRun words (Run path args answers steps) = IsRun words path args answers steps
+SaysRun words (Dump stage path) = ⊥
+
+-- the words behind `dump`
+pub record IsDump (words : List (List ℕ)) (stage : Stage) (path : List ℕ) : Type 0 where
+  pub stage_word : List ℕ
+  pub words_are : words ≡ stage_word ∷ path ∷ []
+  pub is_stage : IsStage stage_word stage
+  pub is_path : IsPath path
+
+-- the words behind `dump` say this command
+abbrev pub SaysDump : List (List ℕ) → Command → Type 0
+SaysDump words Check = ⊥
+SaysDump words Seq = ⊥
+SaysDump words (Run path args answers steps) = ⊥
+SaysDump words (Dump stage path) = IsDump words stage path
 
 abbrev pub Says : List (List ℕ) → Command → Type 0
 Says words Check = words ≡ codes "check" ∷ []
 Says words Seq = words ≡ codes "seq" ∷ []
 Says words (Run path args answers steps) = (rest : List (List ℕ)) × (words ≡ codes "run" ∷ rest) × IsRun rest path args answers steps
+Says words (Dump stage path) = (rest : List (List ℕ)) × (words ≡ codes "dump" ∷ rest) × IsDump rest stage path
 
 -- ---- where words don't fit
 
@@ -52,12 +70,14 @@ pub data Want : Type 0 where
   path : Want
   numbers : Want
   steps : Want
+  stage : Want
 
 abbrev pub Fits : Want → List ℕ → Type 0
 Fits (exactly text) word = word ≡ text
 Fits path word = IsPath word
 Fits numbers word = (ns : List Number) × IsNumbers word ns
 Fits steps word = (n : ℕ) × IsSteps word n
+Fits stage word = (s : Stage) × IsStage word s
 
 -- no first word that fits
 abbrev pub Stops : Want → List (List ℕ) → Type 0
@@ -70,13 +90,17 @@ given_row = exactly (codes "--answers") ∷ numbers ∷ exactly (codes "--steps"
 abbrev pub run_row : List Want
 run_row = path ∷ numbers ∷ given_row
 
+abbrev pub dump_row : List Want
+dump_row = stage ∷ path ∷ []
+
 -- the row of the command that a first word names; of a word that names none, one that it doesn't fit
 abbrev pub row_of : List (List ℕ) → List Want
 row_of [] = exactly (codes "run") ∷ run_row
 row_of (word ∷ words) =
     if bytes_eq word (codes "check") then exactly (codes "check") ∷ []
     else (if bytes_eq word (codes "seq") then exactly (codes "seq") ∷ []
-    else exactly (codes "run") ∷ run_row)
+    else (if bytes_eq word (codes "dump") then exactly (codes "dump") ∷ dump_row
+    else exactly (codes "run") ∷ run_row))
 
 -- words against a row, both from a place on: the place of the first that doesn't fit, or after the last where one is missing
 abbrev pub Misses : ℕ → List Want → List (List ℕ) → ℕ → Type 0

@@ -1,4 +1,5 @@
 pub mod Commands
 pub mod Numbers
 pub mod Paths
+pub mod Stages
 pub mod Tokens

@@ -1,4 +1,4 @@
-use mir_syntax::{List, Name, Number, OutOfMemory};
+use mir_syntax::{List, Name, Number, OutOfMemory, Stage};
 
 /// What the program is asked for.
 #[derive(Debug, Drop)]
@@ -9,6 +9,8 @@ pub enum Command {
     Seq,
     /// A run: the function's path, its arguments, the answers of outside functions modulo 2^128, and the number of steps.
     Run(Name, List<Number>, List<u128>, u64),
+    /// A function's text at a stage of the passes: the stage, whose step is there, and the function's path.
+    Dump(Stage, Name),
 }
 
 /// Why words are no command.

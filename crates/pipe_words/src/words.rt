@@ -1,14 +1,16 @@
 ghost use Rattle.std.specs.Prelude.{◌≡◌, ℕ, ◌∷◌, ◌↔◌, List, [], IsTrue, IfOk, map, string_bytes};
 ghost use Rattle.std.specs.Str.{bytes_eq};
-ghost use Rattle.pipe_words.specs.Commands.{Says, SaysRun, IsGiven, IsSteps, IsMisfit, Misses, Stops, exactly, path, numbers, steps, given_row, run_row};
+ghost use Rattle.pipe_words.specs.Commands.{Says, SaysRun, SaysDump, IsGiven, IsSteps, IsMisfit, Misses, Stops, exactly, path, numbers, steps, stage, given_row, run_row, dump_row};
 ghost use Rattle.pipe_words.specs.Numbers.{IsNumbers};
 ghost use Rattle.pipe_words.specs.Paths.{IsPath};
+ghost use Rattle.pipe_words.specs.Stages.{IsStage};
 ghost use Rattle.pipe_words.specs.declared.command.WordsFault.TheVariants as fault;
 
 use crate::numbers::{read_numbers, read_steps, wrap_all};
 use crate::paths::is_path;
+use crate::stages::read_stage;
 use crate::{Command, WordsFault};
-use mir_syntax::{List, Name, Number};
+use mir_syntax::{List, Name, Number, Stage};
 use std::alloc::Global;
 
 fn is_word(word: &String, text: &[u8]) -> bool
@@ -90,6 +92,20 @@ fn take_steps(words: &[String], place: u32) -> Result<(u64, &[String]), WordsFau
     }
 }
 
+// The stage that comes first, and the words behind it.
+fn take_stage(words: &[String], place: u32) -> Result<(Stage, &[String]), WordsFault>
+    ensures fits { IfOk result (λ found. (word : List ℕ) × (map string_bytes words.now ≡ word ∷ map string_bytes found.1.now) × IsStage word found.0) }
+    ensures stops { (k : ℕ) → result ≡ Err (fault.Bad k) → Stops stage (map string_bytes words.now) × (k ≡ place) }
+{
+    match words {
+        [word, rest @ ..] => match read_stage(word.as_bytes()) {
+            Some(found) => Ok((found, rest)),
+            None => Err(WordsFault::Bad(place)),
+        },
+        [] => Err(WordsFault::Bad(place)),
+    }
+}
+
 // No word comes from a place on.
 fn take_end(words: &[String], place: u32) -> Result<(), WordsFault>
     ensures fits { IfOk result (λ _. words.now ≡ []) }
@@ -127,8 +143,19 @@ fn parse_run(alloc: Global, words: &[String]) -> Result<Command, WordsFault>
     Ok(Command::Run(path, args, answers, steps))
 }
 
+// The command whose first word is `dump`, by the words behind it.
+fn parse_dump(alloc: Global, words: &[String]) -> Result<Command, WordsFault>
+    ensures dump { IfOk result (λ command. SaysDump (map string_bytes words.now) command) }
+    ensures misfit { (k : ℕ) → result ≡ Err (fault.Bad k) → Misses 2 dump_row (map string_bytes words.now) k }
+{
+    let (stage, rest) = take_stage(words, 2)?;
+    let (path, rest) = take_path(alloc, rest, 3)?;
+    take_end(rest, 4)?;
+    Ok(Command::Dump(stage, path))
+}
+
 // The command of a first word and the words behind it.
-#[tactic(auto, using(crate::proofs::Rows::check_misses, crate::proofs::Rows::seq_misses, crate::proofs::Rows::run_misses, crate::proofs::Rows::none_misses, crate::proofs::Rows::says_run))]
+#[tactic(auto, using(crate::proofs::Rows::check_misses, crate::proofs::Rows::seq_misses, crate::proofs::Rows::dump_misses, crate::proofs::Rows::run_misses, crate::proofs::Rows::none_misses, crate::proofs::Rows::says_dump, crate::proofs::Rows::says_run))]
 fn parse_from(alloc: Global, first: &String, rest: &[String]) -> Result<Command, WordsFault>
     ensures says { IfOk result (λ command. Says (string_bytes first.now ∷ map string_bytes rest.now) command) }
     ensures misfit { (place : ℕ) → result ≡ Err (fault.Bad place) → IsMisfit (string_bytes first.now ∷ map string_bytes rest.now) place }
@@ -139,6 +166,9 @@ fn parse_from(alloc: Global, first: &String, rest: &[String]) -> Result<Command,
     } else if is_word(first, b"seq") {
         take_end(rest, 2)?;
         Ok(Command::Seq)
+    } else if is_word(first, b"dump") {
+        let command = parse_dump(alloc, rest)?;
+        Ok(command)
     } else if is_word(first, b"run") {
         let command = parse_run(alloc, rest)?;
         Ok(command)

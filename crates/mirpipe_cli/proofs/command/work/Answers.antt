@@ -1,7 +1,7 @@
 use Rattle.std.proofs.Common.{sym, subst}
 use Rattle.std.specs.Prelude.{IfOk}
 use Rattle.pipe_words.specs.declared.command.Command.{Command}
-use Rattle.mirpipe_cli.specs.Answer.{Writes}
+use Rattle.mirpipe_cli.specs.Answer.{AsksSteps, Writes}
 use Rattle.mirpipe_cli.specs.Output.{bytes_of}
 use Rattle.mirpipe_cli.proofs.Answering.{refused_any, refused_none, refused_as}
 use Rattle.mirpipe_cli.proofs.command.work.Goals as goal
@@ -29,3 +29,13 @@ returns-in-Run-clause-writes g c = λ input left.
 
 pub returns-in-Run-clause-refused : goal.returns-in-Run-clause-refused
 returns-in-Run-clause-refused g c = λ input left. refused_as c.run.result input c.args.command _ c.in-Run.is (c.run.ensures.refused input (c.in_ok-accepted.ensures.accepted input left))
+
+pub dump-requires-clause-step : goal.dump-requires-clause-step
+dump-requires-clause-step g c = subst AsksSteps c.in-Dump.is c.requires.steps
+
+pub returns-in-Dump-clause-writes : goal.returns-in-Dump-clause-writes
+returns-in-Dump-clause-writes g c = λ input left.
+    subst (λ (k : Command). IfOk c.dump.result (λ output. Writes k input (bytes_of output))) (sym c.in-Dump.is) (c.dump.ensures.writes input (c.in_ok-accepted.ensures.accepted input left))
+
+pub returns-in-Dump-clause-refused : goal.returns-in-Dump-clause-refused
+returns-in-Dump-clause-refused g c = λ input left. refused_as c.dump.result input c.args.command _ c.in-Dump.is (c.dump.ensures.refused input (c.in_ok-accepted.ensures.accepted input left))

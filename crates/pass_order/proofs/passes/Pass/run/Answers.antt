@@ -1,0 +1,22 @@
+use Rattle.mir_syntax.specs.Tree.{trees_of}
+use Rattle.mir_syntax.specs.Crate.{crate_of}
+use Rattle.pass_order.proofs.Ready.{some_block, closed, ready}
+use Rattle.pass_order.proofs.passes.Pass.run.Goals as goal
+
+pub simple-requires-clause-some_block : goal.simple-requires-clause-some_block
+simple-requires-clause-some_block c =
+    let p = c.args.program.now in
+    let (f, g, fits) = c.requires.fits in
+    some_block (crate_of p) f g (trees_of p.types) c.args.body fits
+
+pub simple-requires-clause-closed : goal.simple-requires-clause-closed
+simple-requires-clause-closed c =
+    let p = c.args.program.now in
+    let (f, g, fits) = c.requires.fits in
+    closed (crate_of p) f g (trees_of p.types) c.args.body fits
+
+pub pruned-requires-clause-ready : goal.pruned-requires-clause-ready
+pruned-requires-clause-ready c =
+    let p = c.args.program.now in
+    let (f, g, fits) = c.requires.fits in
+    ready (crate_of p) f g (trees_of p.types) c.args.body fits p.types c.requires.body_ids
