@@ -1,0 +1,7 @@
+mod Sums
+mod Once
+mod Reached
+mod Falls
+mod PathOrder
+mod Bits
+mod Components
