@@ -3,7 +3,7 @@ use Rattle.std.proofs.Common.{◌≡◌, ◌≢◌, refl, sym, ap, ◌∙◌, su
 use Rattle.std.proofs.lemmas.Bool.Decides.{nat_tests}
 use Rattle.bit_rows.specs.Rows.{stands}
 use Rattle.mir_syntax.specs.Crate.{Crate}
-use Rattle.call_graph.specs.Graph.{Graph, IsGraph, Chain, Reaches, IsComponents, graph_of, reach, some_reaches, asks, asks_by, weight}
+use Rattle.call_graph.specs.Graph.{Graph, IsGraph, Chain, Reaches, IsComponents, graph_of, path_at, reach, some_reaches, asks, asks_by, weight}
 use Rattle.call_graph.proofs.Once.{bool_tells}
 use Rattle.call_graph.proofs.Reached.{reach_all, reach_only, reach_grows}
 use Rattle.call_graph.proofs.Falls.{callee_of, weight_falls, asks_another}
@@ -12,8 +12,8 @@ use Rattle.call_graph.proofs.PathOrder.{bytes_irreflexive, bytes_transitive}
 pub in_order : (C : Crate) (callees : ℕ → List ℕ) → ((f g : ℕ) → stands g (callees f) ≡ true → g < length C.functions) → IsGraph (graph_of C callees)
 in_order C callees below = record {
   callees_below = below;
-  irreflexive = λ f. bytes_irreflexive _;
-  transitive = λ f g h. bytes_transitive _ _ _;
+  irreflexive = λ f. bytes_irreflexive (path_at C f);
+  transitive = λ f g h. bytes_transitive (path_at C f) (path_at C g) (path_at C h);
 }
 
 pub not_itself : (G : Graph) → IsGraph G → (f : ℕ) → f < G.functions → asks G f f ≡ false

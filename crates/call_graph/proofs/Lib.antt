@@ -5,3 +5,4 @@ mod Falls
 mod PathOrder
 mod Bits
 mod Components
+mod Opened

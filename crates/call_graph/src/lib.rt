@@ -5,12 +5,15 @@
 #![tactic(auto)]
 
 mod asking;
+mod found;
+mod parts;
 mod called;
 mod costs;
 mod paths;
 mod reach;
 
 pub use asking::{asking_falls, asks, components_tell, paths_are_in_order};
+pub use called::callees;
 pub use costs::cost;
 pub use paths::below;
 pub use reach::Reach;
