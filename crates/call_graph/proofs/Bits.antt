@@ -122,7 +122,7 @@ bit_is p n k lt = get_or-map-range_with_len p 0 n k k false lt (let e : 0 + k �
 pub bits_long : (p : ℕ → Bool) (n : ℕ) → length (bits_below n p) ≡ n
 bits_long p n = length-map-range_with_len p 0 n
 
-stands_snoc : (x y : ℕ) (xs : List ℕ) → stands x (xs ++ y ∷ []) ≡ (stands x xs || (x == y))
+pub stands_snoc : (x y : ℕ) (xs : List ℕ) → stands x (xs ++ y ∷ []) ≡ (stands x xs || (x == y))
 stands_snoc x y [] = grind arith
 stands_snoc x y (z ∷ zs) = let r = stands_snoc x y zs in grind arith
 

@@ -6,3 +6,5 @@ mod PathOrder
 mod Bits
 mod Components
 mod Opened
+mod Entering
+mod Listed

@@ -1,10 +1,11 @@
 -- What holds while the destructors in a type are found. No promise of a public call rests on these.
-use Rattle.std.specs.Prelude.{◌≡◌, ℕ, zero, suc, ◌+◌, ◌<◌, ◌≤◌, Bool, true, false, List, [], ◌∷◌, ◌++◌, map, flat_map, length, Option, Some, None, slice_get, sum_by, if◌then◌else◌}
+use Rattle.std.specs.Prelude.{◌≡◌, ℕ, zero, suc, ◌+◌, ◌<◌, ◌≤◌, Bool, true, false, List, [], ◌∷◌, ◌++◌, map, flat_map, length, Option, Some, None, slice_get, IsTrue, sum_by, if◌then◌else◌}
 use Rattle.bit_rows.specs.Rows.{row_at, flag, stands}
 use Rattle.mir_syntax.specs.declared.types.TyId.{TyId}
 use Rattle.mir_syntax.specs.declared.types.FnId.{FnId}
 use Rattle.mir_syntax.specs.declared.types.Field.{Field}
 use Rattle.mir_syntax.specs.declared.types.Variant.{Variant}
+use Rattle.mir_syntax.specs.Table.{all_below}
 use Rattle.mir_syntax.specs.Drops.{fn_number}
 use Rattle.mir_syntax.specs.Tree.{Tree, at_id, more, named}
 use Rattle.mir_syntax.specs.Shapes.{Shape, field_id}
@@ -72,7 +73,7 @@ pub record Entered (D : List Shape) (trees : List Tree) (part : Part) (found fou
   pub destructors_are : destructors_at D trees part ≡ own ++ flat_map (destructors_at D trees) (map (part_at depth) inner)
   pub smaller : suc (sum_by (size_at D trees) (map (part_at depth) inner)) ≤ size_at D trees part
   pub deep : depth ≤ part.depth
-  pub in_table : (k : ℕ) (id : TyId) → slice_get inner k ≡ Some id → id.0 < length trees
+  pub in_table : IsTrue (all_below (length trees) inner)
 
 -- each part is in the table, and no deeper than there are definitions
 pub record IsOpen (D : List Shape) (trees : List Tree) (part : Part) : Type 0 where

@@ -52,7 +52,8 @@ fn enter_definition(
         return Ok(());
     };
     add_own(program, part.ty, found)?;
-    open_variants(stack, definition.variants.as_slice(), part.depth - 1)
+    open_variants(stack, definition.variants.as_slice(), part.depth - 1)?;
+    Ok(())
 }
 
 /// Goes over a part: its destructor is found, and the parts inside it are opened.
@@ -71,8 +72,13 @@ fn enter(
 {
     match program.ty(part.ty) {
         Ty::Named(def) => enter_definition(program, part, *def, found, stack),
-        Ty::Tuple(ids) => open_types(stack, ids.as_slice(), part.depth),
-        Ty::Scalar(_) | Ty::Ref(_) | Ty::RefMut(_) => Ok(()),
+        Ty::Tuple(ids) => {
+            open_types(stack, ids.as_slice(), part.depth)?;
+            Ok(())
+        }
+        Ty::Scalar(_) => Ok(()),
+        Ty::Ref(_) => Ok(()),
+        Ty::RefMut(_) => Ok(()),
     }
 }
 
@@ -139,6 +145,5 @@ pub fn callees(alloc: Global, program: &Program, body: &Body) -> Result<List<FnI
     for block in body.blocks.as_slice() {
         add_called(alloc, program, body, &block.term, &mut found)?;
     }
-    let Found { list, .. } = found;
-    Ok(list)
+    Ok(found.into_list())
 }

@@ -40,4 +40,11 @@ impl Found {
         self.marks.set(0, f.0, true);
         Ok(())
     }
+
+    pub(crate) fn into_list(self) -> List<FnId>
+        ensures { result ≡ self.list }
+    {
+        let Found { list, .. } = self;
+        list
+    }
 }

@@ -14,7 +14,7 @@ loop-done-init c = sym (append-nil c.args.stack.now.items) ∙ ap (λ xs. c.args
 pub loop-done-preserved : goal.loop-done-preserved
 loop-done-preserved c =
     opened_more variant_types c.args.depth c.args.variants.now c.loop-done.done (length c.args.variants.now - 1 - c.loop-done.done) c.index-variants-variants.result c.args.stack.now.items c.loop-done.stack.items c.open_fields.new.stack.items c.loop-done-test.true refl c.loop-done.invariant
-    (c.in_ok-open_fields.ensures ∙ ap (λ xs. c.loop-done.stack.items ++ reversed (map (part_at c.args.depth) (map field_id xs))) c.as_slice.ensures)
+    (c.in_ok-open_fields.ensures ∙ ap (λ xs. c.loop-done.stack.items ++ reversed (map (part_at c.args.depth) (map field_id xs))) c.as_slice.ensures ∙ ap (λ (v : Variant). c.loop-done.stack.items ++ reversed (map (part_at c.args.depth) (map field_id v.fields))) c.index-variants-variants.is)
 
 pub returns : goal.returns
 returns c = c.loop-done.invariant ∙ ap (λ xs. c.args.stack.now.items ++ xs) (opened_all variant_types c.args.depth c.args.variants.now c.loop-done.done c.loop-done-test.false)
