@@ -8,3 +8,4 @@ mod Components
 mod Opened
 mod Entering
 mod Listed
+mod Ended

@@ -5,6 +5,7 @@
 #![tactic(auto)]
 
 mod asking;
+mod cycles;
 mod found;
 mod parts;
 mod called;
@@ -15,5 +16,6 @@ mod reach;
 pub use asking::{asking_falls, asks, components_tell, paths_are_in_order};
 pub use called::callees;
 pub use costs::cost;
+pub use cycles::qualif;
 pub use paths::below;
 pub use reach::Reach;
