@@ -9,3 +9,4 @@ mod Opened
 mod Entering
 mod Listed
 mod Ended
+mod Rows

@@ -34,7 +34,7 @@ opened_more types depth items done at d stack now now2 l e is more =
     let here : length items - (done + 1) ≡ at = omega (arith, e) in
     let next : suc at ≡ length items - done = omega (arith, e, l) in
     let split : drop (length items - (done + 1)) items ≡ get_or items at d ∷ drop (length items - done) items =
-        ap (λ n. drop n items) here ∙ drop_here items at d (omega (arith, e, l)) ∙ ap (λ n. get_or items at d ∷ drop n items) next in
+    ap (λ n. drop n items) here ∙ drop_here items at d (omega (arith, e, l)) ∙ ap (λ n. get_or items at d ∷ drop n items) next in
     more ∙ ap (λ xs. xs ++ reversed (map (part_at depth) (types (get_or items at d)))) is
     ∙ append_assoc stack (opened types depth items done) (reversed (map (part_at depth) (types (get_or items at d))))
     ∙ ap (λ xs. stack ++ xs)

@@ -11,5 +11,5 @@ min_more a b m = omega arith
 pub sum_more : {A B : Type 0} (f : B → ℕ) (g : A → B) (items : List A) (i : ℕ) (d : A) (m total added : ℕ) → i < length items → total ≡ min (sum_by f (map g (take i items))) m → added ≡ min (f (g (get_or items i d))) m → min (total + added) m ≡ min (sum_by f (map g (take (i + 1) items))) m
 sum_more f g items i d m total added l e a =
     let whole : sum_by f (map g (take (i + 1) items)) ≡ sum_by f (map g (take i items)) + f (g (get_or items i d)) =
-        ap (λ xs. sum_by f (map g xs)) (take_more items i d l) ∙ ap (sum_by f) (map-append g (take i items) (get_or items i d ∷ [])) ∙ sum_by_push f (map g (take i items)) (g (get_or items i d)) in
+    ap (λ xs. sum_by f (map g xs)) (take_more items i d l) ∙ ap (sum_by f) (map-append g (take i items) (get_or items i d ∷ [])) ∙ sum_by_push f (map g (take i items)) (g (get_or items i d)) in
     omega (arith, whole, e, a)

@@ -11,7 +11,7 @@ ghost use Rattle.call_graph.specs.Callees as of;
 ghost use Rattle.call_graph.specs.Walk.{all_added, destructors_at, Entered};
 
 use crate::found::Found;
-use crate::parts::{open_types, open_variants, Part};
+use crate::parts::{Part, open_types, open_variants};
 use mir_syntax::{Body, Callee, FnId, List, OutOfMemory, Program, Term, Ty, TyId};
 use std::alloc::Global;
 

@@ -40,11 +40,7 @@ impl Model for Reach {
 fn lowered(was_known: bool, g: u32, low: u32) -> u32
     ensures { result ≡ (if was_known then low else min g low) }
 {
-    if was_known {
-        low
-    } else {
-        g.min(low)
-    }
+    if was_known { low } else { g.min(low) }
 }
 
 impl Reach {

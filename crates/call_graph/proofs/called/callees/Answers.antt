@@ -37,9 +37,11 @@ loop-block-preserved c =
     let i = c.loop-block.block-index in
     let e = c.as_slice-block-items.ensures in
     let long = ap (λ xs. length xs) e in
-    let here = c.block-item.is ∙ ap (λ xs. get_or xs i item) e in
-    (block_more f (block_of trees) c.args.body.now.blocks i item (map fn_number c.loop-block.found.list) (map fn_number c.add_called.new.found.list) (let t = c.loop-block-test.true in omega (arith, t, long)) c.loop-block.invariant.0
-      (c.in_ok-add_called.ensures.list ∙ ap (λ (b : Block). all_added (map fn_number c.loop-block.found.list) (f (block_of trees b))) here), c.in_ok-add_called.ensures.size ∙ c.loop-block.invariant.1)
+    let here = c.block-item.is ∙ ap (λ xs. get_or xs i item) e in (
+      block_more f (block_of trees) c.args.body.now.blocks i item (map fn_number c.loop-block.found.list) (map fn_number c.add_called.new.found.list) (let t = c.loop-block-test.true in omega (arith, t, long)) c.loop-block.invariant.0
+          (c.in_ok-add_called.ensures.list ∙ ap (λ (b : Block). all_added (map fn_number c.loop-block.found.list) (f (block_of trees b))) here),
+      c.in_ok-add_called.ensures.size ∙ c.loop-block.invariant.1,
+    )
 
 pub returns : goal.returns
 unfolding callees
