@@ -1,7 +1,6 @@
 -- A reach as two rows of bits, that is given callees in its order.
 use Rattle.std.proofs.Common.{◌≡◌, ◌≢◌, refl, sym, ap, ap₂, ◌∙◌, subst, ℕ, zero, suc, ◌+◌, ◌-◌, ◌<◌, ◌≤◌, ◌↔◌, Bool, true, false, not, ◌==◌, ◌&&◌, ◌||◌, List, [], ◌∷◌, ◌++◌, length, get_or, set, take, map, replicate, ◌⊎◌, inl, inr, arith}
 use Rattle.std.specs.Prelude.{Option, Some, None, IsTrue, if◌then◌else◌}
-use Rattle.std.specs.List.{range_with_len}
 use Rattle.std.proofs.lemmas.Bool.Decides.{nat_tests}
 use Rattle.std.proofs.lemmas.List.{length-set, length-replicate, get_or-replicate, get_or-set_same, get_or-set_other, take_more, map-append}
 use Rattle.std.proofs.lemmas.List.FromFn.{fill_by_all, get_or-map-range_with_len, length-map-range_with_len}
@@ -9,8 +8,8 @@ use Rattle.bit_rows.specs.Rows.{row_at, flag, marked, stands, HasSize}
 use Rattle.bit_rows.proofs.Marks.{marked-append, length-marked, marked-at}
 use Rattle.call_graph.specs.Graph.{Graph, IsGraph, Reaches, called_by, is_known, least, next_known, reach}
 use Rattle.call_graph.specs.Reaching.{bits_below, rows_of, is_waiting, KeepsLow}
-use Rattle.call_graph.proofs.Once.{bool_tells, stands_append, stands_left, stands_right}
-use Rattle.call_graph.proofs.Reached.{least_is, least_none, reach_all, reach_only, known_given, is_known_of}
+use Rattle.call_graph.proofs.Once.{bool_tells}
+use Rattle.call_graph.proofs.Reached.{reach_all, reach_only, known_given, is_known_of}
 
 -- ---- the least number that passes
 

@@ -1,12 +1,12 @@
 -- Whom a function asks for is told by components.
-use Rattle.std.proofs.Common.{◌≡◌, ◌≢◌, refl, sym, ap, ◌∙◌, subst, ℕ, zero, suc, ◌+◌, ◌<◌, ◌≤◌, Bool, true, false, not, ◌==◌, ◌||◌, ◌&&◌, List, [], ◌∷◌, length, ◌⊎◌, inl, inr, arith}
+use Rattle.std.proofs.Common.{◌≡◌, refl, sym, ap, ◌∙◌, ℕ, zero, suc, ◌<◌, ◌≤◌, Bool, true, false, not, ◌==◌, ◌||◌, ◌&&◌, List, length, ◌⊎◌, inl, inr, arith}
 use Rattle.std.proofs.lemmas.Bool.Decides.{nat_tests}
 use Rattle.bit_rows.specs.Rows.{stands}
 use Rattle.mir_syntax.specs.Crate.{Crate}
-use Rattle.call_graph.specs.Graph.{Graph, IsGraph, Chain, Reaches, IsComponents, graph_of, path_at, reach, some_reaches, asks, asks_by, weight}
+use Rattle.call_graph.specs.Graph.{Graph, IsGraph, Chain, Reaches, IsComponents, graph_of, path_at, reach, some_reaches, asks, asks_by}
 use Rattle.call_graph.proofs.Once.{bool_tells}
 use Rattle.call_graph.proofs.Reached.{reach_all, reach_only, reach_grows}
-use Rattle.call_graph.proofs.Falls.{callee_of, weight_falls, asks_another}
+use Rattle.call_graph.proofs.Falls.{callee_of, asks_another}
 use Rattle.call_graph.proofs.PathOrder.{bytes_irreflexive, bytes_transitive}
 
 pub in_order : (C : Crate) (callees : ℕ → List ℕ) → ((f g : ℕ) → stands g (callees f) ≡ true → g < length C.functions) → IsGraph (graph_of C callees)

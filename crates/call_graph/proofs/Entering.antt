@@ -1,19 +1,18 @@
 -- Parts of a type that are gone over: what is found, and what is left to go over.
-use Rattle.std.proofs.Common.{◌≡◌, ◌⊎◌, inl, inr, refl, sym, ap, ap₂, ◌∙◌, subst, ℕ, zero, suc, ◌+◌, ◌-◌, ◌<◌, ◌≤◌, Bool, true, false, ◌==◌, ◌||◌, ◌&&◌, List, [], ◌∷◌, ◌++◌, append_assoc, append-nil, map, length, get_or, Option, Some, None, is_some, slice_get, arith}
-use Rattle.std.specs.Prelude.{IsTrue, nat_lt, sum_by, option_to_list, if◌then◌else◌}
+use Rattle.std.proofs.Common.{◌≡◌, refl, sym, ap, ap₂, ◌∙◌, subst, ℕ, zero, suc, ◌+◌, ◌-◌, ◌<◌, ◌≤◌, Bool, true, false, ◌||◌, ◌&&◌, List, [], ◌∷◌, ◌++◌, append_assoc, append-nil, map, length, Option, Some, None, is_some, slice_get, arith}
+use Rattle.std.specs.Prelude.{IsTrue, nat_lt, sum_by, option_to_list}
 use Rattle.std.specs.List.{All, flat_map, list_all}
-use Rattle.std.proofs.lemmas.Bool.{or_cases, or_left, or_right}
+use Rattle.std.proofs.lemmas.Bool.{or_left, or_right}
 use Rattle.std.proofs.lemmas.Bool.Decides.{nat_tests}
 use Rattle.std.proofs.lemmas.List.{map-append, length-map}
 use Rattle.std.proofs.lemmas.Grind.{flat_map-append}
 use Rattle.std.proofs.lemmas.List.Sums.{sum_by-cons, sum_by-append, sum_by_push}
-use Rattle.bit_rows.specs.Rows.{stands}
 use Rattle.mir_syntax.specs.declared.types.TyId.{TyId}
 use Rattle.mir_syntax.specs.declared.types.Field.{Field}
 use Rattle.mir_syntax.specs.declared.types.Variant.{Variant}
 use Rattle.mir_syntax.specs.Table.{all_below}
 use Rattle.mir_syntax.specs.Ids.{field_below, variant_below}
-use Rattle.mir_syntax.specs.Tree.{Tree, more, named, empty, scalar, ref, ref_mut, tuple_of, at_id, at_ids, trees_of}
+use Rattle.mir_syntax.specs.Tree.{Tree, more, named, tuple_of, at_id, at_ids, trees_of}
 use Rattle.mir_syntax.specs.declared.program.Program.{Program}
 use Rattle.mir_syntax.specs.Crate.{field_of, variant_of, def_of, crate_of}
 use Rattle.mir_syntax.proofs.Places.{shapes_from-length}

@@ -1,10 +1,9 @@
 -- Who asks for another has the greater weight, so no one asks for himself in the end.
-use Rattle.std.proofs.Common.{◌≡◌, ◌≢◌, refl, sym, ap, ◌∙◌, subst, ℕ, zero, suc, ◌+◌, ◌*◌, ◌<◌, ◌≤◌, Bool, true, false, not, ◌==◌, ◌||◌, ◌&&◌, List, [], ◌∷◌, length, ◌⊎◌, inl, inr, arith}
-use Rattle.std.specs.Prelude.{if◌then◌else◌}
+use Rattle.std.proofs.Common.{◌≡◌, refl, subst, ℕ, zero, suc, ◌+◌, ◌*◌, ◌<◌, ◌≤◌, Bool, true, false, List, [], ◌∷◌, length, ◌⊎◌, inl, inr, arith}
 use Rattle.std.proofs.lemmas.Bool.Decides.{nat_tests}
 use Rattle.bit_rows.specs.Rows.{stands}
 use Rattle.call_graph.specs.Graph.{Graph, IsGraph, Reaches, reach, some_reaches, asks, one_if, count_below, above, weight}
-use Rattle.call_graph.proofs.Once.{bool_tells, both, stands_cases, once_within, once_fewer, once_below}
+use Rattle.call_graph.proofs.Once.{bool_tells, once_within, once_fewer, once_below}
 use Rattle.call_graph.proofs.Reached.{reaches_trans, reach_grows, reach_self, reach_all, reach_only}
 
 -- ---- how many numbers below n pass

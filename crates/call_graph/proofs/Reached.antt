@@ -1,10 +1,10 @@
 -- The list of a reach holds what chains of calls lead to, each once.
-use Rattle.std.proofs.Common.{◌≡◌, ◌≢◌, refl, sym, ap, ◌∙◌, subst, ℕ, zero, suc, ◌+◌, ◌<◌, ◌≤◌, Bool, true, false, not, ◌==◌, ◌||◌, ◌&&◌, List, [], ◌∷◌, ◌++◌, length, length-append, append-nil, ◌⊎◌, inl, inr, arith}
-use Rattle.std.specs.Prelude.{Option, Some, None, option_to_list, if◌then◌else◌}
+use Rattle.std.proofs.Common.{◌≡◌, refl, sym, ap, ◌∙◌, subst, ℕ, zero, suc, ◌+◌, ◌<◌, ◌≤◌, Bool, true, false, not, ◌==◌, ◌||◌, ◌&&◌, List, [], ◌∷◌, ◌++◌, length, length-append, append-nil, ◌⊎◌, inl, inr, arith}
+use Rattle.std.specs.Prelude.{Option, Some, None, option_to_list}
 use Rattle.std.proofs.lemmas.Bool.Decides.{nat_tests}
 use Rattle.bit_rows.specs.Rows.{stands}
 use Rattle.call_graph.specs.Graph.{Graph, IsGraph, Chain, Reaches, called_by, is_known, least, next_known, reach_from, reach}
-use Rattle.call_graph.proofs.Once.{IsOnce, bool_tells, both, stands_cases, stands_first, stands_append, stands_left, once_below, once_snoc}
+use Rattle.call_graph.proofs.Once.{IsOnce, bool_tells, stands_cases, stands_first, stands_append, once_below, once_snoc}
 
 -- ---- chains
 

@@ -1,12 +1,11 @@
 -- Small crates, computed.
-use Rattle.std.proofs.Common.{◌≡◌, refl, ℕ, zero, suc, ◌-◌, ◌^◌, Bool, true, false, List, [], ◌∷◌, map}
-use Rattle.std.specs.Prelude.{Some, None, nat_lt}
+use Rattle.std.proofs.Common.{◌≡◌, refl, ℕ, zero, suc, true, false, List, [], ◌∷◌, map}
+use Rattle.std.specs.Prelude.{Some, nat_lt}
 use Rattle.mir_syntax.specs.declared.types.IntTy.TheVariants as int_ty
 use Rattle.mir_syntax.specs.declared.types.ScalarTy.TheVariants as scalar_ty
 use Rattle.mir_syntax.specs.declared.body.BinOp.TheVariants as binop
 use Rattle.mir_syntax.specs.declared.body.Const.TheVariants as const
 use Rattle.mir_syntax.specs.declared.body.Place.{Place}
-use Rattle.mir_syntax.specs.declared.body.Proj.TheVariants.{Deref}
 use Rattle.mir_syntax.specs.declared.body.Operand.{Operand}
 use Rattle.mir_syntax.specs.declared.body.Operand.TheVariants.{Copy, Move, Const}
 use Rattle.mir_syntax.specs.declared.body.Callee.TheVariants.{Local}
@@ -14,7 +13,7 @@ use Rattle.mir_syntax.specs.declared.body.Term.{Term}
 use Rattle.mir_syntax.specs.declared.body.Term.TheVariants as term
 use Rattle.mir_syntax.specs.Tree.{Tree, scalar, empty, more, ref, ref_mut, named}
 use Rattle.mir_syntax.specs.Crate.{TypedStmt, TypedBlock, TypedBody, assign, storage_live, binary, «use», build}
-use Rattle.mir_syntax.specs.Shapes.{Shape, whole_place_ty, whole_path_ty, ◌>>=◌}
+use Rattle.mir_syntax.specs.Shapes.{Shape, whole_path_ty, ◌>>=◌}
 use Rattle.call_graph.specs.Callees.{callees, destructors_in}
 use Rattle.call_graph.specs.Cost.{cost}
 use Rattle.call_graph.specs.Qualif.{terms_qualify}

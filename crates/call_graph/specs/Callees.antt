@@ -1,5 +1,5 @@
 -- Whom a body calls: the functions that its calls name, and the destructors that its drops may run.
-use Rattle.std.specs.Prelude.{ℕ, zero, suc, Bool, List, [], ◌∷◌, ◌++◌, if◌then◌else◌, length, flat_map, Option, Some, None, option_to_list, slice_get}
+use Rattle.std.specs.Prelude.{ℕ, zero, suc, List, [], ◌∷◌, ◌++◌, if◌then◌else◌, length, flat_map, Option, Some, None, option_to_list, slice_get}
 use Rattle.bit_rows.specs.Rows.{stands}
 use Rattle.mir_syntax.specs.declared.body.Callee.{Callee}
 use Rattle.mir_syntax.specs.declared.body.Callee.TheVariants.{Local, Outside}

@@ -1,8 +1,8 @@
 -- What a body costs: 5 for each statement that isn't one of storage, 5 for each terminator, and 25 more for each call.
-use Rattle.std.specs.Prelude.{ℕ, ◌+◌, ◌-◌, ◌^◌, Bool, true, false, List, min, sum_by}
+use Rattle.std.specs.Prelude.{ℕ, ◌+◌, ◌-◌, ◌^◌, min, sum_by}
 use Rattle.mir_syntax.specs.declared.body.Term.{Term}
 use Rattle.mir_syntax.specs.declared.body.Term.TheVariants as term
-use Rattle.mir_syntax.specs.Crate.{TypedStmt, assign, storage_live, storage_dead, set_discriminant, TypedBlock, TypedBody}
+use Rattle.mir_syntax.specs.Crate.{TypedStmt, storage_live, storage_dead, TypedBlock, TypedBody}
 
 abbrev pub stmt_cost : TypedStmt → ℕ
 stmt_cost (storage_live x) = 0

@@ -1,5 +1,5 @@
 -- What holds while blocks are found from which all paths end. No promise of a public call rests on these.
-use Rattle.std.specs.Prelude.{◌≡◌, ◌⊎◌, ℕ, ◌<◌, ◌≤◌, Bool, true, false, List, length, get_or, set, sum_by}
+use Rattle.std.specs.Prelude.{◌≡◌, ◌⊎◌, ℕ, ◌<◌, Bool, true, false, List, length, get_or, sum_by}
 use Rattle.std.specs.List.{list_all}
 use Rattle.mir_syntax.specs.declared.body.Term.{Term}
 use Rattle.mir_cfg.specs.Paths.{exits}

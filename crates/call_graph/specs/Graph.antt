@@ -1,6 +1,6 @@
 -- The call graph of a crate: what chains of calls lead to, and who asks for whose body. This project's own, after rustc's inliner.
-use Rattle.std.specs.Prelude.{◌≡◌, ℕ, zero, suc, ◌+◌, ◌*◌, ◌<◌, ◌≤◌, Bool, true, false, not, nat_lt, ◌==◌, ◌&&◌, ◌||◌, List, [], ◌∷◌, ◌++◌, length, map, sum_by, Option, Some, None, option_to_list, get_or, if◌then◌else◌}
-use Rattle.std.specs.List.{list_any, range_with_len}
+use Rattle.std.specs.Prelude.{◌≡◌, ℕ, zero, suc, ◌+◌, ◌*◌, ◌<◌, ◌≤◌, Bool, true, false, not, nat_lt, ◌==◌, ◌&&◌, ◌||◌, List, [], ◌∷◌, ◌++◌, length, map, Option, Some, None, option_to_list, get_or, if◌then◌else◌}
+use Rattle.std.specs.List.{list_any}
 use Rattle.bit_rows.specs.Rows.{stands}
 use Rattle.mir_syntax.specs.Crate.{Crate, TypedFunction}
 

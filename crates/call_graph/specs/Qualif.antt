@@ -1,5 +1,5 @@
 -- Bodies that qualify to be inlined more freely: no call, no drop, no assert and no cycle of blocks.
-use Rattle.std.specs.Prelude.{ℕ, zero, suc, Bool, true, false, not, ◌&&◌, List, map, length}
+use Rattle.std.specs.Prelude.{ℕ, zero, suc, Bool, true, false, not, ◌&&◌, List, length}
 use Rattle.std.specs.List.{list_all, list_any, range_with_len}
 use Rattle.mir_syntax.specs.declared.body.Term.{Term}
 use Rattle.mir_syntax.specs.declared.body.Term.TheVariants as term

@@ -1,8 +1,8 @@
 -- A reach as two rows of bits: which functions are known, and of which the callees were given.
-use Rattle.std.specs.Prelude.{◌≡◌, ℕ, zero, suc, ◌<◌, ◌≤◌, Bool, true, false, not, ◌&&◌, List, [], ◌∷◌, map, length, None}
+use Rattle.std.specs.Prelude.{◌≡◌, ℕ, ◌<◌, ◌≤◌, Bool, false, not, ◌&&◌, List, [], ◌∷◌, map}
 use Rattle.std.specs.List.{range_with_len}
-use Rattle.bit_rows.specs.Rows.{row_at, flag, stands, HasSize}
-use Rattle.call_graph.specs.Graph.{Graph, is_known, next_known}
+use Rattle.bit_rows.specs.Rows.{flag, stands, HasSize}
+use Rattle.call_graph.specs.Graph.{Graph, is_known}
 
 -- the bits of the numbers below n
 abbrev pub bits_below : ℕ → (ℕ → Bool) → List Bool

@@ -1,9 +1,8 @@
 -- What holds while the destructors in a type are found. No promise of a public call rests on these.
-use Rattle.std.specs.Prelude.{◌≡◌, ℕ, zero, suc, ◌+◌, ◌<◌, ◌≤◌, Bool, true, false, List, [], ◌∷◌, ◌++◌, map, flat_map, length, Option, Some, None, slice_get, IsTrue, sum_by, if◌then◌else◌}
+use Rattle.std.specs.Prelude.{◌≡◌, ℕ, zero, suc, ◌+◌, ◌<◌, ◌≤◌, Bool, List, [], ◌∷◌, ◌++◌, map, flat_map, length, Option, Some, None, slice_get, IsTrue, sum_by, if◌then◌else◌}
 use Rattle.bit_rows.specs.Rows.{row_at, flag, stands}
 use Rattle.mir_syntax.specs.declared.types.TyId.{TyId}
 use Rattle.mir_syntax.specs.declared.types.FnId.{FnId}
-use Rattle.mir_syntax.specs.declared.types.Field.{Field}
 use Rattle.mir_syntax.specs.declared.types.Variant.{Variant}
 use Rattle.mir_syntax.specs.Table.{all_below}
 use Rattle.mir_syntax.specs.Drops.{fn_number}

@@ -1,4 +1,4 @@
-use Rattle.std.proofs.Common.{◌≡◌, refl, sym, ap, ap₂, ◌∙◌, subst, ◌++◌, ◌∷◌, [], ℕ, List, map, length, ◌<◌, ◌≤◌, arith}
+use Rattle.std.proofs.Common.{◌≡◌, refl, sym, ap, ◌∙◌, subst, ◌++◌, ◌∷◌, [], ℕ, List, map, length, arith}
 use Rattle.bit_rows.specs.Rows.{row_at}
 use Rattle.mir_syntax.specs.Tree.{at_id, trees_of}
 use Rattle.mir_syntax.specs.Crate.{crate_of}
@@ -8,7 +8,7 @@ use Rattle.mir_syntax.proofs.Trees.{length-trees_of}
 use Rattle.call_graph.specs.declared.parts.Part.{Part}
 use Rattle.call_graph.specs.Callees.{destructors_in}
 use Rattle.call_graph.specs.Walk.{destructors_at}
-use Rattle.call_graph.proofs.Entering.{Below, Going, part_open, part_inside, skipped, skipped_less, went, went_less, walk_begins, shapes_many, ended}
+use Rattle.call_graph.proofs.Entering.{Below, part_open, part_inside, skipped, skipped_less, went, went_less, walk_begins, shapes_many}
 use Rattle.call_graph.proofs.called.add_destructors.Goals as goal
 
 pub loop-part-init : goal.loop-part-init

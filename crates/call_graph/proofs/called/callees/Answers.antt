@@ -1,7 +1,6 @@
-use Rattle.std.proofs.Common.{◌≡◌, refl, sym, ap, ◌∙◌, subst, [], ℕ, List, map, length, get_or, take, arith}
+use Rattle.std.proofs.Common.{refl, sym, ap, ◌∙◌, subst, [], ℕ, map, length, get_or, arith}
 use Rattle.std.specs.List.{flat_map}
 use Rattle.std.proofs.lemmas.List.{take_all}
-use Rattle.bit_rows.specs.Rows.{row_at}
 use Rattle.mir_syntax.specs.declared.body.Block.{Block}
 use Rattle.mir_syntax.specs.Tree.{trees_of}
 use Rattle.mir_syntax.specs.Crate.{crate_of, body_of, block_of}

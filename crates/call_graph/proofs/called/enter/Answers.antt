@@ -1,15 +1,15 @@
-use Rattle.std.proofs.Common.{◌≡◌, refl, sym, ap, ◌∙◌, subst, List, ◌++◌, map, length, ◌≤◌, ◌<◌, arith}
+use Rattle.std.proofs.Common.{ap, ◌∙◌, subst, List, ◌++◌, map, length, arith}
 use Rattle.std.specs.Prelude.{IsTrue}
 use Rattle.mir_syntax.specs.declared.types.TyId.{TyId}
 use Rattle.mir_syntax.specs.declared.types.Ty.{Ty}
 use Rattle.mir_syntax.specs.Table.{ids_below, all_below}
-use Rattle.mir_syntax.specs.Tree.{at_id, trees_of, node, at_ids}
+use Rattle.mir_syntax.specs.Tree.{at_id, trees_of, node}
 use Rattle.mir_syntax.specs.Crate.{crate_of}
 use Rattle.mir_syntax.specs.Shapes.{shapes_of}
 use Rattle.mir_syntax.specs.Drops.{fn_number}
 use Rattle.mir_syntax.proofs.Trees.{length-trees_of}
 use Rattle.call_graph.specs.Callees.{destructors_by, destructors_def}
-use Rattle.call_graph.specs.Walk.{part_at, reversed, size_by, size_def, Entered}
+use Rattle.call_graph.specs.Walk.{part_at, reversed}
 use Rattle.call_graph.proofs.Entering.{nothing_entered, tuple_entered, below_more, size_some}
 use Rattle.call_graph.proofs.called.enter.Goals as goal
 

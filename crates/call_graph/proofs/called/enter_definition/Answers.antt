@@ -1,20 +1,18 @@
-use Rattle.std.proofs.Common.{◌≡◌, refl, sym, ap, ap₂, ◌∙◌, subst, ℕ, ◌+◌, ◌-◌, ◌++◌, map, length, ◌≤◌, ◌<◌, suc, List, Option, Some, None, slice_get, arith}
+use Rattle.std.proofs.Common.{◌≡◌, refl, sym, ap, ap₂, ◌∙◌, subst, ℕ, ◌+◌, ◌-◌, ◌++◌, map, length, suc, List, Option, Some, slice_get, arith}
 use Rattle.std.specs.Prelude.{IsTrue, option_to_list}
 use Rattle.std.specs.List.{list_all}
-use Rattle.mir_syntax.specs.declared.types.TyId.{TyId}
-use Rattle.mir_syntax.specs.declared.types.Def.{Def}
 use Rattle.mir_syntax.specs.declared.types.Variant.{Variant}
-use Rattle.mir_syntax.specs.Tree.{Tree, at_id, trees_of, named}
+use Rattle.mir_syntax.specs.Tree.{Tree, at_id, trees_of}
 use Rattle.mir_syntax.specs.Ids.{def_below, variant_below}
-use Rattle.mir_syntax.specs.Crate.{crate_of, def_of, variant_of}
-use Rattle.mir_syntax.specs.Shapes.{Shape, shapes_of, shape_of, fields_tuple, destructor_of, ◌>>=◌}
+use Rattle.mir_syntax.specs.Crate.{crate_of, def_of}
+use Rattle.mir_syntax.specs.Shapes.{shapes_of, shape_of}
 use Rattle.mir_syntax.specs.Drops.{fn_number}
 use Rattle.mir_syntax.proofs.Trees.{length-trees_of}
 use Rattle.mir_syntax.proofs.InTable.{all-at}
 use Rattle.mir_syntax.proofs.Places.{shape-at, shape-past}
-use Rattle.call_graph.specs.Callees.{destructors_by, destructors_of, destructors_def}
+use Rattle.call_graph.specs.Callees.{destructors_by, destructors_def}
 use Rattle.bit_rows.specs.Rows.{row_at}
-use Rattle.call_graph.specs.Walk.{all_added, part_at, reversed, types_in, size_by, size_def, Entered}
+use Rattle.call_graph.specs.Walk.{all_added, part_at, reversed, types_in}
 use Rattle.call_graph.proofs.Entering.{nothing_entered, definition_entered, variants_below, size_some, own_destructor_is, none_defined, own_below}
 use Rattle.call_graph.proofs.called.enter_definition.Goals as goal
 

@@ -1,9 +1,8 @@
-use Rattle.std.proofs.Common.{◌≡◌, ◌+◌, ◌-◌, ◌^◌, List, length, min, ap, sym, refl, ◌∙◌, map, take, get_or, arith}
+use Rattle.std.proofs.Common.{◌≡◌, ◌-◌, ◌^◌, length, min, ap, refl, ◌∙◌, map, get_or, arith}
 use Rattle.std.specs.Prelude.{sum_by}
 use Rattle.std.proofs.lemmas.List.{take_all}
-use Rattle.mir_syntax.specs.Tree.{Tree}
 use Rattle.mir_syntax.specs.declared.body.Stmt.{Stmt}
-use Rattle.mir_syntax.specs.Crate.{TypedStmt, assign, storage_live, storage_dead, set_discriminant, body_of, block_of, stmt_of}
+use Rattle.mir_syntax.specs.Crate.{TypedStmt, assign, storage_live, storage_dead, set_discriminant, stmt_of}
 use Rattle.call_graph.specs.Cost as of
 use Rattle.call_graph.proofs.Sums.{sum_more}
 use Rattle.call_graph.proofs.costs.block_cost.Goals as goal

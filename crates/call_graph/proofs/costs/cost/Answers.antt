@@ -1,9 +1,8 @@
-use Rattle.std.proofs.Common.{◌≡◌, ◌+◌, ◌-◌, ◌^◌, List, length, min, ap, sym, refl, ◌∙◌, map, take, get_or, arith}
+use Rattle.std.proofs.Common.{◌-◌, ◌^◌, length, min, ap, ◌∙◌, map, get_or, arith}
 use Rattle.std.specs.Prelude.{sum_by}
 use Rattle.std.proofs.lemmas.List.{take_all}
-use Rattle.mir_syntax.specs.Tree.{Tree}
 use Rattle.mir_syntax.specs.declared.body.Block.{Block}
-use Rattle.mir_syntax.specs.Crate.{body_of, block_of}
+use Rattle.mir_syntax.specs.Crate.{block_of}
 use Rattle.call_graph.specs.Cost.{block_cost, cost}
 use Rattle.call_graph.proofs.Sums.{sum_more}
 use Rattle.call_graph.proofs.costs.cost.Goals as goal

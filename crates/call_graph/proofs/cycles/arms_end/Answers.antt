@@ -1,4 +1,4 @@
-use Rattle.std.proofs.Common.{◌≡◌, sym, ◌∙◌}
+use Rattle.std.proofs.Common.{sym, ◌∙◌}
 use Rattle.mir_syntax.specs.Parts.{arm_block}
 use Rattle.call_graph.specs.Ending.{is_ended}
 use Rattle.call_graph.proofs.Ended.{all_not}

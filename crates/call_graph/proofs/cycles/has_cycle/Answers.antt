@@ -1,4 +1,4 @@
-use Rattle.std.proofs.Common.{◌≡◌, sym, ap, ◌∙◌, subst, Bool, true, List, not, length, map}
+use Rattle.std.proofs.Common.{ap, ◌∙◌, subst, Bool, List, not, length, map}
 use Rattle.std.specs.List.{list_all}
 use Rattle.std.proofs.lemmas.List.{length-map}
 use Rattle.mir_cfg.specs.Paths.{block_term}

@@ -1,4 +1,4 @@
-use Rattle.std.proofs.Common.{◌≡◌, sym, ap, ◌∙◌, subst, true, false, length, ◌<◌, map, get_or, List, Bool, arith}
+use Rattle.std.proofs.Common.{◌≡◌, sym, ap, ◌∙◌, true, false, map, get_or, List, Bool, arith}
 use Rattle.std.specs.List.{list_all}
 use Rattle.std.proofs.lemmas.List.{length-map}
 use Rattle.mir_cfg.specs.Paths.{block_term, exits}

@@ -1,8 +1,8 @@
-use Rattle.std.proofs.Common.{◌≡◌, refl, sym, ap, ap₂, ◌∙◌, Bool, true, false, not, ◌&&◌, List, map}
+use Rattle.std.proofs.Common.{sym, ap, ap₂, ◌∙◌, Bool, not, ◌&&◌, List, map}
 use Rattle.std.specs.List.{list_all}
 use Rattle.mir_syntax.specs.declared.body.Block.{Block}
 use Rattle.mir_cfg.specs.Paths.{block_term}
-use Rattle.call_graph.specs.Qualif.{is_plain, has_cycle, terms_qualify, qualifies}
+use Rattle.call_graph.specs.Qualif.{is_plain, has_cycle, qualifies}
 use Rattle.call_graph.proofs.cycles.qualif.Goals as goal
 
 pub returns-then-not-all_plain : goal.returns-then-not-all_plain

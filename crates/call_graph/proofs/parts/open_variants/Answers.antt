@@ -1,11 +1,8 @@
-use Rattle.std.proofs.Common.{◌≡◌, refl, sym, ap, ◌∙◌, append-nil, ◌+◌, ◌-◌, ◌++◌, ◌∷◌, [], length, map, get_or, arith}
-use Rattle.std.specs.List.{flat_map}
-use Rattle.mir_syntax.specs.declared.types.TyId.{TyId}
-use Rattle.mir_syntax.specs.declared.types.Field.{Field}
+use Rattle.std.proofs.Common.{refl, sym, ap, ◌∙◌, append-nil, ◌-◌, ◌++◌, length, map}
 use Rattle.mir_syntax.specs.declared.types.Variant.{Variant}
 use Rattle.mir_syntax.specs.Shapes.{field_id}
 use Rattle.call_graph.specs.Walk.{part_at, reversed, variant_types}
-use Rattle.call_graph.proofs.Opened.{opened, opened_none, opened_all, opened_more, one_each}
+use Rattle.call_graph.proofs.Opened.{opened_none, opened_all, opened_more}
 use Rattle.call_graph.proofs.parts.open_variants.Goals as goal
 
 pub loop-done-init : goal.loop-done-init

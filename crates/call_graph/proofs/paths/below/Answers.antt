@@ -1,10 +1,9 @@
 use Rattle.std.proofs.Common.{◌≡◌, refl, sym, ap, ap₂, ◌∙◌, ℕ, zero, suc, ◌<◌, List, [], ◌∷◌, length, map, get_or, arith}
-use Rattle.std.proofs.lemmas.List.{get_or-map}
 use Rattle.mir_syntax.specs.Tree.{trees_of}
-use Rattle.mir_syntax.specs.Crate.{crate_of, function_of}
+use Rattle.mir_syntax.specs.Crate.{function_of}
 use Rattle.mir_syntax.specs.declared.body.Function.{Function}
 use Rattle.mir_syntax.specs.Tree.{Tree}
-use Rattle.call_graph.specs.Graph.{bytes_below, path_of, path_at, path_below}
+use Rattle.call_graph.specs.Graph.{bytes_below, path_of}
 use Rattle.call_graph.proofs.paths.below.Goals as goal
 
 -- the path of a function with and without ids

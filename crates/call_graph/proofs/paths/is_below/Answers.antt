@@ -1,5 +1,5 @@
-use Rattle.std.proofs.Common.{◌≡◌, refl, sym, ap, ◌∙◌, ℕ, arith}
-use Rattle.call_graph.proofs.PathOrder.{below_done, below_short, below_step, below_differ}
+use Rattle.std.proofs.Common.{sym, ◌∙◌}
+use Rattle.call_graph.proofs.PathOrder.{below_short}
 use Rattle.call_graph.proofs.paths.is_below.Goals as goal
 
 pub returns-then-i-xs : goal.returns-then-i-xs

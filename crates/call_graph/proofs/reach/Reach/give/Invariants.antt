@@ -1,4 +1,4 @@
-use Rattle.std.proofs.Common.{◌≡◌, ◌∷◌, [], length, map, take}
+use Rattle.std.proofs.Common.{◌≡◌, ◌∷◌, [], map, take}
 use Rattle.bit_rows.specs.Rows.{row_at, marked}
 use Rattle.mir_syntax.specs.Drops.{fn_number}
 use Rattle.call_graph.proofs.reach.Reach.give.Given as goal

@@ -1,7 +1,7 @@
-use Rattle.std.proofs.Common.{◌≡◌, sym, ap, ◌∙◌, subst, ◌↔◌, true}
+use Rattle.std.proofs.Common.{sym, ap, ◌∙◌, subst, ◌↔◌}
 use Rattle.std.specs.Prelude.{IsTrue}
 use Rattle.bit_rows.specs.Rows.{flag}
-use Rattle.call_graph.specs.Graph.{Graph, Reaches}
+use Rattle.call_graph.specs.Graph.{Reaches}
 use Rattle.call_graph.proofs.Bits.{known_bit, ended_bit, ended_chain}
 use Rattle.call_graph.proofs.reach.Reach.has.Goals as goal
 

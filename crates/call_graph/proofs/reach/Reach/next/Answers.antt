@@ -1,6 +1,5 @@
-use Rattle.std.proofs.Common.{◌≡◌, refl, sym, ap, ◌∙◌, ℕ, ◌-◌, ◌<◌, not, ◌&&◌, true, false, length, arith}
-use Rattle.std.specs.Prelude.{Option}
-use Rattle.bit_rows.specs.Rows.{row_at, flag}
+use Rattle.std.proofs.Common.{◌≡◌, sym, ap, ◌∙◌, true, false, length, arith}
+use Rattle.bit_rows.specs.Rows.{row_at}
 use Rattle.call_graph.specs.Graph.{least}
 use Rattle.call_graph.specs.Reaching.{is_waiting}
 use Rattle.call_graph.proofs.Bits.{least_on, least_here, least_end, walk_all, next_of_rows}

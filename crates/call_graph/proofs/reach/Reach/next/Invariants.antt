@@ -1,5 +1,4 @@
-use Rattle.std.proofs.Common.{◌≡◌, ◌-◌, length}
-use Rattle.bit_rows.specs.Rows.{row_at}
+use Rattle.std.proofs.Common.{◌≡◌, ◌-◌}
 use Rattle.call_graph.specs.Graph.{least}
 use Rattle.call_graph.specs.Reaching.{is_waiting}
 use Rattle.call_graph.proofs.reach.Reach.next.Given as goal

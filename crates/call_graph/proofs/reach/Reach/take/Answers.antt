@@ -1,4 +1,4 @@
-use Rattle.std.proofs.Common.{◌≡◌, sym, ap, ◌∙◌, subst, ◌<◌, length, arith}
+use Rattle.std.proofs.Common.{◌≡◌, sym, subst, ◌<◌, length}
 use Rattle.std.specs.Prelude.{Some}
 use Rattle.bit_rows.specs.Rows.{row_at}
 use Rattle.call_graph.specs.Graph.{least}
