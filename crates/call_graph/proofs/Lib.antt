@@ -10,3 +10,4 @@ mod Entering
 mod Listed
 mod Ended
 mod Rows
+mod Inside

@@ -3,7 +3,8 @@ ghost use Rattle.std.specs.Prelude.{◌≡◌, ◌<◌, ◌≤◌, ◌^◌, [], 
 ghost use Rattle.std.specs.List.{All, list_all};
 ghost use Rattle.bit_rows.specs.Rows.{row_at};
 ghost use Rattle.mir_syntax.specs.Tree.{Tree, at_id, trees_of, named};
-ghost use Rattle.mir_syntax.specs.Crate.{crate_of, body_of};
+ghost use Rattle.mir_rules.specs.Formed.{body_formed};
+ghost use Rattle.mir_syntax.specs.Crate.{Crate, TypedBody, crate_of, body_of};
 ghost use Rattle.mir_syntax.specs.Shapes.{shapes_of, destructor_of};
 ghost use Rattle.mir_syntax.specs.Drops.{fn_number, KnowsDrops};
 ghost use Rattle.mir_syntax.specs.Ids.{IdsInTable, BodyInTable};
@@ -147,3 +148,8 @@ pub fn callees(alloc: Global, program: &Program, body: &Body) -> Result<List<FnI
     }
     Ok(found.into_list())
 }
+
+/// In a formed body all that is called or may be run by a drop is a function of the crate, as `callees` asks.
+pub fn calls_stay_inside()
+    ensures { (C : Crate) (b : TypedBody) → IsTrue (body_formed C b) → All (λ f. f < length C.functions) (of.all_called (shapes_of C) b) }
+{}

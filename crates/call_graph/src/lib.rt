@@ -20,7 +20,7 @@ mod paths;
 mod reach;
 
 pub use asking::{asking_falls, asks, components_tell, paths_are_in_order};
-pub use called::callees;
+pub use called::{callees, calls_stay_inside};
 pub use costs::cost;
 pub use cycles::qualif;
 pub use paths::below;
