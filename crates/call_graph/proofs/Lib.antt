@@ -1,0 +1,13 @@
+mod Sums
+mod Once
+mod Reached
+mod Falls
+mod PathOrder
+mod Bits
+mod Components
+mod Opened
+mod Entering
+mod Listed
+mod Ended
+mod Rows
+mod Inside

@@ -1,0 +1,7 @@
+pub mod Callees
+pub mod Cost
+pub mod Qualif
+pub mod Graph
+pub mod Reaching
+pub mod Walk
+pub mod Ending
