@@ -1,5 +1,5 @@
 -- Rows that are joined, sent and begun, as the facts that they stand for.
-use Rattle.std.proofs.Common.{◌≡◌, inl, inr, refl, sym, ap, ap₂, ◌∙◌, subst, ℕ, suc, ◌+◌, ◌-◌, ◌<◌, ◌≤◌, Bool, true, false, not, ◌&&◌, ◌||◌, nat_eq, nat_le, nat_lt, if◌then◌else◌, List, [], ◌∷◌, ◌++◌, map, take, length, get_or, Option, Some, None, slice_get, arith}
+use Rattle.std.proofs.Common.{◌≡◌, inl, inr, refl, sym, ap, ◌∙◌, ℕ, suc, ◌-◌, ◌<◌, ◌≤◌, Bool, true, false, ◌&&◌, ◌||◌, nat_eq, nat_lt, if◌then◌else◌, List, [], ◌∷◌, map, length, Option, Some, None, slice_get, arith}
 use Rattle.std.specs.List.{Contains, list_any}
 use Rattle.std.proofs.lemmas.Bool.{eqb-true, or_cases, and_parts}
 use Rattle.mir_syntax.specs.declared.body.Place.{Place}
@@ -11,9 +11,9 @@ use Rattle.flow_engine.specs.declared.edges.Edge.{Edge}
 use Rattle.const_flow.specs.declared.cell.Cell.{Cell}
 use Rattle.const_flow.specs.declared.cell.Cell.TheVariants.{Nothing, Many}
 use Rattle.const_flow.specs.Facts.{Facts, join, after_all, after_term, leads}
-use Rattle.const_flow.specs.ConstAt.{Reached, join_each, join_reached, sent_if, is_arg, first_fact}
+use Rattle.const_flow.specs.ConstAt.{join_each, join_reached, sent_if, is_arg, first_fact}
 use Rattle.const_flow.specs.Cells.{facts_of, reached_of}
-use Rattle.const_flow.specs.Nodes.{is_edge, block_at, gone_over, sent_out, along, flown, begun, cells_of, row_of, IsRow, join_cells}
+use Rattle.const_flow.specs.Nodes.{is_edge, block_at, gone_over, sent_out, along, flown, cells_of, row_of, IsRow, join_cells}
 use Rattle.const_flow.specs.Carried.{joined_as, sent_as}
 use Rattle.const_flow.specs.Lattice.{cells_of_facts}
 

@@ -1,11 +1,10 @@
 -- Rows of cells that are gathered, one after another.
-use Rattle.std.proofs.Common.{◌≡◌, inl, inr, refl, sym, ap, ap₂, ◌∙◌, subst, ℕ, zero, suc, ◌+◌, ◌≤◌, List, [], ◌∷◌, ◌++◌, map, take, drop, length, Option, Some, None, slice_get, arith}
+use Rattle.std.proofs.Common.{◌≡◌, inl, inr, refl, sym, ap, ap₂, ◌∙◌, ℕ, zero, suc, ◌+◌, ◌≤◌, List, [], ◌∷◌, ◌++◌, map, take, drop, length, Option, Some, None, arith}
 use Rattle.std.proofs.lemmas.List.{length-append, take-append-le}
 use Rattle.std.proofs.Math.Seq.{take-length}
 use Rattle.mir_syntax.specs.declared.body.Place.{Place}
 use Rattle.flow_engine.proofs.Lists.{some_one, get_push}
 use Rattle.const_flow.specs.declared.cell.Cell.{Cell}
-use Rattle.const_flow.specs.ConstAt.{Reached}
 use Rattle.const_flow.specs.Cells.{facts_of, reached_of}
 use Rattle.const_flow.specs.Compact.{reached_in, IsCompact}
 

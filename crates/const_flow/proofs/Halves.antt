@@ -1,7 +1,7 @@
 -- Where each block is gone over in two halves, from its start to its end and from there to its targets, the least solution has at the starts the
 -- least one of the problem whose edges go over a block at once.
-use Rattle.std.proofs.Common.{◌≡◌, ◌⊎◌, inl, inr, refl, sym, ap, ap₂, ◌∙◌, subst, ℕ, zero, suc, ◌+◌, ◌<◌, ◌≤◌, List, [], ◌∷◌, ◌++◌, take, length, get_or, Option, Some, None, slice_get, arith}
-use Rattle.std.proofs.lemmas.Option.{slice_get_within, slice_get-get_or}
+use Rattle.std.proofs.Common.{◌≡◌, ◌⊎◌, inl, inr, refl, sym, ap, ap₂, ◌∙◌, subst, ℕ, zero, suc, ◌+◌, ◌<◌, List, [], ◌∷◌, ◌++◌, take, length, get_or, Some, slice_get, arith}
+use Rattle.std.proofs.lemmas.Option.{slice_get-get_or}
 use Rattle.std.proofs.lemmas.List.{length-append, length-take-le}
 use Rattle.flow_engine.specs.Flow.{Arrow, Flow, Solves, AllFacts, Least}
 use Rattle.flow_engine.proofs.Laws.{Laws}

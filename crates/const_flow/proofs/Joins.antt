@@ -1,6 +1,6 @@
 -- Cells joined to others, one by one.
-use Rattle.std.proofs.Common.{◌≡◌, ◌≢◌, refl, sym, ap, ◌∙◌, subst, ℕ, zero, suc, ◌+◌, ◌<◌, ◌≤◌, Bool, true, false, not, ◌||◌, List, [], ◌∷◌, take, set, length, get_or, arith}
-use Rattle.std.proofs.lemmas.List.{length-set, get_or-set_same, set-set}
+use Rattle.std.proofs.Common.{◌≡◌, ◌≢◌, refl, sym, ap, ◌∙◌, ℕ, zero, suc, ◌+◌, ◌<◌, ◌≤◌, Bool, true, false, not, ◌||◌, List, [], ◌∷◌, take, set, length, get_or, arith}
+use Rattle.std.proofs.lemmas.List.{get_or-set_same}
 use Rattle.const_flow.specs.declared.cell.Cell.{Cell}
 use Rattle.const_flow.specs.Facts.{join}
 use Rattle.const_flow.specs.Nodes.{join_cells}

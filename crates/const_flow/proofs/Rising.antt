@@ -1,31 +1,14 @@
 -- The flow problem keeps its laws, so the rounds end in its least solution.
-use Rattle.std.proofs.Common.{◌≡◌, ◌⊎◌, inl, inr, refl, sym, ap, ap₂, ◌∙◌, subst, ℕ, zero, suc, ◌+◌, ◌*◌, ◌≤◌, Bool, true, false, nat_eq, ◌&&◌, List, [], ◌∷◌, ◌++◌, map, length, Option, Some, None, slice_get, arith}
-use Rattle.std.proofs.lemmas.Bool.{eqb-true}
-use Rattle.mir_syntax.specs.declared.body.Proj.{Proj}
-use Rattle.mir_syntax.specs.declared.body.Proj.TheVariants.{Field, Downcast, Deref}
-use Rattle.mir_syntax.specs.declared.body.Place.{Place}
-use Rattle.mir_syntax.specs.declared.body.Operand.{Operand}
-use Rattle.mir_syntax.specs.declared.body.Operand.TheVariants as operand
-use Rattle.mir_syntax.specs.declared.body.Arm.{Arm}
-use Rattle.mir_syntax.specs.declared.body.Term.{Term}
-use Rattle.mir_syntax.specs.declared.body.Term.TheVariants.{Goto, Switch, Return, Unreachable, Drop, Call, Assert}
-use Rattle.mir_syntax.specs.Crate.{TypedRvalue, «use», binary, overflow, unary, cast, discriminant, tuple, build, TypedStmt, assign, storage_live, storage_dead, set_discriminant, TypedBlock, TypedBody}
-use Rattle.mir_syntax.specs.Crate as rvalue
+use Rattle.std.proofs.Common.{◌≡◌, ◌⊎◌, inl, inr, refl, ap, ap₂, subst, ℕ, zero, suc, ◌*◌, List, [], ◌∷◌, ◌++◌, map, length, Some, None, slice_get, arith}
+use Rattle.mir_syntax.specs.Crate.{TypedBlock, TypedBody}
 use Rattle.mir_syntax.specs.Shapes.{Shape}
-use Rattle.mir_num.specs.Numbers as num
-use Rattle.mir_syntax.specs.Parts.{rvalue_operands, targets}
-use Rattle.mir_semantics.specs.Step.{Here, take_arm}
-use Rattle.place_map.specs.Tracked.{way}
+use Rattle.mir_syntax.specs.Parts.{targets}
+use Rattle.mir_semantics.specs.Step.{Here}
 use Rattle.flow_engine.specs.Flow.{Arrow, Least}
 use Rattle.flow_engine.proofs.Laws.{Laws}
-use Rattle.const_flow.specs.declared.cell.Cell.{Cell}
-use Rattle.const_flow.specs.declared.cell.Cell.TheVariants.{Nothing, Num, Many}
-use Rattle.const_flow.specs.Facts.{Fact, Facts, put_known, learn, always, value_known, binary_of, wrapped_of, flag_of, unary_of, cast_of, moved, moved_all, after_stmt, after_all, after_term, any_arm, switch_to, can_be, leads}
-use Rattle.const_flow.specs.ConstAt.{Reached, join_reached, sent_if, sent, tracked, text, first_fact, unreached, begins, arrow, arrows_from, const_flow, const_at}
+use Rattle.const_flow.specs.ConstAt.{Reached, tracked, text, unreached, begins, arrow, arrows_from, const_flow, const_at}
 use Rattle.const_flow.specs.Rounds.{round, repeated}
-use Rattle.const_flow.specs.Order.{BelowCell, BelowFacts, BelowReached, places, OkReached, sum, rank, height}
-use Rattle.const_flow.specs.Same.{arm_there}
-use Rattle.const_flow.specs.Heights.{part_below, known_below, nth_below, one_below, both_below, facts_same, facts_then, facts_left, facts_right, facts_least, join_places, sum_below, sum_same, sum_high}
+use Rattle.const_flow.specs.Order.{BelowReached, OkReached, rank, height}
 use Rattle.const_flow.proofs.Ends.{bottoms, rounds, enough, ends, least_solution}
 use Rattle.const_flow.specs.Rises.{some_one, sent_below, sent_ok, joined_ok, same_reached, then_reached, left_reached, right_reached, least_reached, rank_reached, rank_equal, rank_high, first_places}
 

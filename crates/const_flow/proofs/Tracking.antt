@@ -1,12 +1,11 @@
 -- The tracked places, by one row of the borrowed locals.
-use Rattle.std.proofs.Common.{◌≡◌, refl, sym, ap, ap₂, ◌∙◌, subst, ℕ, zero, suc, ◌+◌, ◌<◌, ◌≤◌, Bool, false, if◌then◌else◌, List, [], ◌∷◌, ◌++◌, map, take, length, get_or, arith}
+use Rattle.std.proofs.Common.{◌≡◌, refl, ap, ap₂, ◌∙◌, ℕ, suc, ◌+◌, ◌<◌, Bool, false, if◌then◌else◌, List, [], ◌∷◌, ◌++◌, map, take, length, arith}
 use Rattle.std.specs.List.{range_with_len}
 use Rattle.std.proofs.lemmas.List.FromFn.{get_or-map-range_with_len}
-use Rattle.mir_syntax.specs.declared.body.Place.{Place}
 use Rattle.mir_syntax.specs.Tree.{Tree}
 use Rattle.mir_syntax.specs.Crate.{TypedBody}
 use Rattle.mir_syntax.specs.Shapes.{Shape}
-use Rattle.bit_rows.specs.Rows.{row_at, flag}
+use Rattle.bit_rows.specs.Rows.{flag}
 use Rattle.escape_info.specs.Borrowed.{borrowed}
 use Rattle.place_map.specs.Tracked.{place_at, scalars, untaken_scalars, most_tracked}
 use Rattle.place_map.specs.Tracked as places

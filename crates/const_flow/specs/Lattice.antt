@@ -1,5 +1,5 @@
 -- What is known of places is a lattice, and the flow over the nodes rises: proofs alone, of the law that `solve` asks for.
-use Rattle.std.proofs.Common.{◌≡◌, refl, sym, ap, ap₂, ◌∙◌, subst, ℕ, suc, ◌-◌, Bool, true, false, nat_eq, nat_lt, if◌then◌else◌, List, [], ◌∷◌, map, length, Option, Some, None, slice_get, arith}
+use Rattle.std.proofs.Common.{◌≡◌, refl, sym, ap, ◌∙◌, ℕ, suc, ◌-◌, Bool, true, false, nat_eq, nat_lt, if◌then◌else◌, List, [], ◌∷◌, map, length, Option, Some, None, slice_get, arith}
 use Rattle.mir_syntax.specs.declared.body.Place.{Place}
 use Rattle.mir_syntax.specs.declared.body.Term.{Term}
 use Rattle.mir_syntax.specs.Crate.{TypedBlock, TypedBody}
@@ -7,9 +7,9 @@ use Rattle.mir_semantics.specs.Step.{Here}
 use Rattle.flow_engine.specs.declared.edges.Edge.{Edge}
 use Rattle.flow_engine.specs.Flow.{Lawful}
 use Rattle.const_flow.specs.declared.cell.Cell.{Cell}
-use Rattle.const_flow.specs.Facts.{Facts, after_all, after_term, leads}
+use Rattle.const_flow.specs.Facts.{Facts, after_term, leads}
 use Rattle.const_flow.specs.ConstAt.{Reached, join_reached, sent_if, first_fact}
-use Rattle.const_flow.specs.Order.{BelowFacts, BelowReached, places, OkReached, rank, height}
+use Rattle.const_flow.specs.Order.{BelowReached, places, OkReached, rank, height}
 use Rattle.const_flow.specs.Cells.{facts_of, reached_of}
 use Rattle.const_flow.specs.Nodes.{block_at, gone_over, sent_out, along, flown, begun, cells_of, row_of, IsRow}
 use Rattle.const_flow.specs.Carried.{IsNaming, BelowAs, joined_as, started_as, sent_as, rank_as, carried_lawful}

@@ -1,6 +1,6 @@
 -- What statements, terminators and edges make of facts rises, and facts of the same places are a lattice: proofs alone, of the law that `solve` asks
 -- for.
-use Rattle.std.proofs.Common.{◌≡◌, ◌⊎◌, inl, inr, refl, sym, ap, ap₂, ◌∙◌, subst, ℕ, zero, suc, ◌+◌, ◌*◌, ◌≤◌, Bool, true, false, nat_eq, ◌&&◌, List, [], ◌∷◌, ◌++◌, map, length, Option, Some, None, slice_get, arith}
+use Rattle.std.proofs.Common.{◌≡◌, refl, sym, ap, ap₂, ◌∙◌, subst, ℕ, zero, suc, ◌*◌, ◌≤◌, Bool, true, false, nat_eq, ◌&&◌, List, [], ◌∷◌, map, length, Option, Some, None, arith}
 use Rattle.std.proofs.lemmas.Bool.{eqb-true}
 use Rattle.mir_syntax.specs.declared.body.Proj.{Proj}
 use Rattle.mir_syntax.specs.declared.body.Proj.TheVariants.{Field, Downcast, Deref}
@@ -12,15 +12,14 @@ use Rattle.mir_syntax.specs.declared.body.Term.{Term}
 use Rattle.mir_syntax.specs.declared.body.Term.TheVariants.{Goto, Switch, Return, Unreachable, Drop, Call, Assert}
 use Rattle.mir_syntax.specs.Crate.{TypedRvalue, «use», binary, overflow, unary, cast, discriminant, tuple, build, TypedStmt, assign, storage_live, storage_dead, set_discriminant, TypedBlock, TypedBody}
 use Rattle.mir_syntax.specs.Crate as rvalue
-use Rattle.mir_syntax.specs.Shapes.{Shape}
 use Rattle.mir_num.specs.Numbers as num
-use Rattle.mir_syntax.specs.Parts.{rvalue_operands, targets}
+use Rattle.mir_syntax.specs.Parts.{rvalue_operands}
 use Rattle.mir_semantics.specs.Step.{Here, take_arm}
 use Rattle.place_map.specs.Tracked.{way}
 use Rattle.const_flow.specs.declared.cell.Cell.{Cell}
 use Rattle.const_flow.specs.declared.cell.Cell.TheVariants.{Nothing, Num, Many}
 use Rattle.const_flow.specs.Facts.{Fact, Facts, put_known, learn, always, value_known, binary_of, wrapped_of, flag_of, unary_of, cast_of, moved, moved_all, after_stmt, after_all, after_term, any_arm, switch_to, can_be, leads}
-use Rattle.const_flow.specs.ConstAt.{Reached, join_reached, sent_if, sent, tracked, text, first_fact, unreached, begins, arrow, arrows_from, const_flow, const_at}
+use Rattle.const_flow.specs.ConstAt.{Reached, join_reached, sent_if, sent, first_fact}
 use Rattle.const_flow.specs.Order.{BelowCell, BelowFacts, BelowReached, places, OkReached, sum, rank, height}
 use Rattle.const_flow.specs.Same.{arm_there}
 use Rattle.const_flow.specs.Heights.{part_below, known_below, nth_below, one_below, both_below, facts_same, facts_then, facts_left, facts_right, facts_least, join_places, sum_below, sum_same, sum_high}

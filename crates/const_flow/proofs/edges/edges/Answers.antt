@@ -1,4 +1,4 @@
-use Rattle.std.proofs.Common.{◌≡◌, ◌+◌, ◌++◌, ◌∷◌, [], ℕ, List, ap, ◌∙◌, sym, subst, map, length, get_or, arith}
+use Rattle.std.proofs.Common.{◌≡◌, ◌+◌, ◌++◌, ◌∷◌, [], List, ap, ◌∙◌, sym, subst, map, length, get_or, arith}
 use Rattle.std.proofs.lemmas.List.{get_or-map}
 use Rattle.mir_syntax.specs.declared.body.Block.{Block}
 use Rattle.mir_syntax.specs.declared.body.Term.TheVariants.{Unreachable}
@@ -6,8 +6,7 @@ use Rattle.mir_syntax.specs.Parts.{targets}
 use Rattle.mir_cfg.specs.Paths.{block_term, exits}
 use Rattle.flow_engine.specs.declared.edges.Edge.{Edge}
 use Rattle.const_flow.specs.Nodes.{edge_to, over, HasEdges}
-use Rattle.const_flow.proofs.EachEdge.{edges_none, edges_more}
-use Rattle.const_flow.proofs.Nodes.{starts_known}
+use Rattle.const_flow.proofs.EachEdge.{edges_more}
 use Rattle.const_flow.proofs.edges.edges.Goals as goal
 
 pub loop-at-preserved : goal.loop-at-preserved

@@ -1,4 +1,4 @@
-use Rattle.std.proofs.Common.{◌≡◌, List, ap₂, ◌∙◌, map}
+use Rattle.std.proofs.Common.{List, ap₂, ◌∙◌, map}
 use Rattle.mir_syntax.specs.declared.body.Stmt.{Stmt}
 use Rattle.mir_syntax.specs.Crate.{stmt_of}
 use Rattle.const_flow.specs.declared.cell.Cell.{Cell}

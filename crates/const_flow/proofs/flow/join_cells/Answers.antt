@@ -1,6 +1,4 @@
-use Rattle.std.proofs.Common.{◌≡◌, ◌+◌, refl, sym, ap, ◌∙◌, subst, length, get_or, take, arith}
-use Rattle.std.proofs.Math.Seq.{take-length}
-use Rattle.const_flow.specs.Nodes.{join_cells}
+use Rattle.std.proofs.Common.{◌≡◌, refl, sym, ap, ◌∙◌, get_or, arith}
 use Rattle.const_flow.specs.declared.cell.Cell.TheVariants.{Nothing}
 use Rattle.const_flow.proofs.Joins.{joined_none, joined_more, joined_later, joining_more}
 use Rattle.const_flow.proofs.flow.join_cells.Goals as goal

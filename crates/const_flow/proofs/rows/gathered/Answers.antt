@@ -1,11 +1,9 @@
-use Rattle.std.proofs.Common.{◌≡◌, ◌++◌, ◌∷◌, [], ◌+◌, List, Option, Some, None, sym, ap, ap₂, ◌∙◌, subst, length, get_or, take, map, arith}
+use Rattle.std.proofs.Common.{◌≡◌, ◌++◌, ◌∷◌, [], ◌+◌, Some, None, sym, ap, ◌∙◌, subst, length, get_or, take, map, arith}
 use Rattle.std.proofs.lemmas.List.{take_more}
 use Rattle.std.proofs.Math.Seq.{take-length}
-use Rattle.const_flow.specs.declared.cell.Cell.{Cell}
 use Rattle.const_flow.specs.Nodes.{IsRow}
 use Rattle.const_flow.specs.Cells.{reached_of}
 use Rattle.const_flow.proofs.Gathering.{IsGathered, gathered_none, one_unreached, one_reached}
-use Rattle.const_flow.proofs.Tracking.{tracked_by}
 use Rattle.const_flow.proofs.rows.gathered.Goals as goal
 
 pub loop-fact-init : goal.loop-fact-init

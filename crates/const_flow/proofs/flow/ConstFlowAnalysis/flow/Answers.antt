@@ -1,4 +1,4 @@
-use Rattle.std.proofs.Common.{◌≡◌, ℕ, ◌-◌, ◌<◌, ◌≤◌, true, List, Some, sym, ap, ap₂, ◌∙◌, subst, map, length, get_or, slice_get, arith}
+use Rattle.std.proofs.Common.{◌≡◌, ◌-◌, ◌≤◌, true, List, Some, sym, ap, ap₂, ◌∙◌, subst, map, length, get_or, slice_get, arith}
 use Rattle.std.specs.List.{Contains}
 use Rattle.std.proofs.lemmas.List.{length-map, get_or-map}
 use Rattle.std.proofs.lemmas.Result.{IfOk-weaker}
@@ -7,7 +7,7 @@ use Rattle.mir_syntax.specs.declared.body.Term.{Term}
 use Rattle.mir_syntax.specs.declared.body.Term.TheVariants.{Unreachable}
 use Rattle.mir_syntax.specs.Crate.{TypedBlock, block_of}
 use Rattle.mir_syntax.specs.Parts.{targets}
-use Rattle.mir_cfg.specs.Paths.{block_term, terms_of, exits}
+use Rattle.mir_cfg.specs.Paths.{block_term, terms_of}
 use Rattle.const_flow.specs.declared.cell.Cell.{Cell}
 use Rattle.const_flow.specs.Cells.{facts_of}
 use Rattle.const_flow.specs.Nodes.{is_edge, block_at, no_block, sent_out, row_of}

@@ -1,6 +1,5 @@
-use Rattle.std.proofs.Common.{◌≡◌, ◌++◌, List, sym, ap, ap₂, ◌∙◌, subst, length, take, drop, Some, None, arith}
+use Rattle.std.proofs.Common.{◌≡◌, ◌++◌, sym, ap, ap₂, ◌∙◌, subst, length, take, drop, Some}
 use Rattle.std.proofs.Math.Seq.{take-append_seam}
-use Rattle.const_flow.specs.declared.cell.Cell.{Cell}
 use Rattle.const_flow.specs.Nodes.{IsRow, join_cells}
 use Rattle.const_flow.proofs.Joins.{joined_long}
 use Rattle.const_flow.proofs.FlownRows.{joined, join_nothing, join_first, join_both}

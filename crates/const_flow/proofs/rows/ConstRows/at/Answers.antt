@@ -1,8 +1,8 @@
-use Rattle.std.proofs.Common.{◌≡◌, ◌<◌, ℕ, List, Option, Some, None, sym, ap, ap₂, ◌∙◌, map, length, get_or, arith}
+use Rattle.std.proofs.Common.{◌≡◌, ℕ, List, Option, Some, None, sym, ap, ap₂, ◌∙◌, map, get_or}
 use Rattle.std.proofs.lemmas.List.{get_or_default, get_or_past}
 use Rattle.const_flow.specs.declared.cell.Cell.{Cell}
 use Rattle.const_flow.specs.declared.cell.Cell.TheVariants.{Many}
-use Rattle.const_flow.specs.Cells.{facts_of, told}
+use Rattle.const_flow.specs.Cells.{facts_of}
 use Rattle.const_flow.specs.Compact.{reached_in}
 use Rattle.const_flow.proofs.Starts.{told_some}
 use Rattle.const_flow.proofs.rows.ConstRows.at.Goals as goal
