@@ -1,0 +1,5 @@
+//! The pass `threaded`: a jump to a block whose switch is known goes to a copy of that block, which goes on to the switch's target.
+//!
+//! What is known at each point is what `const_flow` finds (`const_at`). `specs/Threaded.antt` has the definition (`threaded`): which edges
+//! are threaded (`threads`), and what becomes of the blocks.
+#![tactic(auto)]
