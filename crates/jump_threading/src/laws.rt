@@ -1,0 +1,15 @@
+//! The laws of the pass. The functions here run nothing; their contracts are the laws.
+ghost use Rattle.std.specs.Prelude.{ℕ, List};
+ghost use Rattle.mir_syntax.specs.Crate.{TypedBody, Crate};
+ghost use Rattle.mir_syntax.specs.Shapes.{Shape, shapes_of};
+ghost use Rattle.mir_rules.specs.Calls.{AddsNoCall};
+ghost use Rattle.mir_rules.specs.Drops.{NoDrops};
+ghost use Rattle.mir_rules.specs.Valid.{at_function, ValidAt};
+ghost use Rattle.jump_threading.specs.Threaded.{threaded};
+
+/// In the place of a valid body the threaded body is valid. It holds no `drop` where the body holds none, and calls only what the body calls.
+pub fn threaded_stays_valid()
+    ensures valid { (C : Crate) (f : ℕ) (b : TypedBody) (valid : ValidAt C f b) → ValidAt C f (threaded (shapes_of (at_function C f valid.function b)) b) }
+    ensures no_drops { (D : List Shape) (b : TypedBody) → NoDrops b → NoDrops (threaded D b) }
+    ensures calls { (D : List Shape) (b : TypedBody) → AddsNoCall (threaded D b) b }
+{}
