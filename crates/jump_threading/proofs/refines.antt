@@ -1,0 +1,2 @@
+-- A crate with a threaded body refines the crate.
+pub mod Frames
