@@ -1,2 +1,3 @@
 -- A crate with a threaded body refines the crate.
 pub mod Frames
+pub mod Moment
