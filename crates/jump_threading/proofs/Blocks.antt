@@ -53,6 +53,20 @@ copy_is n (t ∷ ts) a c e = go (nat_eq t.from a) refl e (λ q. copy_is (suc n) 
     go true q h ih = (0, t, refl, eqb-true t.from a q, (let z : n + 0 ≡ n = omega arith in z) ∙ some_one h)
     go false q h ih = let (m, s, at, from, is) = ih h in (suc m, s, at, from, (let z : n + suc m ≡ suc n + m = omega arith in z) ∙ is)
 
+-- an edge of a body that goes through a copy: out of a reached block to one whose switch is known, of which the copy goes on to the target
+pub record Redirected (D : List Shape) (xs : List Reached) (b b2 : TypedBody) (a : ℕ) (k : TypedBlock) : Type 0 where
+  pub facts : Facts
+  pub reached : slice_get xs a ≡ Some (Some facts)
+  pub next : ℕ
+  pub goes : k.term ≡ Goto next
+  pub through : TypedBlock
+  pub is_next : slice_get b.blocks next ≡ Some through
+  pub to : ℕ
+  pub is_taken : taken (after_all (text D b) through.stmts (after_all (text D b) k.stmts facts)) through.term ≡ Some to
+  pub copy : ℕ
+  pub redirected : slice_get b2.blocks a ≡ Some (record { stmts = k.stmts; term = Goto copy })
+  pub copied : slice_get b2.blocks copy ≡ Some (record { stmts = through.stmts; term = Goto to })
+
 module _ (D : List Shape) (xs : List Reached) (b : TypedBody) where
   abbrev T : Here
   T = text D b
@@ -68,31 +82,39 @@ module _ (D : List Shape) (xs : List Reached) (b : TypedBody) where
 
   -- ---- to the threaded body
 
-  -- an edge that goes through a copy
-  pub record Redirected (a : ℕ) (k : TypedBlock) : Type 0 where
-    pub thread : Thread
-    pub is_thread : IsThread T b.blocks xs thread
-    pub from : thread.from ≡ a
-    pub copy : ℕ
-    pub goes : slice_get (threaded_by D xs b).blocks a ≡ Some (record { stmts = k.stmts; term = Goto copy })
-    pub copied : slice_get (threaded_by D xs b).blocks copy ≡ Some (record { stmts = thread.through.stmts; term = Goto thread.to })
-
   old_there : (a : ℕ) (k : TypedBlock) → slice_get b.blocks a ≡ Some k → slice_get b2.blocks a ≡ Some (going_to (copy_for n ts a) k)
   old_there a k e = slice_get-front (redirected n ts 0 b.blocks) (map copied ts) a (going_to (copy_for n ts a) k) (redirected_there n ts 0 b.blocks a k e ∙ ap (λ i. Some (going_to (copy_for n ts i) k)) (let z : 0 + a ≡ a = omega arith in z))
 
   copy_there : (m : ℕ) (t : Thread) → slice_get ts m ≡ Some t → slice_get b2.blocks (n + m) ≡ Some (copied t)
   copy_there m t e = ap (λ i. slice_get b2.blocks (i + m)) (sym (redirected_long n ts 0 b.blocks)) ∙ slice_get-behind (redirected n ts 0 b.blocks) (map copied ts) m ∙ map_there copied ts m t e
 
+  edge_through : (a : ℕ) (k : TypedBlock) (t : Thread) (c : ℕ) → slice_get b.blocks a ≡ Some k → IsThread T b.blocks xs t → t.from ≡ a → slice_get b2.blocks a ≡ Some (record { stmts = k.stmts; term = Goto c }) → slice_get b2.blocks c ≡ Some (copied t) → Redirected D xs b b2 a k
+  edge_through a k t c e is from old new =
+      let same : is.block ≡ k = some_one (sym is.is_block ∙ ap (slice_get b.blocks) from ∙ e) in
+      record {
+        facts = is.facts;
+        reached = ap (slice_get xs) (sym from) ∙ is.reached;
+        next = is.next;
+        goes = ap (λ (k : TypedBlock). k.term) (sym same) ∙ is.goes;
+        through = t.through;
+        is_next = is.is_next;
+        to = t.to;
+        is_taken = ap (λ (k : TypedBlock). taken (after_all T t.through.stmts (after_all T k.stmts is.facts)) t.through.term) (sym same) ∙ is.is_taken;
+        copy = c;
+        redirected = old;
+        copied = new;
+      }
+
   -- each block stays, but for edges that go through copies
-  pub block_there : (a : ℕ) (k : TypedBlock) → slice_get b.blocks a ≡ Some k → (slice_get (threaded_by D xs b).blocks a ≡ Some k) ⊎ Redirected a k
+  pub block_there : (a : ℕ) (k : TypedBlock) → slice_get b.blocks a ≡ Some k → (slice_get (threaded_by D xs b).blocks a ≡ Some k) ⊎ Redirected D xs b (threaded_by D xs b) a k
   unfolding threaded_by
   block_there a k e = go (copy_for n ts a) refl
     where
-      go : (o : Option ℕ) → copy_for n ts a ≡ o → (slice_get b2.blocks a ≡ Some k) ⊎ Redirected a k
+      go : (o : Option ℕ) → copy_for n ts a ≡ o → (slice_get b2.blocks a ≡ Some k) ⊎ Redirected D xs b b2 a k
       go None q = inl (old_there a k e ∙ ap (λ o. Some (going_to o k)) q)
       go (Some c) q =
           let (m, t, at, from, is) = copy_is n ts a c q in
-          inr (record { thread = t; is_thread = each_thread D xs b m t at; from = from; copy = c; goes = old_there a k e ∙ ap (λ o. Some (going_to o k)) q; copied = ap (slice_get b2.blocks) (sym is) ∙ copy_there m t at })
+          inr (edge_through a k t c e (each_thread D xs b m t at) from (old_there a k e ∙ ap (λ o. Some (going_to o k)) q) (ap (slice_get b2.blocks) (sym is) ∙ copy_there m t at))
 
   pub same_locals : (threaded_by D xs b).locals ≡ b.locals
   unfolding threaded_by

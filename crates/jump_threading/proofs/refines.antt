@@ -1,3 +1,4 @@
 -- A crate with a threaded body refines the crate.
 pub mod Frames
 pub mod Moment
+pub mod Where
