@@ -2,3 +2,4 @@
 pub mod Frames
 pub mod Moment
 pub mod Where
+pub mod Ends
