@@ -3,3 +3,5 @@ pub mod Frames
 pub mod Moment
 pub mod Where
 pub mod Ends
+pub mod Steps
+pub mod Refined
