@@ -41,11 +41,15 @@ onward ss u = record { stmts = ss; term = Goto u }
 
 -- bb0 asks `_1`, bb1 and bb2 write the answer to `_2`, and bb3 asks that; so far as the two lead, and with these copies
 abbrev asks : List Tree → List TypedStmt → List TypedStmt → ℕ → ℕ → List TypedBlock → TypedBody
-asks more first before u v copies = record { args = 1; locals = scalar (scalar_ty.Int I32) ∷ bool ∷ bool ∷ more; blocks =
-  record { stmts = first; term = Switch (Copy (local 1)) (record { value = 0; block = 2 } ∷ []) 1 } ∷ says true u ∷ says false v ∷
-  record { stmts = before; term = Switch (Move (local 2)) (record { value = 0; block = 5 } ∷ []) 4 } ∷
-  onward (sets 0 (int 10) ∷ []) 6 ∷ onward (sets 0 (int 20) ∷ []) 6 ∷
-  record { stmts = []; term = Return } ∷ copies }
+asks more first before u v copies = record {
+  args = 1;
+  locals = scalar (scalar_ty.Int I32) ∷ bool ∷ bool ∷ more;
+  blocks =
+      record { stmts = first; term = Switch (Copy (local 1)) (record { value = 0; block = 2 } ∷ []) 1 } ∷ says true u ∷ says false v ∷
+      record { stmts = before; term = Switch (Move (local 2)) (record { value = 0; block = 5 } ∷ []) 4 } ∷
+      onward (sets 0 (int 10) ∷ []) 6 ∷ onward (sets 0 (int 20) ∷ []) 6 ∷
+      record { stmts = []; term = Return } ∷ copies;
+}
 
 -- both edges are threaded
 threads_both : threaded [] (asks [] [] [] 3 3 []) ≡ asks [] [] [] 7 8 (onward [] 4 ∷ onward [] 5 ∷ [])

@@ -5,7 +5,7 @@ use Rattle.mir_syntax.specs.declared.body.Operand.{Operand}
 use Rattle.mir_syntax.specs.declared.body.Term.{Term}
 use Rattle.mir_syntax.specs.declared.body.Term.TheVariants.{Goto, Switch, Return, Unreachable, Drop, Call, Assert}
 use Rattle.mir_syntax.specs.Crate.{TypedBlock, TypedBody}
-use Rattle.mir_syntax.specs.Shapes.{Shape, ◌>>=◌}
+use Rattle.mir_syntax.specs.Shapes.{Shape}
 use Rattle.mir_syntax.specs.Parts.{arm_block, targets}
 use Rattle.mir_syntax.proofs.Binds.{bind_some}
 use Rattle.mir_rules.specs.Limits.{most_in_body}

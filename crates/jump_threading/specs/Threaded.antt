@@ -4,7 +4,7 @@ use Rattle.std.specs.Prelude.{ℕ, suc, ◌-◌, nat_eq, nat_le, if◌then◌els
 use Rattle.mir_syntax.specs.declared.body.Arm.{Arm}
 use Rattle.mir_syntax.specs.declared.body.Term.{Term}
 use Rattle.mir_syntax.specs.declared.body.Term.TheVariants.{Goto, Switch}
-use Rattle.mir_syntax.specs.Crate.{TypedStmt, TypedBlock, TypedBody}
+use Rattle.mir_syntax.specs.Crate.{TypedBlock, TypedBody}
 use Rattle.mir_syntax.specs.Shapes.{Shape, ◌>>=◌}
 use Rattle.mir_rules.specs.Limits.{most_in_body}
 use Rattle.mir_semantics.specs.Step.{Here, take_arm}

@@ -1,5 +1,5 @@
 -- The ends of blocks: a step of a terminator of the body, and one of that which stands for it in the threaded body.
-use Rattle.std.proofs.Common.{◌≡◌, ◌⊎◌, inl, inr, refl, sym, ap, ◌∙◌, subst, ℕ, Bool, true, false, nat_eq, List, [], ◌∷◌, Some, None, slice_get, arith}
+use Rattle.std.proofs.Common.{◌≡◌, inr, refl, sym, ap, ◌∙◌, subst, ℕ, true, false, List, [], ◌∷◌, Some, None, slice_get, arith}
 use Rattle.mir_syntax.specs.declared.body.Place.{Place}
 use Rattle.mir_syntax.specs.declared.body.Operand.{Operand}
 use Rattle.mir_syntax.specs.declared.body.Callee.{Callee}
@@ -9,10 +9,9 @@ use Rattle.mir_syntax.specs.declared.body.Term.TheVariants.{Goto, Switch, Return
 use Rattle.mir_syntax.specs.Tree.{Tree}
 use Rattle.mir_syntax.specs.Shapes.{Shape}
 use Rattle.mir_syntax.specs.Crate.{TypedBlock}
-use Rattle.mir_num.specs.Numbers.{flag}
 use Rattle.mir_semantics.specs.Values.{Value}
 use Rattle.mir_semantics.specs.Memory.{Memory, write}
-use Rattle.mir_semantics.specs.Step.{Here, Dest, Control, State, Next, dest_of, read, read_number, go_on, to_block, take_arm, finish}
+use Rattle.mir_semantics.specs.Step.{Here, Dest, State, Next, dest_of, read, read_number, go_on, to_block, take_arm, finish}
 use Rattle.mir_syntax.proofs.Binds.{bind_some}
 use Rattle.mir_rules.specs.Drops.{is_drop}
 use Rattle.mir_renaming.specs.Renaming.{Renaming}
@@ -21,7 +20,7 @@ use Rattle.mir_renaming.proofs.Statements.{DestRel}
 use Rattle.mir_renaming.proofs.Stores.{store_split}
 use Rattle.mir_renaming.proofs.Typed.{TermTy}
 use Rattle.mir_renaming.proofs.Types.{TypeMap, AddrTy, dest_ty}
-use Rattle.mir_relate.specs.Alike.{Between, Sides, Reads, AllRead}
+use Rattle.mir_relate.specs.Alike.{Sides, Reads, AllRead}
 use Rattle.mir_relate.specs.Frames.{Change, target, Pass}
 use Rattle.mir_relate.specs.Pass.{GentleTo, Valids, MoveOk, AllMoves, TermMoves, FewTerm, Goes}
 use Rattle.mir_relate.proofs.Alone.{read_alone}

@@ -13,7 +13,7 @@ use Rattle.mir_renaming.proofs.Agree.{whole_tight}
 use Rattle.mir_renaming.proofs.Statements as text
 use Rattle.mir_renaming.proofs.Types.{TypeMap, HasTy, resolve_ty, value_at_ty, blank_fits}
 use Rattle.mir_relate.specs.Alike.{Between, Sides, Same}
-use Rattle.mir_relate.specs.Frames.{Change, Pass, Below}
+use Rattle.mir_relate.specs.Frames.{Change, Below}
 use Rattle.mir_relate.specs.Pass.{Valids, MoveOk, Related}
 use Rattle.mir_relate.proofs.Alone.{Spends}
 use Rattle.mir_relate.proofs.Kept as kept

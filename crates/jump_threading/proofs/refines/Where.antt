@@ -1,5 +1,5 @@
 -- Where two frames of a threaded body stand, and what is known there.
-use Rattle.std.proofs.Common.{◌≡◌, ◌⊎◌, inl, inr, refl, sym, ap, ◌∙◌, subst, ℕ, ◌≤◌, false, List, [], take, length, Option, Some, None, slice_get, option_map}
+use Rattle.std.proofs.Common.{◌≡◌, ◌⊎◌, inl, inr, refl, sym, ap, ◌∙◌, subst, ℕ, false, List, take, Option, Some, slice_get, option_map}
 use Rattle.mir_syntax.specs.declared.body.Term.TheVariants.{Goto}
 use Rattle.mir_syntax.specs.Crate.{TypedBlock}
 use Rattle.mir_semantics.specs.Values.{Addr, Value, put}
@@ -9,7 +9,6 @@ use Rattle.mir_renaming.specs.Renaming.{RootOf}
 use Rattle.mir_renaming.proofs.Memory.{root_or_not, write_same, write_other}
 use Rattle.mir_renaming.proofs.Frames.{new_control}
 use Rattle.mir_relate.specs.Frames.{Change}
-use Rattle.mir_relate.proofs.Leaves.{some_val}
 use Rattle.escape_info.specs.Borrowed.{borrowed}
 use Rattle.const_flow.specs.Facts.{Facts, after_all}
 use Rattle.const_flow.specs.ConstAt.{Reached, text, first_facts}

@@ -1,11 +1,8 @@
 -- What threading keeps of a body: the rules, its form, drops and calls.
-use Rattle.std.proofs.Common.{◌≡◌, inl, inr, refl, sym, ap, ap₂, ◌∙◌, subst, ℕ, zero, suc, ◌<◌, ◌≤◌, ◌≢◌, Bool, true, false, ◌&&◌, ◌==◌, nat_lt, nat_eq, ◌||◌, List, [], length, take, Some, slice_get, arith}
+use Rattle.std.proofs.Common.{◌≡◌, inl, inr, refl, sym, ap, ap₂, ◌∙◌, subst, ℕ, suc, ◌<◌, ◌≤◌, ◌≢◌, true, false, ◌&&◌, nat_lt, ◌||◌, List, [], length, take, Some, slice_get, arith}
 use Rattle.std.specs.List.{list_all}
 use Rattle.std.proofs.lemmas.Bool.{and_from}
 use Rattle.std.proofs.lemmas.Option.{slice_get_within}
-use Rattle.mir_syntax.specs.declared.body.Place.{Place}
-use Rattle.mir_syntax.specs.declared.body.Operand.{Operand}
-use Rattle.mir_syntax.specs.declared.body.Callee.{Callee}
 use Rattle.mir_syntax.specs.declared.body.Term.{Term}
 use Rattle.mir_syntax.specs.declared.body.Term.TheVariants.{Goto, Call}
 use Rattle.mir_syntax.specs.Tree.{Tree}
@@ -26,8 +23,8 @@ use Rattle.mir_rules.proofs.Terminators.{TermTyped, typed_term, not_to_start}
 use Rattle.mir_rules.proofs.ValidCrates.{keeps, body_formed_at, stmt_formed_at, term_formed_at, target_there, first_block, term_at, valid_put, valid_again, holds_body}
 use Rattle.const_flow.specs.ConstAt.{Reached, const_at}
 use Rattle.const_flow.proofs.Same.{same_or_not}
-use Rattle.jump_threading.specs.Threaded.{threads, threaded_by, threaded}
-use Rattle.jump_threading.proofs.Blocks.{TermFrom, BlockFrom, same_locals, same_args, as_long, within, block_from}
+use Rattle.jump_threading.specs.Threaded.{threaded_by, threaded}
+use Rattle.jump_threading.proofs.Blocks.{TermFrom, same_locals, same_args, as_long, within, block_from}
 
 -- ---- a goto to another block than the first
 
