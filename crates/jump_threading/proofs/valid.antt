@@ -1,0 +1,2 @@
+-- A threaded body breaks no rule.
+pub mod Kept
