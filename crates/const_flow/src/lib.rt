@@ -8,7 +8,8 @@
 //! what `known` and `value_known` say, or that the block is unreached (`told` of `specs/Cells.antt`).
 //!
 //! `consts` solves that problem over the blocks' starts and ends (`specs/Nodes.antt`), and its rows are exactly `const_at`. `ConstRows::at` tells what
-//! is known of one tracked place at a block's start, and `ConstRows::facts` gives the `Facts` that stand there.
+//! is known of one tracked place at a block's start, and `ConstRows::facts` gives the `Facts` that stand there. `taken_arm`, `scalar_of` and `scalar_ty`
+//! are for passes that read what is known.
 #![tactic(auto)]
 
 mod cell;
@@ -18,8 +19,11 @@ mod facts;
 mod flow;
 mod places;
 mod rows;
+mod scalar;
 mod sight;
 
 pub use cell::{Cell, Known};
+pub use effects::taken_arm;
 pub use facts::Facts;
 pub use rows::{ConstRows, consts};
+pub use scalar::{scalar_of, scalar_ty};

@@ -12,6 +12,7 @@ ghost use Rattle.const_flow.specs.Sights.{text_in, trees_in, facts_in};
 
 use crate::cell::Cell;
 use crate::places::{known, part_known};
+use crate::scalar::{scalar_of, scalar_ty};
 use mir_num::{binop, cast_scalar, flag, over_scalar, unary};
 use mir_syntax::{
     BinOp, Body, Const, List, Operand, OverOp, Place, Program, Proj, Rvalue, ScalarTy, Ty, TyId,
@@ -28,29 +29,6 @@ pub(crate) struct Sight<'a> {
     pub paths: &'a PathMap,
 }
 
-/// The scalar type of an id. An id that is not in the table stands for `bool`.
-fn scalar_of(program: &Program, id: TyId) -> Option<ScalarTy>
-    ensures { result ≡ scalar_in (at_id (trees_of program.now.types) id) }
-{
-    let Some(ty) = program.ty_at(id) else {
-        return Some(ScalarTy::Bool);
-    };
-    match ty {
-        Ty::Scalar(ty) => Some(*ty),
-        _ => None,
-    }
-}
-
-fn const_scalar(value: Const) -> Option<ScalarTy>
-    ensures { result ≡ scalar_in (const_ty value) }
-{
-    match value {
-        Const::Int(ty, _) => Some(ScalarTy::Int(ty)),
-        Const::Bool(_) => Some(ScalarTy::Bool),
-        Const::Unit => None,
-    }
-}
-
 /// The field that comes first on a way, and what is left of it.
 fn split_field(way: &[Proj]) -> Option<(u32, &[Proj])>
     ensures { MatchOption result
@@ -64,22 +42,11 @@ fn split_field(way: &[Proj]) -> Option<(u32, &[Proj])>
 }
 
 impl Sight<'_> {
-    fn place_scalar(self, place: &Place) -> Option<ScalarTy>
-        ensures copied { result ≡ scalar_ty_of (text_in self.entry) (operand.Copy place.now) }
-        ensures moved { result ≡ scalar_ty_of (text_in self.entry) (operand.Move place.now) }
-    {
-        scalar_of(self.program, self.program.place_ty(self.body, place)?)
-    }
-
     /// The scalar type of an operand.
     fn scalar_ty(self, operand: &Operand) -> Option<ScalarTy>
         ensures { result ≡ scalar_ty_of (text_in self.entry) operand.now }
     {
-        match operand {
-            Operand::Copy(place) => self.place_scalar(place),
-            Operand::Move(place) => self.place_scalar(place),
-            Operand::Const(value) => const_scalar(*value),
-        }
+        scalar_ty(self.program, self.body, operand)
     }
 
     fn binary_of(self, op: BinOp, left: &Operand, a: u128, b: u128) -> Option<u128>

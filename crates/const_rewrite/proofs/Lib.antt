@@ -4,3 +4,4 @@ pub mod refines
 pub mod valid
 pub mod Rows
 pub mod PassLaws
+pub mod equal
