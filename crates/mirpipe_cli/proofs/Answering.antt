@@ -52,11 +52,11 @@ step_there at.Promoted word e = (1, refl)
 step_there at.Elaborated word e = absurd cc
 step_there at.Spliced word e = absurd cc
 step_there at.Split word e = absurd cc
-step_there at.Folded word e = absurd cc
+step_there at.Folded word e = (2, refl)
 step_there at.Threaded word e = absurd cc
 step_there at.Merged word e = absurd cc
-step_there at.Pruned word e = (2, refl)
-step_there at.Optimised word e = (4, refl)
+step_there at.Pruned word e = (4, refl)
+step_there at.Optimised word e = (6, refl)
 
 pub asks_steps : (words : List (List ℕ)) (command : Command) → Says words command → AsksSteps command
 asks_steps words Check says = tt

@@ -6,6 +6,8 @@ use Rattle.mir_rules.specs.Valid.{with_body, at_function}
 use Rattle.mir_rules.proofs.ValidCrates.{body_formed_at, holds_body}
 use Rattle.cfg_simplify.specs.Simple.{simple}
 use Rattle.cfg_simplify.proofs.PassLaws as cleaning
+use Rattle.const_rewrite.specs.Folded.{folded_by, folded}
+use Rattle.const_rewrite.proofs.PassLaws as folding
 use Rattle.dead_store.specs.Pruned.{IsPruned, pruned}
 use Rattle.dead_store.proofs.equal.Once.{one_answer}
 use Rattle.dead_store.proofs.PassLaws as pruning
@@ -13,13 +15,17 @@ use Rattle.trim_locals.specs.Trimmed.{trimmed}
 use Rattle.trim_locals.proofs.PassLaws as trimming
 use Rattle.trim_locals.proofs.Renumbered.{start_stays}
 use Rattle.pass_order.specs.declared.passes.Pass.{Pass}
-use Rattle.pass_order.specs.declared.passes.Pass.TheVariants.{Clean, Prune, Trim}
+use Rattle.pass_order.specs.declared.passes.Pass.TheVariants.{Clean, Fold, Prune, Trim}
 use Rattle.pass_order.specs.Passes.{BodyPass, passes, after, after_passes}
 use Rattle.pass_order.specs.Steps.{pass_of}
 use Rattle.pass_order.proofs.Keeps.{PassKeeps, AllKeep, after_keeps}
 
 pub simple_keeps : PassKeeps (λ (D : List Shape). simple)
 simple_keeps = record { laws = cleaning.laws; args = λ C f b v. refl; start = λ C f b v. refl }
+
+pub folded_keeps : PassKeeps folded
+unfolding folded folded_by
+folded_keeps = record { laws = folding.laws; args = λ C f b v. refl; start = λ C f b v. refl }
 
 pub pruned_keeps : PassKeeps pruned
 unfolding pruned
@@ -33,7 +39,7 @@ trimmed_keeps = record {
 }
 
 all_keep : AllKeep passes
-all_keep = (simple_keeps, (pruned_keeps, (simple_keeps, (trimmed_keeps, tt))))
+all_keep = (simple_keeps, (folded_keeps, (simple_keeps, (pruned_keeps, (simple_keeps, (trimmed_keeps, tt))))))
 
 pub passes_keep : PassKeeps after_passes
 unfolding after_passes
@@ -42,6 +48,7 @@ passes_keep = after_keeps passes all_keep
 -- each entry of the code's list
 pub each_keeps : (p : Pass) → PassKeeps (pass_of p)
 each_keeps Clean = simple_keeps
+each_keeps Fold = folded_keeps
 each_keeps Prune = pruned_keeps
 each_keeps Trim = trimmed_keeps
 
@@ -55,9 +62,9 @@ pub front_keeps : (n : ℕ) → PassKeeps (after (take n passes))
 front_keeps n = after_keeps (take n passes) (front_keep n passes all_keep)
 
 -- the definitions one after another have one result
-pub one_result : (D : List Shape) (b c : TypedBody) → ((left : TypedBody) × IsPruned D (simple b) left × (c ≡ trimmed (simple left))) ↔ c ≡ after_passes D b
+pub one_result : (D : List Shape) (b c : TypedBody) → ((left : TypedBody) × IsPruned D (simple (folded D (simple b))) left × (c ≡ trimmed (simple left))) ↔ c ≡ after_passes D b
 unfolding after_passes
 one_result D b c = (
-  λ (left, is, same). same ∙ ap (λ (l : TypedBody). trimmed (simple l)) ((one_answer D (simple b) left).0 is),
-  λ e. (pruned D (simple b), (one_answer D (simple b) (pruned D (simple b))).1 refl, e),
+  λ (left, is, same). same ∙ ap (λ (l : TypedBody). trimmed (simple l)) ((one_answer D (simple (folded D (simple b))) left).0 is),
+  λ e. (pruned D (simple (folded D (simple b))), (one_answer D (simple (folded D (simple b))) (pruned D (simple (folded D (simple b))))).1 refl, e),
 )

@@ -4,6 +4,7 @@ use Rattle.mir_syntax.specs.Crate.{TypedBody, Crate}
 use Rattle.mir_syntax.specs.Shapes.{Shape, shapes_of}
 use Rattle.mir_rules.specs.Valid.{with_body}
 use Rattle.cfg_simplify.specs.Simple.{simple}
+use Rattle.const_rewrite.specs.Folded.{folded}
 use Rattle.dead_store.specs.Pruned.{pruned}
 use Rattle.trim_locals.specs.Trimmed.{trimmed}
 
@@ -11,9 +12,10 @@ use Rattle.trim_locals.specs.Trimmed.{trimmed}
 abbrev pub BodyPass : Type 0
 BodyPass = List Shape → TypedBody → TypedBody
 
--- the control flow is cleaned, what nobody reads goes, the control flow is cleaned again, and locals that are left without use go
+-- what is known is folded and what nobody reads goes, the control flow being cleaned before, between and after; then locals that are left without
+-- use go
 abbrev pub passes : List BodyPass
-passes = (λ D. simple) ∷ pruned ∷ (λ D. simple) ∷ (λ D. trimmed) ∷ []
+passes = (λ D. simple) ∷ folded ∷ (λ D. simple) ∷ pruned ∷ (λ D. simple) ∷ (λ D. trimmed) ∷ []
 
 -- a body after some passes, one after another
 abbrev pub after : List BodyPass → BodyPass

@@ -13,11 +13,11 @@ passes_behind at.Promoted = Some 1
 passes_behind at.Elaborated = None
 passes_behind at.Spliced = None
 passes_behind at.Split = None
-passes_behind at.Folded = None
+passes_behind at.Folded = Some 2
 passes_behind at.Threaded = None
 passes_behind at.Merged = None
-passes_behind at.Pruned = Some 2
-passes_behind at.Optimised = Some 4
+passes_behind at.Pruned = Some 4
+passes_behind at.Optimised = Some 6
 
 -- the step of the stage is there
 abbrev pub HasStep : Stage → Type 0

@@ -9,6 +9,7 @@ ghost use Rattle.mir_rules.specs.Calls.{AddsNoCall};
 ghost use Rattle.mir_rules.specs.Drops.{NoDrops};
 ghost use Rattle.mir_rules.specs.Valid.{Valid, Within, at_function};
 ghost use Rattle.cfg_simplify.specs.Simple.{simple};
+ghost use Rattle.const_rewrite.specs.Folded.{folded};
 ghost use Rattle.dead_store.specs.Pruned.{IsPruned};
 ghost use Rattle.trim_locals.specs.Trimmed.{trimmed};
 ghost use Rattle.pass_order.specs.Passes.{after_passes, optimised};
@@ -31,7 +32,7 @@ pub fn staged_refines()
     ensures last { (D : List Shape) (b : TypedBody) → at_stage at.Optimised D b ≡ Some (after_passes D b) }
 {}
 
-/// A body has one result: it is cleaned, pruned by the definition of paths, cleaned again and trimmed.
+/// A body has one result: it is cleaned, folded, cleaned, pruned by the definition of paths, cleaned again and trimmed.
 pub fn one_result()
-    ensures { (D : List Shape) (b c : TypedBody) → ((left : TypedBody) × IsPruned D (simple b) left × (c ≡ trimmed (simple left))) ↔ c ≡ after_passes D b }
+    ensures { (D : List Shape) (b c : TypedBody) → ((left : TypedBody) × IsPruned D (simple (folded D (simple b))) left × (c ≡ trimmed (simple left))) ↔ c ≡ after_passes D b }
 {}

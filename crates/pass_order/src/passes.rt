@@ -9,6 +9,7 @@ ghost use Rattle.pass_order.specs.Steps.{pass_of};
 ghost use Rattle.pass_order.specs.Fits.{FitsAt};
 
 use cfg_simplify::simple;
+use const_rewrite::folded;
 use dead_store::pruned;
 use mir_syntax::{Body, OutOfMemory, Program};
 use std::alloc::Global;
@@ -19,6 +20,8 @@ use trim_locals::trimmed;
 pub(crate) enum Pass {
     /// Its control flow is cleaned.
     Clean,
+    /// What is known becomes constants and jumps.
+    Fold,
     /// What nobody reads goes.
     Prune,
     /// Locals that are left without use go.
@@ -26,7 +29,14 @@ pub(crate) enum Pass {
 }
 
 /// The passes in their order.
-pub(crate) const PASSES: [Pass; 4] = [Pass::Clean, Pass::Prune, Pass::Clean, Pass::Trim];
+pub(crate) const PASSES: [Pass; 6] = [
+    Pass::Clean,
+    Pass::Fold,
+    Pass::Clean,
+    Pass::Prune,
+    Pass::Clean,
+    Pass::Trim,
+];
 
 impl Pass {
     // The body after the pass.
@@ -40,6 +50,7 @@ impl Pass {
     {
         match self {
             Pass::Clean => simple(alloc, program, body),
+            Pass::Fold => folded(alloc, program, body),
             Pass::Prune => pruned(alloc, program, body),
             Pass::Trim => trimmed(alloc, program, body),
         }

@@ -20,12 +20,12 @@ pub fn passes_behind(stage: Stage) -> Option<usize>
     match stage {
         Stage::Built => Some(0),
         Stage::Promoted => Some(1),
-        Stage::Pruned => Some(2),
-        Stage::Optimised => Some(4),
+        Stage::Folded => Some(2),
+        Stage::Pruned => Some(4),
+        Stage::Optimised => Some(6),
         Stage::Elaborated
         | Stage::Spliced
         | Stage::Split
-        | Stage::Folded
         | Stage::Threaded
         | Stage::Merged => None,
     }

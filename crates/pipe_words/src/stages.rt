@@ -20,6 +20,8 @@ pub fn read_stage(word: &[u8]) -> Option<Stage>
         Some(Stage::Built)
     } else if is_text(word, b"promoted") {
         Some(Stage::Promoted)
+    } else if is_text(word, b"folded") {
+        Some(Stage::Folded)
     } else if is_text(word, b"pruned") {
         Some(Stage::Pruned)
     } else if is_text(word, b"optimised") {
