@@ -23,11 +23,7 @@ pub fn passes_behind(stage: Stage) -> Option<usize>
         Stage::Folded => Some(2),
         Stage::Pruned => Some(4),
         Stage::Optimised => Some(6),
-        Stage::Elaborated
-        | Stage::Spliced
-        | Stage::Split
-        | Stage::Threaded
-        | Stage::Merged => None,
+        Stage::Elaborated | Stage::Spliced | Stage::Split | Stage::Threaded | Stage::Merged => None,
     }
 }
 

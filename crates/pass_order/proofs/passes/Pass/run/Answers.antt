@@ -1,6 +1,6 @@
 use Rattle.mir_syntax.specs.Tree.{trees_of}
 use Rattle.mir_syntax.specs.Crate.{crate_of}
-use Rattle.pass_order.proofs.Ready.{some_block, closed, ready}
+use Rattle.pass_order.proofs.Ready.{some_block, few_blocks, few_locals, closed, ready}
 use Rattle.pass_order.proofs.passes.Pass.run.Goals as goal
 
 pub simple-requires-clause-some_block : goal.simple-requires-clause-some_block
@@ -20,3 +20,27 @@ pruned-requires-clause-ready c =
     let p = c.args.program.now in
     let (f, g, fits) = c.requires.fits in
     ready (crate_of p) f g (trees_of p.types) c.args.body fits p.types c.requires.body_ids
+
+pub folded-requires-clause-some_block : goal.folded-requires-clause-some_block
+folded-requires-clause-some_block c =
+    let p = c.args.program.now in
+    let (f, g, fits) = c.requires.fits in
+    some_block (crate_of p) f g (trees_of p.types) c.args.body fits
+
+pub folded-requires-clause-closed : goal.folded-requires-clause-closed
+folded-requires-clause-closed c =
+    let p = c.args.program.now in
+    let (f, g, fits) = c.requires.fits in
+    closed (crate_of p) f g (trees_of p.types) c.args.body fits
+
+pub folded-requires-clause-few_blocks : goal.folded-requires-clause-few_blocks
+folded-requires-clause-few_blocks c =
+    let p = c.args.program.now in
+    let (f, g, fits) = c.requires.fits in
+    few_blocks (crate_of p) f g (trees_of p.types) c.args.body fits
+
+pub folded-requires-clause-few_locals : goal.folded-requires-clause-few_locals
+folded-requires-clause-few_locals c =
+    let p = c.args.program.now in
+    let (f, g, fits) = c.requires.fits in
+    few_locals (crate_of p) f g (trees_of p.types) c.args.body fits
