@@ -17,8 +17,6 @@ mod noted;
 mod point;
 mod put;
 mod terminator;
-#[cfg(test)]
-mod tests;
 
 pub use fold::folded;
 pub use laws::{folded_refines, folded_stays_valid};
