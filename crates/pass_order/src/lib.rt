@@ -1,6 +1,6 @@
 //! The order of the passes: what the bodies of a crate go through.
 //!
-//! The passes are a list (`passes` of `specs/Passes.antt`): `simple`, `pruned`, `simple`, `trimmed`. `after_passes` takes a body through them,
+//! The passes are a list (`passes` of `specs/Passes.antt`): `simple`, `folded`, `simple`, `pruned`, `simple`, `trimmed`. `after_passes` takes a body through them,
 //! and `optimised` each body of a program. Their contracts say that the result is the function of these names in `specs/Passes.antt`, that ids
 //! in the program's table stay there, and that the definitions, the outside functions and the headers stay. Bodies are moved and never copied.
 //!
