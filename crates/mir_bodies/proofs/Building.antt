@@ -11,7 +11,7 @@ use Rattle.mir_syntax.specs.Crate.{TypedDef, TypedVariant, def_of, variant_of, f
 use Rattle.mir_syntax.specs.Shapes.{◌>>=◌}
 use Rattle.mir_text.specs.Words.{place_in}
 use Rattle.mir_text.specs.Names.{Names, Strings, string_at, path_bytes, last_name, without_last, within}
-use Rattle.mir_text.specs.NamedBodies.{struct_at, enum_variant_at, variant_in, or_else}
+use Rattle.mir_text.specs.NamedBodies.{struct_at, enum_variant_at, variant_in, variant_of_ty, or_else}
 use Rattle.mir_text.specs.NameFaults.{def_number, variant_number, built_variant, field_names}
 use Rattle.mir_text.proofs.Numbered.{def_numbered, variant_numbered}
 use Rattle.mir_tree.specs.Types.{path_of}
@@ -62,28 +62,13 @@ unfolding ◌>>=◌
 paired d None = refl
 paired d (Some k) = refl
 
-enum_if : (bytes : List ℕ) (d : ℕ) (x : TypedDef) (b : Bool) → x.is_enum ≡ b → option_map (pair_with d) (variants_if_enum x >>= by_name bytes) ≡ variant_in bytes x >>= (λ k. Some (d, k))
+pub pair_made : (names : Names) (bytes : List ℕ) (d : ℕ) → option_map (pair_with d) (variant_of_ty names bytes (named d)) ≡ enum_variant_at names bytes d
 unfolding ◌>>=◌
-enum_if bytes d x true h = rw h (sym (paired d (by_name bytes x.variants)))
-enum_if bytes d x false h = rw h refl
-
-enum_on : (bytes : List ℕ) (d : ℕ) (o : Option TypedDef) → option_map (pair_with d) ((o >>= variants_if_enum) >>= by_name bytes) ≡ o >>= (λ x. variant_in bytes x >>= (λ k. Some (d, k)))
-unfolding ◌>>=◌
-enum_on bytes d None = refl
-enum_on bytes d (Some x) = enum_if bytes d x x.is_enum refl
-
-pub variant_built : (names : Names) (bytes : List ℕ) (trees : List Tree) (d : ℕ) (defs : List TypedDef) (vs : List Variant) → names.defs ≡ defs
-    → Some (map (variant_of trees) vs) ≡ enum_variants_of defs (named d) → option_map (pair_with d) (place_in (map name_of vs) bytes) ≡ enum_variant_at names bytes d
-unfolding ◌>>=◌
-variant_built names bytes trees d defs vs is h =
-    ap (λ l. option_map (pair_with d) (place_in l bytes)) (names_same trees vs)
-    ∙ ap (λ o. option_map (pair_with d) (o >>= by_name bytes)) (h ∙ ap (λ ds. enum_variants_of ds (named d)) (sym is))
-    ∙ enum_on bytes d (slice_get names.defs d)
-
-pub variant_unbuilt : (names : Names) (bytes : List ℕ) (d : ℕ) (defs : List TypedDef) → names.defs ≡ defs → None ≡ enum_variants_of defs (named d) → None ≡ enum_variant_at names bytes d
-unfolding ◌>>=◌
-variant_unbuilt names bytes d defs is h =
-    ap (λ o. option_map (pair_with d) (o >>= by_name bytes)) (h ∙ ap (λ ds. enum_variants_of ds (named d)) (sym is)) ∙ enum_on bytes d (slice_get names.defs d)
+pair_made names bytes d = go (slice_get names.defs d)
+  where
+    go : (o : Option TypedDef) → option_map (pair_with d) (o >>= variant_in bytes) ≡ o >>= (λ x. variant_in bytes x >>= (λ k. Some (d, k)))
+    go None = refl
+    go (Some x) = sym (paired d (variant_in bytes x))
 
 -- ---- paths
 

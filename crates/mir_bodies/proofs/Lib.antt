@@ -9,3 +9,4 @@ pub mod Reading
 pub mod Building
 pub mod Calling
 pub mod Blocks
+pub mod VariantsKept

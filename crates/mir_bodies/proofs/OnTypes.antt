@@ -31,14 +31,6 @@ some_then f g (Some k) id r h is = let same : k ≡ id = cc in is ∙ ap (λ i. 
 
 -- ---- enums
 
-pub no_variants : (defs : List TypedDef) (trees : List Tree) (ty : Ty) → ((d : ℕ) → ty ≡ Named d → ⊥) → None ≡ enum_variants_of defs (node trees ty)
-no_variants defs trees (Scalar s) h = refl
-no_variants defs trees (Tuple []) h = refl
-no_variants defs trees (Tuple (a ∷ ids)) h = refl
-no_variants defs trees (Ref a) h = refl
-no_variants defs trees (RefMut a) h = refl
-no_variants defs trees (Named d) h = absurd (h d refl)
-
 pub no_def : (trees : List Tree) (defs : List Def) (d : ℕ) → None ≡ slice_get defs d → None ≡ enum_variants_of (map (def_of trees) defs) (named d)
 unfolding ◌>>=◌
 no_def trees defs d h = ap (λ o. option_map (def_of trees) o >>= variants_if_enum) h ∙ ap (λ o. o >>= variants_if_enum) (sym (slice_get-map (def_of trees) defs d))

@@ -46,6 +46,7 @@ tells_on {scope = scope} {sense = sense} {old = old} {new = new} t g = record {
   locals_below = all-weaker (local_below (length old.types)) (local_below (length new.types))
       (λ d k. lt-more (length old.types) (length new.types) d.1.0 (length-extends old.types new.types g.types) k) scope.locals.now t.locals_below;
   labels = t.labels;
+  variants = t.variants;
 }
 
 -- the type so far stands for the same

@@ -5,3 +5,4 @@ pub mod Places
 pub mod Operands
 pub mod Builds
 pub mod Statements
+pub mod Variants

@@ -42,6 +42,14 @@ name_of v = v.name
 abbrev pub variants_of : List TypedDef → Option Tree → Option (List TypedVariant)
 variants_of defs t = t >>= enum_variants_of defs
 
+-- the definition that a type is
+abbrev pub def_of_ty : Tree → Option ℕ
+def_of_ty (named d) = Some d
+def_of_ty _ = None
+
+abbrev pub def_at : Option Tree → Option ℕ
+def_at t = t >>= def_of_ty
+
 abbrev pub variant_by_name : Names → ℕ → Option Tree → Option ℕ
 variant_by_name names n t = t >>= variant_of_ty names (string_at names.strings n)
 

@@ -12,6 +12,7 @@ use Rattle.mir_text.specs.NamedBodies.{Declared}
 use Rattle.mir_bodies.specs.declared.scope.Scope.{Scope}
 use Rattle.mir_bodies.specs.Locals.{declared_in}
 use Rattle.mir_bodies.specs.Labels.{AreLabels}
+use Rattle.mir_bodies.specs.Variants.{AreVariantNames}
 
 -- the names of a file, the locals that a function declares, and the labels of its blocks
 pub record Sense : Type 0 where
@@ -34,3 +35,4 @@ pub record Tells (scope : Scope) (program : Program) (sense : Sense) : Type 0 wh
   pub locals : sense.locals ≡ declared_in (trees_of program.types) scope.locals.now
   pub locals_below : IsTrue (list_all (local_below (length program.types)) scope.locals.now)
   pub labels : AreLabels scope.labels.now sense.labels
+  pub variants : AreVariantNames scope.variants.now sense.names.defs

@@ -12,7 +12,7 @@ ghost use Rattle.mir_bodies.specs.Places.{name_of};
 ghost use Rattle.mir_bodies.specs.Builds.{pair_of, pair_with, struct_by_path, variant_by_path, variant_by_rule, variant_of_pair, name_before, field_name};
 
 use crate::Scope;
-use crate::place::{variant_number, variants_of_def};
+use crate::place::variant_of_def;
 use mir_names::Names;
 use mir_resolve::{put_path, string_of};
 use mir_syntax::{Field, Form, List, OutOfMemory, Program, Variant};
@@ -60,13 +60,8 @@ fn enum_variant(
     requires { Tells scope.now program.now sense }
     ensures { IfOk result (λ built. option_map pair_of built ≡ named.enum_variant_at sense.names (string_at sense.names.strings name) def) }
 {
-    match variants_of_def(program, def) {
-        Some(variants) => {
-            let number = variant_number(variants, string_of(scope.strings, name))?;
-            Ok(with_variant(def, number))
-        }
-        None => Ok(None),
-    }
+    let number = variant_of_def(scope, program, def, string_of(scope.strings, name))?;
+    Ok(with_variant(def, number))
 }
 
 /// The variant with a name of the enum that a path names.

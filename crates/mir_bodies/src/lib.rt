@@ -24,6 +24,7 @@ mod scope;
 mod stmt;
 mod term;
 mod value;
+mod variants;
 
 pub use block::{ReadBlock, read_block};
 pub use locals::Locals;
@@ -33,6 +34,7 @@ pub use rvalue::read_rvalue;
 pub use scope::{Labels, Scope};
 pub use stmt::read_stmt;
 pub use term::read_term;
+pub use variants::VariantNames;
 
 /// A part that was read, and whether a field of one of its places is written with another type than the definition's.
 #[derive(Debug, Drop)]

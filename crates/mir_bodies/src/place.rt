@@ -4,8 +4,8 @@ ghost use Rattle.mir_syntax.specs.Crate.{crate_of, variant_of, def_of};
 ghost use Rattle.mir_syntax.specs.Ids.{IdsInTable};
 ghost use Rattle.mir_syntax.specs.Shapes.{shapes_of, field_id};
 ghost use Rattle.mir_text.specs.Words.{place_in};
-ghost use Rattle.mir_text.specs.Names.{ty_of};
-ghost use Rattle.mir_text.specs.NamedBodies.{place_named};
+ghost use Rattle.mir_text.specs.Names.{Names, ty_of};
+ghost use Rattle.mir_text.specs.NamedBodies.{place_named, variant_of_ty};
 ghost use Rattle.mir_text.specs.NameFaults.{Fault, type_codes, place_codes};
 ghost use Rattle.mir_text.specs.ReadLines.{differs, is_wrong};
 ghost use Rattle.mir_text.specs.GrammarPlaces.{PlaceRule};
@@ -16,7 +16,7 @@ ghost use Rattle.mir_resolve.specs.Types.{Grown};
 ghost use Rattle.mir_resolve.specs.Definitions.{Went};
 ghost use Rattle.mir_resolve.specs.declared.draft.Draft.{Draft};
 ghost use Rattle.mir_bodies.specs.Scope.{Sense, Tells};
-ghost use Rattle.mir_bodies.specs.Places.{proj_rule, enum_variants_of, variants_of, variant_by_name, pointee_of, field_of_ty, variant_field_of, name_of, Reaches};
+ghost use Rattle.mir_bodies.specs.Places.{proj_rule, enum_variants_of, def_of_ty, def_at, variant_by_name, pointee_of, field_of_ty, variant_field_of, name_of, Reaches};
 
 use crate::{Read, Scope};
 use mir_resolve::{Draft, read_noted, string_of};
@@ -45,7 +45,7 @@ pub fn either(a: bool, b: bool) -> bool
 }
 
 /// The number of the variant with a name.
-pub fn variant_number(variants: &[Variant], name: &[u8]) -> Result<Option<u32>, OutOfMemory>
+fn variant_number(variants: &[Variant], name: &[u8]) -> Result<Option<u32>, OutOfMemory>
     ensures { IfOk result (λ number. number ≡ place_in (map name_of variants.now) name.now) }
 {
     if variants.len() >= MOST_VARIANTS {
@@ -64,7 +64,7 @@ pub fn variant_number(variants: &[Variant], name: &[u8]) -> Result<Option<u32>, 
 }
 
 /// The variants of the enum with a number.
-pub fn variants_of_def(program: &Program, def: u32) -> Option<&[Variant]>
+fn variants_of_def(program: &Program, def: u32) -> Option<&[Variant]>
     ensures { option_map (map (variant_of (trees_of program.now.types))) (option_copied result)
         ≡ enum_variants_of (map (def_of (trees_of program.now.types)) program.now.defs) (named def) }
 {
@@ -76,22 +76,53 @@ pub fn variants_of_def(program: &Program, def: u32) -> Option<&[Variant]>
     }
 }
 
-/// The variants of an enum.
-fn enum_variants(program: &Program, id: TyId) -> Option<&[Variant]>
-    ensures { option_map (map (variant_of (trees_of program.now.types))) (option_copied result)
-        ≡ enum_variants_of (map (def_of (trees_of program.now.types)) program.now.defs) (at_id (trees_of program.now.types) id) }
+fn variant_among(program: &Program, def: u32, name: &[u8]) -> Result<Option<u32>, OutOfMemory>
+    ensures { IfOk result (λ number. (names : Names) → names.defs ≡ map (def_of (trees_of program.now.types)) program.now.defs
+        → number ≡ variant_of_ty names name.now (named def)) }
+{
+    match variants_of_def(program, def) {
+        Some(variants) => {
+            let number = variant_number(variants, name)?;
+            Ok(number)
+        }
+        None => Ok(None),
+    }
+}
+
+/// The number of the variant with a name of the enum with a number: in expected constant time where it has many.
+pub fn variant_of_def(
+    scope: &Scope,
+    program: &Program,
+    def: u32,
+    name: &[u8],
+) -> Result<Option<u32>, OutOfMemory>
+    ghost sense: { Sense }
+    requires { Tells scope.now program.now sense }
+    ensures { IfOk result (λ number. number ≡ variant_of_ty sense.names name.now (named def)) }
+{
+    match scope.variants.of(def) {
+        Some(names) => Ok(names.find(name)),
+        None => {
+            let number = variant_among(program, def, name)?;
+            Ok(number)
+        }
+    }
+}
+
+/// The definition that a type is.
+fn named_def(program: &Program, id: TyId) -> Option<u32>
+    ensures { result ≡ def_of_ty (at_id (trees_of program.now.types) id) }
 {
     let Ty::Named(def) = program.ty_at(id)? else {
         return None;
     };
-    variants_of_def(program, *def)
+    Some(*def)
 }
 
-fn variants_at(program: &Program, ty: Option<TyId>) -> Option<&[Variant]>
-    ensures { option_map (map (variant_of (trees_of program.now.types))) (option_copied result)
-        ≡ variants_of (map (def_of (trees_of program.now.types)) program.now.defs) (option_map (at_id (trees_of program.now.types)) ty) }
+fn named_at(program: &Program, ty: Option<TyId>) -> Option<u32>
+    ensures { result ≡ def_at (option_map (at_id (trees_of program.now.types)) ty) }
 {
-    enum_variants(program, ty?)
+    named_def(program, ty?)
 }
 
 /// The number of the variant with a name that a type has.
@@ -106,9 +137,9 @@ fn variant_at(
     ensures { IfOk result (λ number. number
         ≡ variant_by_name sense.names name (option_map (at_id (trees_of program.now.types)) ty)) }
 {
-    match variants_at(program, ty) {
-        Some(variants) => {
-            let number = variant_number(variants, string_of(scope.strings, name))?;
+    match named_at(program, ty) {
+        Some(def) => {
+            let number = variant_of_def(scope, program, def, string_of(scope.strings, name))?;
             Ok(number)
         }
         None => Ok(None),

@@ -2,7 +2,7 @@ ghost use Rattle.std.specs.Prelude.{◌≡◌, ℕ, List, map, IfOk};
 ghost use Rattle.mir_text.specs.NameFaults.{is_among};
 ghost use Rattle.mir_bodies.specs.Labels.{AreLabels, label_of};
 
-use crate::Locals;
+use crate::{Locals, VariantNames};
 use mir_names::Names;
 use mir_resolve::PathIndex;
 use mir_syntax::OutOfMemory;
@@ -39,13 +39,14 @@ impl Labels {
 }
 
 /// What the names in the bodies of a function mean: the strings of its file, the paths of structs and enums, of functions and of outside
-/// functions, the locals that it declares and the labels of its blocks.
+/// functions, the names of variants, the locals that it declares and the labels of its blocks.
 #[derive(Clone, Copy)]
 pub struct Scope<'a> {
     pub strings: &'a Names,
     pub paths: &'a PathIndex,
     pub functions: &'a PathIndex,
     pub outsides: &'a PathIndex,
+    pub variants: &'a VariantNames,
     pub locals: &'a Locals,
     pub labels: &'a Labels,
 }

@@ -9,6 +9,7 @@ ghost use Rattle.mir_text.specs.NamedBodies.{or_else};
 ghost use Rattle.mir_text.specs.NameFaults.{each, fn_faults};
 ghost use Rattle.mir_text.specs.PartLines as p;
 ghost use Rattle.mir_text.specs.ReadLines.{fn_lines, fn_lines_in, first_of, wrong_in_item, wrong_field_in};
+ghost use Rattle.mir_bodies.specs.Variants.{AreVariantNames};
 ghost use Rattle.mir_tree.specs.Rules.{fn_rule, lined_fn, lined_item, lined_item_at, item_of};
 ghost use Rattle.mir_file.specs.Items.{rules_of, fn_faults_in, fn_text_faults, Noticed};
 ghost use Rattle.mir_file.specs.Functions.{Knows};
@@ -16,7 +17,7 @@ ghost use Rattle.mir_file.specs.Functions.{Knows};
 use crate::blocks::{first_line_of, read_blocks};
 use crate::heads::read_head;
 use crate::paths::FilePaths;
-use mir_bodies::{Labels, Scope};
+use mir_bodies::{Labels, Scope, VariantNames};
 use mir_names::Names;
 use mir_resolve::{Draft, copy_path};
 use mir_syntax::{Body, FnLines, Function, List, OutOfMemory};
@@ -68,12 +69,14 @@ fn read_function(
     alloc: Global,
     strings: &Names,
     paths: &FilePaths,
+    variants: &VariantNames,
     draft: &mut Draft,
     line: u32,
     text: &FnText,
 ) -> Result<ReadFunction, OutOfMemory>
     ghost names: { n.Names }
-    requires { Knows strings.now paths.now draft.old.program names }
+    requires knows { Knows strings.now paths.now draft.old.program names }
+    requires variants { AreVariantNames variants.now names.defs }
     ensures function { IfOk result (λ read. function_of (trees_of draft.new.program.types) read.function ≡ function_named names (fn_rule text.now)) }
     ensures inside { IfOk result (λ read. IsTrue (function_below (length draft.new.program.types) read.function)) }
     ensures lines { IfOk result (λ read. read.lines ≡ fn_lines (lined_fn line text.now)) }
@@ -88,6 +91,7 @@ fn read_function(
         paths: &paths.defs,
         functions: &paths.functions,
         outsides: &paths.outsides,
+        variants,
         locals: &head.locals,
         labels: &labels,
     };
@@ -121,6 +125,7 @@ fn read_item(
     alloc: Global,
     strings: &Names,
     paths: &FilePaths,
+    variants: &VariantNames,
     draft: &mut Draft,
     found: &mut ReadFunctions,
     line: u32,
@@ -128,6 +133,7 @@ fn read_item(
 ) -> Result<(), OutOfMemory>
     ghost names: { n.Names }
     requires knows { Knows strings.now paths.now draft.old.program names }
+    requires variants { AreVariantNames variants.now names.defs }
     requires inside { IsTrue (list_all (function_below (length draft.old.program.types)) found.old.functions) }
     ensures functions { OnOk result (map (function_of (trees_of draft.new.program.types)) found.new.functions
         ≡ map (function_of (trees_of draft.old.program.types)) found.old.functions ++ function_in names (item_of (lined_item_at line part.now))) }
@@ -141,7 +147,7 @@ fn read_item(
         ItemText::Enum(_, _) => Ok(()),
         ItemText::Extern(_, _, _) => Ok(()),
         ItemText::Function(text) => {
-            let read = read_function(alloc, strings, paths, draft, line, text)?;
+            let read = read_function(alloc, strings, paths, variants, draft, line, text)?;
             found.push(read)?;
             Ok(())
         }
@@ -153,11 +159,13 @@ pub fn read_functions(
     alloc: Global,
     strings: &Names,
     paths: &FilePaths,
+    variants: &VariantNames,
     draft: &mut Draft,
     items: List<Lined<ItemText>>,
 ) -> Result<ReadFunctions, OutOfMemory>
     ghost names: { n.Names }
-    requires { Knows strings.now paths.now draft.old.program names }
+    requires knows { Knows strings.now paths.now draft.old.program names }
+    requires variants { AreVariantNames variants.now names.defs }
     ensures functions { IfOk result (λ found. map (function_of (trees_of draft.new.program.types)) found.functions ≡ functions_in names (rules_of items)) }
     ensures inside { IfOk result (λ found. IsTrue (list_all (function_below (length draft.new.program.types)) found.functions)) }
     ensures lines { IfOk result (λ found. found.lines ≡ each fn_lines_in (map lined_item items)) }
@@ -171,7 +179,7 @@ pub fn read_functions(
     };
     'items: for item in items.into_vec() {
         read_item(
-            alloc, strings, paths, draft, &mut found, item.line, &item.part,
+            alloc, strings, paths, variants, draft, &mut found, item.line, &item.part,
         )?;
         drop(item);
     }

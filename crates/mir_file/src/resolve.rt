@@ -13,6 +13,7 @@ ghost use Rattle.mir_file.specs.declared.resolve.Unresolved.TheVariants as unres
 
 use crate::front::{Front, read_front};
 use crate::functions::read_functions;
+use mir_bodies::VariantNames;
 use mir_names::Names;
 use mir_resolve::NameFault;
 use mir_syntax::{Lines, List, OutOfMemory, Program};
@@ -61,7 +62,8 @@ fn resolve_items(
         def_lines,
         outside_lines,
     } = front;
-    let found = read_functions(alloc, strings, &paths, &mut draft, items)?;
+    let variants = VariantNames::new(alloc, draft.program.defs.as_slice())?;
+    let found = read_functions(alloc, strings, &paths, &variants, &mut draft, items)?;
     if let Some(fault) = draft.notes.first() {
         return Err(Unresolved::Names(fault));
     }

@@ -22,7 +22,7 @@ use Rattle.mir_file.proofs.functions.read_function.Goals as goal
 pub read_blocks-requires : goal.read_blocks-requires
 read_blocks-requires g c =
     let head = c.in_ok-head.ensures in
-    let k = knows_on c.args.strings.now c.args.paths.now c.args.draft.now.program c.read_head.new.draft.program g.names c.requires head.went.grown in
+    let k = knows_on c.args.strings.now c.args.paths.now c.args.draft.now.program c.read_head.new.draft.program g.names c.requires.knows head.went.grown in
     record {
       strings = k.strings;
       paths = k.paths;
@@ -34,6 +34,7 @@ read_blocks-requires g c =
       locals = refl;
       locals_below = head.inside;
       labels = c.in_ok-labels.ensures;
+      variants = c.requires.variants;
     }
 
 pub returns-clause-function : goal.returns-clause-function
@@ -43,10 +44,10 @@ returns-clause-function g c =
     let found = c.in_ok-found.ensures in
     let mid = c.read_head.new.draft.program.types in
     let new = c.read_blocks.new.draft.program.types in
-    let names : before_defs c.args.strings.now c.args.paths.now.defs ≡ before_defs g.names.strings g.names.paths = ap₂ before_defs (sym c.requires.strings) (sym c.requires.paths) in
+    let names : before_defs c.args.strings.now c.args.paths.now.defs ≡ before_defs g.names.strings g.names.paths = ap₂ before_defs (sym c.requires.knows.strings) (sym c.requires.knows.paths) in
     let ds : declared_in (trees_of mid) c.in_ok-head.head.locals ≡ declared g.names (fn_rule x) = head.declared ∙ ap (λ n. declared n (fn_rule x)) names in
     function_made g.names x _ _ _ _
-    (c.in_ok-path.ensures ∙ ap (λ s. path_bytes s (path_rule x.path)) (sym c.requires.strings))
+    (c.in_ok-path.ensures ∙ ap (λ s. path_bytes s (path_rule x.path)) (sym c.requires.knows.strings))
     (c.in_ok-args.ensures ∙ ap length c.as_slice.ensures)
     (ids_kept mid new c.in_ok-head.head.types found.grown.types head.ids ∙ head.types ∙ ap (λ n. locals_from (declared n (fn_rule x)) 0 (length (declared n (fn_rule x)))) names)
     (found.blocks ∙ ap₂ (λ d bs. map (text_block (sense_with g.names d bs)) bs) ds c.as_slice-blocks.ensures)
@@ -72,7 +73,7 @@ returns-clause-wrong g c =
     let x = c.args.text.now in
     let mid = c.read_head.new.draft.program.types in
     let head = c.in_ok-head.ensures in
-    let names : before_defs c.args.strings.now c.args.paths.now.defs ≡ before_defs g.names.strings g.names.paths = ap₂ before_defs (sym c.requires.strings) (sym c.requires.paths) in
+    let names : before_defs c.args.strings.now c.args.paths.now.defs ≡ before_defs g.names.strings g.names.paths = ap₂ before_defs (sym c.requires.knows.strings) (sym c.requires.knows.paths) in
     let ds : declared_in (trees_of mid) c.in_ok-head.head.locals ≡ declared g.names (fn_rule x) = head.declared ∙ ap (λ n. declared n (fn_rule x)) names in
     c.in_ok-found.ensures.wrong
     ∙ ap first_of (ap₂ (λ d bs. each (text_wrong (sense_with g.names d bs)) bs) ds c.as_slice-blocks.ensures ∙ blocks_wrong g.names (declared g.names (fn_rule x)) x)
@@ -84,7 +85,7 @@ returns-clause-went g c =
     let mid = c.read_head.new.draft.program.types in
     let head = c.in_ok-head.ensures in
     let start = c.args.draft.now.notes in
-    let names : before_defs c.args.strings.now c.args.paths.now.defs ≡ before_defs g.names.strings g.names.paths = ap₂ before_defs (sym c.requires.strings) (sym c.requires.paths) in
+    let names : before_defs c.args.strings.now c.args.paths.now.defs ≡ before_defs g.names.strings g.names.paths = ap₂ before_defs (sym c.requires.knows.strings) (sym c.requires.knows.paths) in
     let ds : declared_in (trees_of mid) c.in_ok-head.head.locals ≡ declared g.names (fn_rule x) = head.declared ∙ ap (λ n. declared n (fn_rule x)) names in
     let blocks = each (text_faults (sense_with g.names (declared g.names (fn_rule x)) x.blocks)) x.blocks in
     record {

@@ -19,13 +19,13 @@ pub returns-in_ok-push-in-Function-clause-functions : goal.returns-in_ok-push-in
 returns-in_ok-push-in-Function-clause-functions g c =
     let is = c.in_ok-read-in-Function.ensures in
     rw c.in-Function.is (one_more function_of function_below functions_keep c.args.draft.now.program.types c.read_function.new.draft.program.types is.went.grown.types
-    c.args.found.now.functions c.push.new.self.functions c.in_ok-read-in-Function.read.function _ c.requires.1 c.in_ok-push-in-Function.ensures.functions is.function)
+    c.args.found.now.functions c.push.new.self.functions c.in_ok-read-in-Function.read.function _ c.requires.inside c.in_ok-push-in-Function.ensures.functions is.function)
 
 pub returns-in_ok-push-in-Function-clause-inside : goal.returns-in_ok-push-in-Function-clause-inside
 returns-in_ok-push-in-Function-clause-inside g c =
     let is = c.in_ok-read-in-Function.ensures in
     more_inside function_of function_below functions_keep c.args.draft.now.program.types c.read_function.new.draft.program.types is.went.grown.types
-    c.args.found.now.functions c.push.new.self.functions c.in_ok-read-in-Function.read.function c.requires.1 c.in_ok-push-in-Function.ensures.functions is.inside
+    c.args.found.now.functions c.push.new.self.functions c.in_ok-read-in-Function.read.function c.requires.inside c.in_ok-push-in-Function.ensures.functions is.inside
 
 pub returns-in_ok-push-in-Function-clause-wrong : goal.returns-in_ok-push-in-Function-clause-wrong
 returns-in_ok-push-in-Function-clause-wrong g c =

@@ -1,8 +1,9 @@
-use Rattle.std.proofs.Common.{◌≡◌, ℕ, List, ◌∙◌, map, length, option_map, Option, None, Some, ap, ap₂, refl, sym}
+use Rattle.std.proofs.Common.{◌≡◌, ℕ, List, ◌∙◌, map, length, option_map, Option, None, Some, ap, ap₂, refl, sym, subst}
 use Rattle.mir_syntax.specs.declared.lines.FnLines.{FnLines}
 use Rattle.mir_syntax.specs.declared.lines.Lines.{Lines}
 use Rattle.mir_syntax.specs.Tree.{trees_of}
-use Rattle.mir_syntax.specs.Crate.{TypedDef, TypedOutside, TypedFunction, Crate, outside_of, function_of}
+use Rattle.mir_syntax.specs.Crate.{TypedDef, TypedOutside, TypedFunction, Crate, def_of, outside_of, function_of}
+use Rattle.mir_bodies.specs.Variants.{AreVariantNames}
 use Rattle.mir_syntax.specs.Ids.{outside_below}
 use Rattle.mir_syntax.proofs.Growth.{map-same}
 use Rattle.mir_text.specs.Names.{names_of}
@@ -18,8 +19,8 @@ use Rattle.mir_file.proofs.AllFaults.{first_noted}
 use Rattle.mir_file.proofs.Bodies.{knows_front, knows_on, none_first}
 use Rattle.mir_file.proofs.resolve.resolve_items.Goals as goal
 
-pub read_functions-requires : goal.read_functions-requires
-read_functions-requires c =
+pub read_functions-requires-clause-knows : goal.read_functions-requires-clause-knows
+read_functions-requires-clause-knows c =
     let front = rw c.as_slice.ensures at c.in_ok-front.ensures in
     record {
       strings = refl;
@@ -30,6 +31,12 @@ read_functions-requires c =
       shapes = refl;
       in_table = front.in_table;
     }
+
+pub read_functions-requires-clause-variants : goal.read_functions-requires-clause-variants
+read_functions-requires-clause-variants c =
+    let front = rw c.as_slice.ensures at c.in_ok-front.ensures in
+    let trees = trees_of c.in_ok-front.front.draft.program.types in
+    subst (AreVariantNames c.in_ok-variants.variants) (ap (map (def_of trees)) c.as_slice-2.ensures ∙ front.defs) (c.in_ok-variants.ensures trees)
 
 pub returns-clause-named : goal.returns-clause-named
 returns-clause-named c =

@@ -1,0 +1,4 @@
+use Rattle.mir_bodies.proofs.place.variant_at.Given as goal
+
+abbrev pub ghost-variant_of_def : goal.ghost-variant_of_def
+ghost-variant_of_def g a = g.sense
