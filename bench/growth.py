@@ -189,7 +189,7 @@ def an_unknown_path_at_the_end(n):
 
 @family
 def functions(n):
-    return "".join(function(["nop"], name=f"f{place}") for place in range(n // 3))
+    return "".join(function(["nop"], name=f"g{place}") for place in range(n // 3))
 
 
 @family

@@ -1,52 +1,130 @@
--- Names of variants that are kept by the number of their definition.
-use Rattle.std.proofs.Common.{◌≡◌, ◌⊎◌, inl, inr, refl, sym, ap, ◌∙◌, subst, ℕ, zero, suc, ◌<◌, true, List, [], ◌∷◌, ◌++◌, map, length, slice_get, Option, Some, None, option_map, arith}
+-- Names of variants that are kept for their definitions.
+use Rattle.std.proofs.Common.{◌≡◌, refl, sym, ap, ap₂, ◌∙◌, ℕ, zero, suc, ◌+◌, nat_eq, Bool, true, false, bytes_eq, List, [], ◌∷◌, ◌++◌, map, length, take, get_or, slice_get, ◌<◌, take-suc, length-append, length-take-le, Option, Some, None, option_map, eqb-true, arith}
+use Rattle.std.proofs.lemmas.Bool.{eq-eqb}
+use Rattle.std.proofs.lemmas.List.{map-append, length-map}
 use Rattle.std.proofs.lemmas.Option.{slice_get-map}
+use Rattle.std.proofs.lemmas.Slice.Eq.{bytes_eq-Decides}
+use Rattle.std.specs.HashMap.{get}
 use Rattle.mir_syntax.specs.declared.types.Def.{Def}
-use Rattle.mir_syntax.specs.declared.types.Variant.{Variant}
 use Rattle.mir_syntax.specs.declared.types.Ty.{Ty}
 use Rattle.mir_syntax.specs.declared.types.Ty.TheVariants.{Scalar, Tuple, Ref, RefMut, Named}
 use Rattle.mir_syntax.specs.Tree.{Tree, scalar, empty, more, ref, ref_mut, named, node}
 use Rattle.mir_syntax.specs.Crate.{TypedDef, def_of}
 use Rattle.mir_syntax.specs.Shapes.{◌>>=◌}
 use Rattle.mir_text.specs.Words.{place_in}
-use Rattle.mir_text.specs.Names.{Names}
-use Rattle.mir_text.specs.NamedBodies.{variant_in, variant_of_ty}
-use Rattle.mir_bodies.specs.declared.variants.VariantNames.{VariantNames}
+use Rattle.mir_text.specs.Names.{Names, string_at}
+use Rattle.mir_text.specs.NamedBodies.{variant_in, variant_of_ty, or_else}
+use Rattle.mir_resolve.proofs.FirstPlaces.{place-snoc, same-text, again_view}
 use Rattle.mir_bodies.specs.Places.{name_of, def_of_ty, def_at}
-use Rattle.mir_bodies.specs.Variants.{IsNamesAt, AreVariantNames}
+use Rattle.mir_bodies.specs.FirstPlaces.{Firsts, place_if, place_of, AreFirsts}
+use Rattle.mir_bodies.specs.Variants.{IsKept, AreKept, kept_at}
+use Rattle.mir_bodies.specs.declared.variants.VariantNames.{VariantNames}
 use Rattle.mir_bodies.proofs.OnTypes.{names_same}
 
-pub none_kept : (v : VariantNames) (trees : List Tree) (defs : List Def) → v.defs ≡ [] → AreVariantNames v (map (def_of trees) defs)
-none_kept v trees defs none = λ d names at bytes. absurd (let e : None ≡ Some d = sym (ap (λ l. slice_get l at.0) none) ∙ at.1 in cc)
+-- ---- what a loop has come through
 
--- the last of a list, or one before it
-last_or_before : {A : Type 0} (xs : List A) (x y : A) (k : ℕ) → slice_get (xs ++ x ∷ []) k ≡ Some y → (slice_get xs k ≡ Some y) ⊎ ((k ≡ length xs) × (x ≡ y))
-last_or_before [] x y zero h = inr (refl, cc)
-last_or_before [] x y (suc k) h = inl h
-last_or_before (a ∷ xs) x y zero h = inl h
-last_or_before (a ∷ xs) x y (suc k) h = elim (last_or_before xs x y k h) [ inl q ↦ inl q | inr q ↦ inr (ap suc q.0, q.1) ]
+pub taken_more : {A B : Type 0} (f : A → B) (xs : List A) (i : ℕ) (x : A) → i < length xs → x ≡ get_or xs i x → map f (take (i + 1) xs) ≡ map f (take i xs) ++ f x ∷ []
+taken_more f xs i x lt is =
+    let z : i + 1 ≡ suc i = omega arith in
+    ap (λ n. map f (take n xs)) z
+    ∙ (ap (map f) (take-suc xs i x lt)
+    ∙ (map-append f (take i xs) (get_or xs i x ∷ []) ∙ ap (λ y. map f (take i xs) ++ f y ∷ []) (sym is)))
 
-inside : {A : Type 0} (xs : List A) (y : A) (k : ℕ) → slice_get xs k ≡ Some y → k < length xs
-inside [] y k h = absurd cc
-inside (x ∷ xs) y zero h = omega arith
-inside (x ∷ xs) y (suc k) h = let l : k < length xs = inside xs y k h in omega (arith, l)
+pub taken_count : {A B : Type 0} (f : A → B) (xs : List A) (i : ℕ) → i < length xs → length (map f (take i xs)) ≡ i
+taken_count f xs i lt = length-map (take i xs) f ∙ length-take-le i xs (omega (arith, lt))
 
--- the names of one more enum
-pub one_more_kept : (v w : VariantNames) (trees : List Tree) (defs : List Def) (at : ℕ) (def : Def) (texts : List (List ℕ)) → length v.defs ≡ length v.names → AreVariantNames v (map (def_of trees) defs)
-    → slice_get defs at ≡ Some def → def.is_enum ≡ true → texts ≡ map name_of def.variants → w.defs ≡ v.defs ++ at ∷ [] → w.names ≡ v.names ++ texts ∷ [] → AreVariantNames w (map (def_of trees) defs)
+pub pushed_length : {A : Type 0} (xs next : List A) (x : A) (i : ℕ) → next ≡ xs ++ x ∷ [] → length xs ≡ i → length next ≡ i + 1
+pushed_length xs next x i is long = ap length is ∙ (length-append xs (x ∷ []) ∙ ap (λ n. n + 1) long)
+
+-- ---- first places
+
+pub first_none : (strings : List (List ℕ)) (firsts : Firsts) → ((q : ℕ) → get nat_eq firsts q ≡ None) → AreFirsts strings firsts []
 unfolding ◌>>=◌
-one_more_kept v w trees defs at def texts long all there enum is more_defs more_names = λ d names (k, a, b) bytes.
-    step d names bytes k (last_or_before v.defs at d k (sym (ap (λ l. slice_get l k) more_defs) ∙ a)) (last_or_before v.names texts names k (sym (ap (λ l. slice_get l k) more_names) ∙ b))
+first_none strings firsts none = record { found = λ u. go (place_in strings u) }
   where
-    step : (d : ℕ) (names : List (List ℕ)) (bytes : List ℕ) (k : ℕ) → (slice_get v.defs k ≡ Some d) ⊎ ((k ≡ length v.defs) × (at ≡ d)) → (slice_get v.names k ≡ Some names) ⊎ ((k ≡ length v.names) × (texts ≡ names))
-        → place_in names bytes ≡ slice_get (map (def_of trees) defs) d >>= variant_in bytes
-    step d names bytes k (inl a) (inl b) = all d names (k, a, b) bytes
-    step d names bytes k (inl a) (inr b) = absurd (omega (arith, long, b.0, inside v.defs d k a))
-    step d names bytes k (inr a) (inl b) = absurd (omega (arith, long, a.0, inside v.names names k b))
-    step d names bytes k (inr a) (inr b) =
-        ap (λ l. place_in l bytes) (sym b.1 ∙ (is ∙ names_same trees def.variants))
-        ∙ (sym (ap (λ e. elim e [ true ↦ place_in (map (λ v. v.name) (def_of trees def).variants) bytes | false ↦ None ]) enum)
-        ∙ ap (λ o. o >>= variant_in bytes) (sym (ap (slice_get (map (def_of trees) defs)) (sym a.1) ∙ (slice_get-map (def_of trees) defs at ∙ ap (option_map (def_of trees)) there))))
+    go : (o : Option ℕ) → o >>= get nat_eq firsts ≡ None
+    go None = refl
+    go (Some q) = none q
+
+both_ways : (a b : Bool) → (a ≡ true → b ≡ true) → (b ≡ true → a ≡ true) → a ≡ b
+both_ways true b f g = sym (f refl)
+both_ways false true f g = g refl
+both_ways false false f g = refl
+
+some_same : (k q : ℕ) → Some k ≡ Some q → k ≡ q
+some_same k q h = cc
+
+-- two strings are the same exactly where their numbers are
+numbers_tell : (strings : List (List ℕ)) (t u : List ℕ) (k q : ℕ) → place_in strings t ≡ Some k → place_in strings u ≡ Some q → bytes_eq t u ≡ nat_eq k q
+numbers_tell strings t u k q at_t at_u =
+    both_ways (bytes_eq t u) (nat_eq k q)
+    (λ e. eq-eqb k q (some_same k q (sym at_t ∙ (ap (place_in strings) (same-text t u e) ∙ at_u))))
+    (λ e.
+      let texts : t ∷ [] ≡ u ∷ [] = sym (again_view strings [] t k at_t) ∙ (ap (λ n. string_at strings n ∷ []) (eqb-true k q e) ∙ again_view strings [] u q at_u) in
+      let same : t ≡ u = cc in
+      (bytes_eq-Decides t u).1 same)
+
+other_text : (strings : List (List ℕ)) (t u : List ℕ) (k : ℕ) → place_in strings t ≡ Some k → place_in strings u ≡ None → bytes_eq t u ≡ false
+other_text strings t u k at_t none =
+    both_ways (bytes_eq t u) false
+    (λ e. absurd (let both : Some k ≡ None = sym at_t ∙ (ap (place_in strings) (same-text t u e) ∙ none) in cc))
+    (λ e. absurd cc)
+
+-- one text more
+pub first_more : (strings texts : List (List ℕ)) (firsts next : Firsts) (t : List ℕ) (k n : ℕ) → AreFirsts strings firsts texts → place_in strings t ≡ Some k
+    → ((q : ℕ) → get nat_eq next q ≡ or_else (get nat_eq firsts q) (place_if (nat_eq k q) n)) → n ≡ 0 + length texts → AreFirsts strings next (texts ++ t ∷ [])
+unfolding ◌>>=◌
+first_more strings texts firsts next t k n all at_t put count = record { found = λ u. step u (place_in strings u) refl ∙ (ap (λ m. or_else (place_in texts u) (place_if (bytes_eq t u) m)) count ∙ sym (place-snoc 0 texts t u)) }
+  where
+    step : (u : List ℕ) (o : Option ℕ) → place_in strings u ≡ o
+        → place_in strings u >>= get nat_eq next ≡ or_else (place_in texts u) (place_if (bytes_eq t u) n)
+    step u None e =
+        ap (λ p. p >>= get nat_eq next) e
+        ∙ (ap₂ or_else (sym (ap (λ p. p >>= get nat_eq firsts) e) ∙ all.found u) (ap (λ b. place_if b n) (sym (other_text strings t u k at_t e))))
+    step u (Some q) e =
+        ap (λ p. p >>= get nat_eq next) e
+        ∙ (put q
+        ∙ ap₂ or_else (sym (ap (λ p. p >>= get nat_eq firsts) e) ∙ all.found u) (ap (λ b. place_if b n) (sym (numbers_tell strings t u k q at_t e))))
+
+-- ---- definitions
+
+pub enum_kept : (strings : List (List ℕ)) (trees : List Tree) (d : Def) (firsts : Firsts) → d.is_enum ≡ true → AreFirsts strings firsts (map name_of d.variants)
+    → IsKept strings (Some firsts) (def_of trees d)
+enum_kept strings trees d firsts is all = λ text. all.found text ∙ (ap (λ l. place_in l text) (names_same trees d.variants) ∙ rw is refl)
+
+pub kept_more : (strings : List (List ℕ)) (os : List (Option Firsts)) (ds : List TypedDef) (o : Option Firsts) (d : TypedDef) → length os ≡ length ds → AreKept strings os ds
+    → IsKept strings o d → AreKept strings (os ++ o ∷ []) (ds ++ d ∷ [])
+kept_more strings [] [] o d long all is = (is, tt)
+kept_more strings [] (x ∷ ds) o d long all is = absurd (omega (arith, long))
+kept_more strings (p ∷ os) [] o d long all is = absurd all
+kept_more strings (p ∷ os) (x ∷ ds) o d long all is = (all.0, kept_more strings os ds o d (omega (arith, long)) all.1 is)
+
+pub kept_found : (strings : List (List ℕ)) (os : List (Option Firsts)) (ds : List TypedDef) (n : ℕ) (firsts : Firsts) (text : List ℕ) → AreKept strings os ds
+    → Some firsts ≡ slice_get os n >>= (λ o. o) → place_of strings firsts text ≡ slice_get ds n >>= variant_in text
+unfolding ◌>>=◌
+kept_found strings [] ds n firsts text all h = absurd cc
+kept_found strings (o ∷ os) [] n firsts text all h = absurd all
+kept_found strings (None ∷ os) (d ∷ ds) zero firsts text all h = absurd cc
+kept_found strings (Some f ∷ os) (d ∷ ds) zero firsts text all h = let same : firsts ≡ f = cc in rw same (all.0 text)
+kept_found strings (o ∷ os) (d ∷ ds) (suc n) firsts text all h = kept_found strings os ds n firsts text all.1 h
+
+pub kept_pushed : {A : Type 0} (f : A → Option Firsts) (strings : List (List ℕ)) (trees : List Tree) (xs next : List A) (x : A) (defs : List Def) (i : ℕ) (d : Def) → next ≡ xs ++ x ∷ []
+    → length xs ≡ i → i < length defs → d ≡ get_or defs i d → AreKept strings (map f xs) (map (def_of trees) (take i defs)) → IsKept strings (f x) (def_of trees d)
+    → AreKept strings (map f next) (map (def_of trees) (take (i + 1) defs))
+kept_pushed f strings trees xs next x defs i d is long lt at all kept =
+    let pushed : map f next ≡ map f xs ++ f x ∷ [] = ap (map f) is ∙ map-append f xs (x ∷ []) in
+    let same : length (map f xs) ≡ length (map (def_of trees) (take i defs)) = length-map xs f ∙ (long ∙ sym (taken_count (def_of trees) defs i lt)) in
+    rw (pushed, taken_more (def_of trees) defs i d lt at) (kept_more strings (map f xs) (map (def_of trees) (take i defs)) (f x) (def_of trees d) same all kept)
+
+pub kept_is : (v : VariantNames) (d : ℕ) → kept_at v d ≡ slice_get v.by_def d >>= option_map (λ firsts. firsts.value)
+unfolding ◌>>=◌
+kept_is v d = ap (λ o. o >>= λ firsts. firsts) (slice_get-map (option_map (λ firsts. firsts.value)) v.by_def d) ∙ inner (option_map (λ firsts. firsts.value)) (slice_get v.by_def d)
+  where
+    inner : {A : Type 0} (f : A → Option Firsts) (o : Option A) → option_map f o >>= (λ firsts. firsts) ≡ o >>= f
+    inner f None = refl
+    inner f (Some x) = refl
+
+-- ---- types
 
 -- the variant of a type is that of the definition that it is
 pub by_def : (names : Names) (bytes : List ℕ) (o : Option Tree) (d : ℕ) → Some d ≡ def_at o → variant_of_ty names bytes (named d) ≡ o >>= variant_of_ty names bytes

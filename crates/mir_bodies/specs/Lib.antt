@@ -5,4 +5,5 @@ pub mod Places
 pub mod Operands
 pub mod Builds
 pub mod Statements
+pub mod FirstPlaces
 pub mod Variants

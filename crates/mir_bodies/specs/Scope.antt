@@ -35,4 +35,4 @@ pub record Tells (scope : Scope) (program : Program) (sense : Sense) : Type 0 wh
   pub locals : sense.locals ≡ declared_in (trees_of program.types) scope.locals.now
   pub locals_below : IsTrue (list_all (local_below (length program.types)) scope.locals.now)
   pub labels : AreLabels scope.labels.now sense.labels
-  pub variants : AreVariantNames scope.variants.now sense.names.defs
+  pub variants : AreVariantNames scope.strings.now scope.variants.now sense.names.defs

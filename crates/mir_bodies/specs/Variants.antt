@@ -1,15 +1,27 @@
--- The names of the variants of enums that have many, each by the number of its definition.
-use Rattle.std.specs.Prelude.{◌≡◌, ℕ, List, Some, slice_get}
+-- What is kept of the names of the variants of definitions.
+use Rattle.std.specs.Prelude.{◌≡◌, ℕ, List, [], ◌∷◌, map, Option, IfSome, option_map, slice_get, ⊤}
 use Rattle.mir_syntax.specs.Crate.{TypedDef}
-use Rattle.mir_syntax.specs.Shapes.{◌>>=◌}
-use Rattle.mir_text.specs.Words.{place_in}
 use Rattle.mir_text.specs.NamedBodies.{variant_in}
+use Rattle.mir_syntax.specs.Shapes.{◌>>=◌}
 use Rattle.mir_bodies.specs.declared.variants.VariantNames.{VariantNames}
+use Rattle.mir_bodies.specs.FirstPlaces.{Firsts, place_of}
 
--- the names that are kept for a definition
-abbrev pub IsNamesAt : VariantNames → ℕ → List (List ℕ) → Type 0
-IsNamesAt v d names = (k : ℕ) × (slice_get v.defs k ≡ Some d) × (slice_get v.names k ≡ Some names)
+abbrev pub kept : VariantNames → List (Option Firsts)
+kept v = map (option_map (λ firsts. firsts.value)) v.by_def
 
--- by what is kept for a definition each name has the number of the variant that it names
-abbrev pub AreVariantNames : VariantNames → List TypedDef → Type 0
-AreVariantNames v defs = (d : ℕ) (names : List (List ℕ)) → IsNamesAt v d names → (bytes : List ℕ) → place_in names bytes ≡ slice_get defs d >>= variant_in bytes
+-- what is kept of the definition with a number
+abbrev pub kept_at : VariantNames → ℕ → Option Firsts
+kept_at v d = slice_get (kept v) d >>= λ firsts. firsts
+
+-- by what is kept of a definition each text is found exactly where it names a variant, the first one of that name
+abbrev pub IsKept : List (List ℕ) → Option Firsts → TypedDef → Type 0
+IsKept strings kept d = IfSome kept (λ firsts. (text : List ℕ) → place_of strings firsts text ≡ variant_in text d)
+
+-- the same of all definitions in turn
+abbrev pub AreKept : List (List ℕ) → List (Option Firsts) → List TypedDef → Type 0
+AreKept strings [] ds = ⊤
+AreKept strings (o ∷ os) [] = ⊥
+AreKept strings (o ∷ os) (d ∷ ds) = IsKept strings o d × AreKept strings os ds
+
+abbrev pub AreVariantNames : List (List ℕ) → VariantNames → List TypedDef → Type 0
+AreVariantNames strings v ds = AreKept strings (kept v) ds

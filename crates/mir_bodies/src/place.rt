@@ -3,7 +3,7 @@ ghost use Rattle.mir_syntax.specs.Tree.{named, at_id, trees_of};
 ghost use Rattle.mir_syntax.specs.Crate.{crate_of, variant_of, def_of};
 ghost use Rattle.mir_syntax.specs.Ids.{IdsInTable};
 ghost use Rattle.mir_syntax.specs.Shapes.{shapes_of, field_id};
-ghost use Rattle.mir_text.specs.Words.{place_in};
+ghost use Rattle.mir_text.specs.Words as w;
 ghost use Rattle.mir_text.specs.Names.{Names, ty_of};
 ghost use Rattle.mir_text.specs.NamedBodies.{place_named, variant_of_ty};
 ghost use Rattle.mir_text.specs.NameFaults.{Fault, type_codes, place_codes};
@@ -18,14 +18,12 @@ ghost use Rattle.mir_resolve.specs.declared.draft.Draft.{Draft};
 ghost use Rattle.mir_bodies.specs.Scope.{Sense, Tells};
 ghost use Rattle.mir_bodies.specs.Places.{proj_rule, enum_variants_of, def_of_ty, def_at, variant_by_name, pointee_of, field_of_ty, variant_field_of, name_of, Reaches};
 
+use crate::variants::{MOST_VARIANTS, first_place};
 use crate::{Read, Scope};
 use mir_resolve::{Draft, read_noted, string_of};
 use mir_syntax::{Field, List, OutOfMemory, Place, Program, Proj, Ty, TyId, Variant};
 use mir_tree::{PlaceText, ProjText, TypeText};
 use std::alloc::Global;
-
-/// So many variants an enum may have: far more than a text of this size can name.
-const MOST_VARIANTS: usize = 1 << 30;
 
 /// A place while it is read, from its local outwards.
 #[derive(Drop)]
@@ -46,7 +44,7 @@ pub fn either(a: bool, b: bool) -> bool
 
 /// The number of the variant with a name.
 fn variant_number(variants: &[Variant], name: &[u8]) -> Result<Option<u32>, OutOfMemory>
-    ensures { IfOk result (λ number. number ≡ place_in (map name_of variants.now) name.now) }
+    ensures { IfOk result (λ number. number ≡ w.place_in (map name_of variants.now) name.now) }
 {
     if variants.len() >= MOST_VARIANTS {
         return Err(OutOfMemory);
@@ -101,7 +99,7 @@ pub fn variant_of_def(
     ensures { IfOk result (λ number. number ≡ variant_of_ty sense.names name.now (named def)) }
 {
     match scope.variants.of(def) {
-        Some(names) => Ok(names.find(name)),
+        Some(firsts) => Ok(first_place(scope.strings, firsts, name)),
         None => {
             let number = variant_among(program, def, name)?;
             Ok(number)

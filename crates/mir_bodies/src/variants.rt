@@ -1,55 +1,61 @@
-ghost use Rattle.std.specs.Prelude.{◌≡◌, ◌<◌, List as ListOf, Some, true, length, map, slice_get, IfOk, IfSome, OnOk};
+ghost use Rattle.std.specs.Prelude.{◌≡◌, ℕ, List as ListOf, map, nat_eq, true, option_map, IfOk, IfSome, OnOk, option_copied};
+ghost use Rattle.std.specs.HashMap.{get};
 ghost use Rattle.mir_syntax.specs.Tree.{Tree};
 ghost use Rattle.mir_syntax.specs.Crate.{def_of};
 ghost use Rattle.mir_bodies.specs.Places.{name_of};
-ghost use Rattle.mir_bodies.specs.Variants.{AreVariantNames, IsNamesAt};
+ghost use Rattle.mir_text.specs.NamedBodies.{or_else};
+ghost use Rattle.mir_bodies.specs.FirstPlaces.{AreFirsts, place_if, place_of};
+ghost use Rattle.mir_bodies.specs.Variants.{AreVariantNames, IsKept, kept_at};
 
-use mir_resolve::PathIndex;
+use mir_names::Names;
 use mir_syntax::{Def, List, OutOfMemory, Variant};
 use std::alloc::Global;
+use std::collections::HashMap;
 
-/// The variants of an enum are gone through one by one where it has so many or fewer.
+/// An enum with so many variants, or fewer, is gone through.
 const FEW: usize = 16;
 
-/// The names of the variants of each enum that has many.
+/// So many variants an enum may have: far more than a text of this size can name.
+pub const MOST_VARIANTS: usize = 1 << 30;
+
+/// The first place of each name, by the name's number among the strings of the file.
+pub type Firsts = HashMap<u32, u32>;
+
+/// Of each definition the first places of the names of its variants, where it is an enum with many.
 #[derive(Drop)]
 pub struct VariantNames {
-    /// The numbers of these enums, which ascend.
-    pub defs: List<u32>,
-    /// Of each of them the names of its variants.
-    pub names: List<PathIndex>,
+    pub by_def: List<Option<Box<Firsts>>>,
 }
 
-fn names_of(alloc: Global, variants: &[Variant]) -> Result<PathIndex, OutOfMemory>
-    ensures { IfOk result (λ names. names ≡ map name_of variants.now) }
+/// Puts a place behind a number that has none yet.
+fn put_first(firsts: &mut Firsts, number: u32, place: u32) -> Result<(), OutOfMemory>
+    ensures { OnOk result ((q : ℕ) → get nat_eq firsts.new q ≡ or_else (get nat_eq firsts.old q) (place_if (nat_eq number q) place)) }
 {
-    let mut names = PathIndex::new(alloc);
-    for variant in variants {
-        let added = names.with(variant.name.as_slice())?;
-        names = added.index;
+    if !firsts.contains_key(&number) {
+        firsts.insert(number, place)?;
     }
-    Ok(names)
+    Ok(())
 }
 
-/// The place of a number in numbers that ascend. (That it is found where it is there is said by no clause: else variants are gone through.)
-fn place_of(numbers: &[u32], number: u32) -> Option<usize>
-    ensures { IfSome result (λ place. slice_get numbers.now place ≡ Some number) }
+/// The first places of the names of variants. None where a name isn't among the strings.
+fn firsts_in(
+    alloc: Global,
+    strings: &Names,
+    variants: &[Variant],
+) -> Result<Option<Firsts>, OutOfMemory>
+    ensures { IfOk result (λ found. IfSome found (λ firsts. AreFirsts strings.now firsts (map name_of variants.now))) }
 {
-    let mut low = 0;
-    let mut high = numbers.len();
-    'halves: while low < high {
-        let middle = low + (high - low) / 2;
-        if numbers[middle] < number {
-            low = middle + 1;
-        } else {
-            high = middle;
+    if variants.len() >= MOST_VARIANTS {
+        return Err(OutOfMemory);
+    }
+    let mut firsts = HashMap::with_capacity(alloc, variants.len())?;
+    for place in 0..variants.len() {
+        match strings.find(variants[place].name.as_slice()) {
+            Some(number) => put_first(&mut firsts, number, place as u32)?,
+            None => return Ok(None),
         }
     }
-    if *numbers.get(low)? == number {
-        Some(low)
-    } else {
-        None
-    }
+    Ok(Some(firsts))
 }
 
 fn has_many(def: &Def) -> bool
@@ -58,47 +64,61 @@ fn has_many(def: &Def) -> bool
     def.is_enum && def.variants.len() > FEW
 }
 
+/// What is kept of a definition.
+fn kept_of(
+    alloc: Global,
+    strings: &Names,
+    def: &Def,
+) -> Result<Option<Box<Firsts>>, OutOfMemory>
+    ensures { IfOk result (λ kept. (trees : ListOf Tree) → IsKept strings.now (option_map (λ firsts. firsts.value) kept) (def_of trees def.now)) }
+{
+    if !has_many(def) {
+        return Ok(None);
+    }
+    match firsts_in(alloc, strings, def.variants.as_slice())? {
+        Some(firsts) => {
+            let kept = Box::new(alloc, firsts)?;
+            Ok(Some(kept))
+        }
+        None => Ok(None),
+    }
+}
+
+fn at_number(firsts: &Firsts, number: u32) -> Option<u32>
+    ensures { result ≡ get nat_eq firsts.now number }
+{
+    firsts.get(&number).copied()
+}
+
+/// The first place of a name among those that are kept.
+pub fn first_place(strings: &Names, firsts: &Firsts, name: &[u8]) -> Option<u32>
+    ensures { result ≡ place_of strings.now firsts.now name.now }
+{
+    match strings.find(name) {
+        Some(number) => at_number(firsts, number),
+        None => None,
+    }
+}
+
 impl VariantNames {
-    /// Puts the names of an enum's variants at the end, if it has many.
-    fn put(&mut self, alloc: Global, defs: &[Def], at: usize) -> Result<(), OutOfMemory>
-        requires there { at < length defs.now }
-        requires paired { length self.old.defs ≡ length self.old.names }
-        requires kept { (trees : ListOf Tree) → AreVariantNames self.old (map (def_of trees) defs.now) }
-        ensures paired { OnOk result (length self.new.defs ≡ length self.new.names) }
-        ensures kept { OnOk result ((trees : ListOf Tree) → AreVariantNames self.new (map (def_of trees) defs.now)) }
+    /// The names of the variants of all definitions.
+    pub fn new(alloc: Global, strings: &Names, defs: &[Def]) -> Result<VariantNames, OutOfMemory>
+        ensures { IfOk result (λ kept. (trees : ListOf Tree) → AreVariantNames strings.now kept (map (def_of trees) defs.now)) }
     {
-        let def = &defs[at];
-        if !has_many(def) {
-            return Ok(());
+        let mut by_def = List::with_capacity(alloc, defs.len())?;
+        for def in defs {
+            by_def.push(kept_of(alloc, strings, def)?)?;
         }
-        if at > u32::MAX as usize {
-            return Err(OutOfMemory);
-        }
-        let names = names_of(alloc, def.variants.as_slice())?;
-        self.defs.push(at as u32)?;
-        self.names.push(names)?;
-        Ok(())
+        Ok(VariantNames { by_def })
     }
 
-    /// The names of the variants of all enums that have many.
-    pub fn new(alloc: Global, defs: &[Def]) -> Result<VariantNames, OutOfMemory>
-        ensures { IfOk result (λ names. (trees : ListOf Tree) → AreVariantNames names (map (def_of trees) defs.now)) }
+    /// What is kept of the definition with a number.
+    pub fn of(&self, def: u32) -> Option<&Firsts>
+        ensures { option_copied result ≡ kept_at self.now def }
     {
-        let mut found = VariantNames {
-            defs: List::new(alloc),
-            names: List::new(alloc),
-        };
-        for at in 0..defs.len() {
-            found.put(alloc, defs, at)?;
+        match self.by_def.get(def as usize)? {
+            Some(firsts) => Some(firsts.as_ref()),
+            None => None,
         }
-        Ok(found)
-    }
-
-    /// The names of the variants of an enum, if they are kept.
-    pub fn of(&self, def: u32) -> Option<&PathIndex>
-        ensures { IfSome result (λ names. IsNamesAt self.now def names.now) }
-    {
-        let place = place_of(self.defs.as_slice(), def)?;
-        self.names.get(place)
     }
 }

@@ -76,7 +76,7 @@ fn read_function(
 ) -> Result<ReadFunction, OutOfMemory>
     ghost names: { n.Names }
     requires knows { Knows strings.now paths.now draft.old.program names }
-    requires variants { AreVariantNames variants.now names.defs }
+    requires variants { AreVariantNames strings.now variants.now names.defs }
     ensures function { IfOk result (λ read. function_of (trees_of draft.new.program.types) read.function ≡ function_named names (fn_rule text.now)) }
     ensures inside { IfOk result (λ read. IsTrue (function_below (length draft.new.program.types) read.function)) }
     ensures lines { IfOk result (λ read. read.lines ≡ fn_lines (lined_fn line text.now)) }
@@ -133,7 +133,7 @@ fn read_item(
 ) -> Result<(), OutOfMemory>
     ghost names: { n.Names }
     requires knows { Knows strings.now paths.now draft.old.program names }
-    requires variants { AreVariantNames variants.now names.defs }
+    requires variants { AreVariantNames strings.now variants.now names.defs }
     requires inside { IsTrue (list_all (function_below (length draft.old.program.types)) found.old.functions) }
     ensures functions { OnOk result (map (function_of (trees_of draft.new.program.types)) found.new.functions
         ≡ map (function_of (trees_of draft.old.program.types)) found.old.functions ++ function_in names (item_of (lined_item_at line part.now))) }
@@ -165,7 +165,7 @@ pub fn read_functions(
 ) -> Result<ReadFunctions, OutOfMemory>
     ghost names: { n.Names }
     requires knows { Knows strings.now paths.now draft.old.program names }
-    requires variants { AreVariantNames variants.now names.defs }
+    requires variants { AreVariantNames strings.now variants.now names.defs }
     ensures functions { IfOk result (λ found. map (function_of (trees_of draft.new.program.types)) found.functions ≡ functions_in names (rules_of items)) }
     ensures inside { IfOk result (λ found. IsTrue (list_all (function_below (length draft.new.program.types)) found.functions)) }
     ensures lines { IfOk result (λ found. found.lines ≡ each fn_lines_in (map lined_item items)) }

@@ -62,7 +62,7 @@ fn resolve_items(
         def_lines,
         outside_lines,
     } = front;
-    let variants = VariantNames::new(alloc, draft.program.defs.as_slice())?;
+    let variants = VariantNames::new(alloc, strings, draft.program.defs.as_slice())?;
     let found = read_functions(alloc, strings, &paths, &variants, &mut draft, items)?;
     if let Some(fault) = draft.notes.first() {
         return Err(Unresolved::Names(fault));

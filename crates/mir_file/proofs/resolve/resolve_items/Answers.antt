@@ -36,7 +36,7 @@ pub read_functions-requires-clause-variants : goal.read_functions-requires-claus
 read_functions-requires-clause-variants c =
     let front = rw c.as_slice.ensures at c.in_ok-front.ensures in
     let trees = trees_of c.in_ok-front.front.draft.program.types in
-    subst (AreVariantNames c.in_ok-variants.variants) (ap (map (def_of trees)) c.as_slice-2.ensures ∙ front.defs) (c.in_ok-variants.ensures trees)
+    subst (AreVariantNames c.args.strings.now c.in_ok-variants.variants) (ap (map (def_of trees)) c.as_slice-2.ensures ∙ front.defs) (c.in_ok-variants.ensures trees)
 
 pub returns-clause-named : goal.returns-clause-named
 returns-clause-named c =

@@ -1,8 +1,0 @@
-use Rattle.std.proofs.Common.{◌≤◌, ◌-◌, length}
-use Rattle.mir_bodies.proofs.variants.place_of.Given as goal
-
-abbrev pub invariant-halves : goal.invariant-halves
-invariant-halves l = l.high ≤ length l.numbers
-
-abbrev pub decreases-halves : goal.decreases-halves
-decreases-halves l = l.high - l.low
