@@ -60,9 +60,9 @@ numbers_tell strings t u k q at_t at_u =
     both_ways (bytes_eq t u) (nat_eq k q)
     (λ e. eq-eqb k q (some_same k q (sym at_t ∙ (ap (place_in strings) (same-text t u e) ∙ at_u))))
     (λ e.
-      let texts : t ∷ [] ≡ u ∷ [] = sym (again_view strings [] t k at_t) ∙ (ap (λ n. string_at strings n ∷ []) (eqb-true k q e) ∙ again_view strings [] u q at_u) in
-      let same : t ≡ u = cc in
-      (bytes_eq-Decides t u).1 same)
+    let texts : t ∷ [] ≡ u ∷ [] = sym (again_view strings [] t k at_t) ∙ (ap (λ n. string_at strings n ∷ []) (eqb-true k q e) ∙ again_view strings [] u q at_u) in
+    let same : t ≡ u = cc in
+    (bytes_eq-Decides t u).1 same)
 
 other_text : (strings : List (List ℕ)) (t u : List ℕ) (k : ℕ) → place_in strings t ≡ Some k → place_in strings u ≡ None → bytes_eq t u ≡ false
 other_text strings t u k at_t none =

@@ -2,8 +2,8 @@
 //!
 //! - `Locals`: the locals that a function declares, each with the id of its type, seen as the list of declarations; a local has the type of
 //!   its first one (`specs/Locals.antt`). `Labels`: the labels of its blocks.
-//! - `VariantNames`: of each enum with more than 16 variants their names, by an index, so that a use of a variant doesn't go through them
-//!   (`kept_names`, `specs/Variants.antt`).
+//! - `VariantNames`: of each enum with more than 16 variants the first place of each name, by the name's number, so that a use of a variant
+//!   doesn't go through them (`AreVariantNames`, `specs/Variants.antt`).
 //! - `Scope`: what names in a body mean. A contract speaks of the names, the locals and the labels themselves, a `Sense`, and `Tells` says that
 //!   a scope over a program tells them (`specs/Scope.antt`).
 //! - `read_place`, `read_operand`, `read_rvalue`, `read_stmt`, `read_term`: the part that a tree names (`place_named` and its kin of

@@ -65,11 +65,7 @@ fn has_many(def: &Def) -> bool
 }
 
 /// What is kept of a definition.
-fn kept_of(
-    alloc: Global,
-    strings: &Names,
-    def: &Def,
-) -> Result<Option<Box<Firsts>>, OutOfMemory>
+fn kept_of(alloc: Global, strings: &Names, def: &Def) -> Result<Option<Box<Firsts>>, OutOfMemory>
     ensures { IfOk result (λ kept. (trees : ListOf Tree) → IsKept strings.now (option_map (λ firsts. firsts.value) kept) (def_of trees def.now)) }
 {
     if !has_many(def) {
@@ -101,7 +97,7 @@ pub fn first_place(strings: &Names, firsts: &Firsts, name: &[u8]) -> Option<u32>
 }
 
 impl VariantNames {
-    /// The names of the variants of all definitions.
+    /// What is kept of all definitions.
     pub fn new(alloc: Global, strings: &Names, defs: &[Def]) -> Result<VariantNames, OutOfMemory>
         ensures { IfOk result (λ kept. (trees : ListOf Tree) → AreVariantNames strings.now kept (map (def_of trees) defs.now)) }
     {

@@ -1,4 +1,4 @@
-use Rattle.std.proofs.Common.{◌∙◌, ap, sym}
+use Rattle.std.proofs.Common.{◌∙◌}
 use Rattle.mir_bodies.specs.Variants.{kept}
 use Rattle.mir_bodies.proofs.VariantsKept.{kept_found}
 use Rattle.mir_bodies.proofs.place.variant_of_def.Goals as goal
