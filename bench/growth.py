@@ -135,11 +135,6 @@ def variants(n):
 
 
 @family
-def many_variants_behind_a_long_name(n):
-    return f"enum {'a' * n * 4} {{" + ", ".join(f"v{place}" for place in range(n)) + "}"
-
-
-@family
 def small_enums(n):
     return "".join(f"enum a{place} {{ v, w(u8) }}\n" for place in range(n))
 
