@@ -12,10 +12,13 @@ mod facts;
 mod flow;
 mod places;
 mod rows;
+mod scalar;
 mod sight;
 #[cfg(test)]
 mod tests;
 
 pub use cell::{Cell, Known};
+pub use effects::taken_arm;
 pub use facts::Facts;
 pub use rows::{ConstRows, consts};
+pub use scalar::{scalar_of, scalar_ty};

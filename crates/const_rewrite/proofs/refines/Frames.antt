@@ -1,0 +1,264 @@
+-- The frames of the folded body: how they are related, frames that wait, and returns to them.
+use Rattle.std.proofs.Common.{◌≡◌, ◌⊎◌, inl, inr, refl, sym, ap, ◌∙◌, subst, ℕ, ◌<◌, ◌≤◌, Bool, true, false, nat_eq, ◌&&◌, if◌then◌else◌, List, [], ◌∷◌, ◌++◌, length, take, Option, Some, None, slice_get, option_map, arith}
+use Rattle.mir_syntax.specs.Tree.{Tree}
+use Rattle.mir_syntax.specs.Shapes.{Shape}
+use Rattle.mir_syntax.specs.Crate.{TypedBlock}
+use Rattle.mir_semantics.specs.Values.{Addr, Value, put}
+use Rattle.mir_semantics.specs.Memory.{Memory, local_at, write, open_frame, close_frame}
+use Rattle.mir_semantics.specs.Step.{Dest, Dropping, Control, State, Next, new_slots, destroyed, go_on, return_to}
+use Rattle.mir_renaming.specs.Renaming.{Renaming, SomeRel, Sub, RootOf}
+use Rattle.mir_syntax.proofs.Binds.{bind_some, some_bind}
+use Rattle.mir_renaming.proofs.Memory.{same_or_not, root_or_not, write_same, write_other}
+use Rattle.mir_renaming.proofs.Frames.{open_same, close_same, close_other, new_control}
+use Rattle.mir_renaming.proofs.Ghosts.{value_mono}
+use Rattle.mir_renaming.proofs.Slots.{slots_rel, value_in}
+use Rattle.mir_renaming.proofs.Statements.{Linked, ValuesRel}
+use Rattle.mir_renaming.proofs.Stores.{pair_parts, store_split}
+use Rattle.mir_renaming.proofs.Types.{TypeMap, AddrTy, HasTy, MemTy}
+use Rattle.mir_relate.specs.Alike.{Same}
+use Rattle.mir_relate.specs.Leaves.{Leaves}
+use Rattle.mir_relate.specs.Frames.{Change, Pass, lowest, DestsRel, opened, Below}
+use Rattle.mir_relate.specs.Pass.{GentleTo, Valids, KeptLaw, FrameLaws, Goes, Related}
+use Rattle.mir_relate.proofs.Leaves.{some_val}
+use Rattle.mir_relate.proofs.Living.{Holds, Placed, living, living_at, living_low, living_near, living_once, living_linked, living_lent, holds_kept}
+use Rattle.mir_relate.proofs.Mild.{gentle_on}
+use Rattle.mir_relate.proofs.Near as near
+use Rattle.mir_relate.proofs.Opens.{opened_up}
+use Rattle.mir_relate.proofs.Single.{Stand, stand_kept, stand_begins, back_core, knows_waiting}
+use Rattle.mir_relate.proofs.Stacks.{dests_up}
+use Rattle.escape_info.specs.Borrowed.{borrowed}
+use Rattle.const_flow.specs.Facts.{Facts, after_all}
+use Rattle.const_flow.specs.ConstAt.{Reached, text, first_facts}
+use Rattle.const_flow.specs.Holding.{IsSound}
+use Rattle.const_flow.proofs.sound.Starts.{first_holds}
+use Rattle.const_flow.proofs.sound.Points.{holds_below, same_holds, take_zero}
+use Rattle.const_flow.proofs.sound.Related.{BodyHolds}
+use Rattle.const_rewrite.specs.Folded.{folded_block}
+
+-- the body is folded by facts that hold along its edges
+pub record Folds (X : Change) (xs : List Reached) : Type 0 where
+  pub same_locals : X.body2.locals ≡ X.body1.locals
+  pub blocks : (i : ℕ) (k : TypedBlock) (x : Reached) → slice_get X.body1.blocks i ≡ Some k → slice_get xs i ≡ Some x → slice_get X.body2.blocks i ≡ Some (folded_block (text X.source.shapes X.body1) k x)
+  pub sound : IsSound X.source.shapes X.body1 xs
+
+-- ---- renamings and memories
+
+-- all locals of a frame
+abbrev pub all : ℕ → Bool
+all x = true
+
+living_up : (j j' : Renaming) (f2 f1 : ℕ) → Sub j j' → Sub (living j f2 f1 all) (living j' f2 f1 all)
+living_up j j' f2 f1 up h x r e = go (nat_eq f1 h && true) e
+  where
+    go : (b : Bool) → (if b then Some (f2, x) else j h x) ≡ Some r → (if b then Some (f2, x) else j' h x) ≡ Some r
+    go true e = e
+    go false e = up h x r e
+
+pub holds_linked : (j : Renaming) (f2 f1 : ℕ) (p : Placed j f2 f1) (m2 m1 : Memory) → Linked j (living j f2 f1 all) m2 m1 → Holds j f2 f1 all m2 m1
+holds_linked j f2 f1 p m2 m1 l = record {
+  at = λ x v none a e. l.mem.at f1 x f2 x (living_at j f2 f1 p all x refl) v e;
+  room = λ x v none e. (let (w, g, r) = l.mem.at f1 x f2 x (living_at j f2 f1 p all x refl) v e in (w, g));
+}
+
+-- the same write to memories that agree at a local
+write_alike : (m m' : Memory) (a : Addr) (v : Value) (f x : ℕ) → local_at m' f x ≡ local_at m f x → local_at (write m' a v) f x ≡ local_at (write m a v) f x
+write_alike m m' a v f x e = go (root_or_not a f x)
+  where
+    go : RootOf a f x ⊎ (f ≡ a.frame → x ≡ a.local → ⊥) → local_at (write m' a v) f x ≡ local_at (write m a v) f x
+    go (inl r) = write_same m' a v f x r ∙ ap (option_map (put a.path v)) e ∙ sym (write_same m a v f x r)
+    go (inr n) = write_other m' a v f x n ∙ e ∙ sym (write_other m a v f x n)
+
+closed_ty : (D : List Shape) (G : TypeMap) (m : Memory) (n : ℕ) → MemTy D G m → MemTy D G (close_frame m n)
+closed_ty D G m n k = record { at = λ f x t v g e. go f x t v g e (same_or_not f n) }
+  where
+    go : (f x : ℕ) (t : Tree) (v : Value) → G f x ≡ Some t → local_at (close_frame m n) f x ≡ Some v → ((nat_eq f n ≡ true) × (f ≡ n)) ⊎ ((nat_eq f n ≡ false) × (f ≡ n → ⊥)) → HasTy D G t v
+    go f x t v g e (inl p) = absurd (let z : local_at (close_frame m n) f x ≡ None = ap (λ i. local_at (close_frame m n) i x) p.1 ∙ close_same m n x in grind arith)
+    go f x t v g e (inr p) = k.at f x t v g (sym (close_other m n f x p.1) ∙ e)
+
+module _ (X : Change) (xs : List Reached) where
+  abbrev D : List Shape
+  D = X.source.shapes
+
+  abbrev lent : ℕ → Bool
+  lent = borrowed X.source.shapes X.body1
+
+  -- a borrowed local is lent from the start, and stands for itself
+  abbrev pub place : ℕ → Option ℕ
+  place x = if lent x then Some x else None
+
+  pub place_lent : (x : ℕ) → lent x ≡ true → place x ≡ Some x
+  place_lent x e = ap (λ b. if b then Some x else None) e
+
+  pub place_none : (x : ℕ) → lent x ≡ false → place x ≡ None
+  place_none x e = ap (λ b. if b then Some x else None) e
+
+  pub place_some : (x y : ℕ) → place x ≡ Some y → (lent x ≡ true) × (x ≡ y)
+  place_some x y e = go (lent x) refl
+    where
+      go : (b : Bool) → lent x ≡ b → (lent x ≡ true) × (x ≡ y)
+      go true l = (l, some_val (sym (place_lent x l) ∙ e))
+      go false l = absurd (let z : None ≡ Some y = sym (place_none x l) ∙ e in grind arith)
+
+  -- both are as far in the block
+  abbrev pub AsFar : ℕ → Control → Control → Type 0
+  AsFar n c2 c1 = c2.at ≡ c1.at
+
+  abbrev pub Standing : Renaming → Control → Control → Type 0
+  Standing = Stand X.f place AsFar 0
+
+  abbrev pub Known : ℕ → Memory → Facts → Type 0
+  Known = BodyHolds X.source.shapes X.body1
+
+  -- a frame that runs: its locals are related, and the facts of its point hold
+  pub record Runs (j : Renaming) (c2 c1 : Control) (m2 m1 : Memory) : Type 0 where
+    pub stand : Standing j c2 c1
+    pub locals : Holds j c2.frame c1.frame all m2 m1
+    pub facts : Facts
+    pub reached : slice_get xs c1.block ≡ Some (Some facts)
+    pub known : (k : TypedBlock) → slice_get X.body1.blocks c1.block ≡ Some k → Known c1.frame m1 (after_all (text X.source.shapes X.body1) (take c1.at k.stmts) facts)
+
+  -- one that waits at the start of a block: its facts hold whatever comes to its destination
+  pub record Waits (j : Renaming) (d2 d1 : Option Dest) (c2 c1 : Control) (m2 m1 : Memory) : Type 0 where
+    pub stand : Standing j c2 c1
+    pub locals : Holds j c2.frame c1.frame all m2 m1
+    pub facts : Facts
+    pub reached : slice_get xs c1.block ≡ Some (Some facts)
+    pub start : c1.at ≡ 0
+    pub dests : DestsRel (living j c2.frame c1.frame all) d1 d2
+    pub later : (d : Dest) → d1 ≡ Some d → (v : Value) → Known c1.frame (write m1 d.addr v) facts
+
+  -- one frame for one frame
+  abbrev pub pass : Pass
+  pass = record {
+    own = λ n j c2 c1 gs m2 m1. (gs ≡ []) × Runs j c2 c1 m2 m1;
+    waits = λ j d2 d1 c2 c1 gs m2 m1. (gs ≡ []) × Waits j d2 d1 c2 c1 m2 m1;
+    place = place;
+  }
+
+  pub placed : (j : Renaming) (c2 c1 : Control) → Standing j c2 c1 → Placed j c2.frame c1.frame
+  placed j c2 c1 st = record { self = λ x g y e. self x g y e (lent x) refl; only = λ h x y e. (let (p, q) = st.only h x y e in (p, (place_some x y q).1)) }
+    where
+      self : (x g y : ℕ) → j c1.frame x ≡ Some (g, y) → (b : Bool) → lent x ≡ b → (g ≡ c2.frame) × (y ≡ x)
+      self x g y e true l = pair_parts c2.frame x g y (sym (st.roots x x (place_lent x l)) ∙ e)
+      self x g y e false l = absurd (let z : None ≡ Some (g, y) = sym (st.none x (place_none x l)) ∙ e in grind arith)
+
+  -- a frame at the start of a block
+  pub starts : (j : Renaming) (c2 c1 : Control) (m2 m1 : Memory) (fs : Facts) → Standing j c2 c1 → c1.at ≡ 0 → Holds j c2.frame c1.frame all m2 m1 → slice_get xs c1.block ≡ Some (Some fs) → Known c1.frame m1 fs → Runs j c2 c1 m2 m1
+  starts j c2 c1 m2 m1 fs st at h e known = record {
+    stand = st;
+    locals = h;
+    facts = fs;
+    reached = e;
+    known = λ k ek. subst (λ ss. Known c1.frame m1 (after_all (text X.source.shapes X.body1) ss fs)) (sym (ap (λ a. take a k.stmts) at ∙ take_zero k.stmts)) known;
+  }
+
+  -- ---- frames that wait
+
+  waits_kept : (G : TypeMap) (j j' : Renaming) (d2 d1 : Option Dest) (c2 c1 : Control) (n2 n1 : ℕ) (m2' m1' m2 m1 : Memory) → c1.frame < n1 → c2.frame < n2 → Leaves D G j j' n2 n1 m2' m1' m2 m1 → Waits j d2 d1 c2 c1 m2 m1 → Waits j' d2 d1 c2 c1 m2' m1'
+  waits_kept G j j' d2 d1 c2 c1 n2 n1 m2' m1' m2 m1 l1 l2 l w = record {
+    stand = stand_kept X.f place AsFar D G j j' 0 c2 c1 n2 n1 m2' m1' m2 m1 l1 l2 l w.stand;
+    locals = holds_kept j c2.frame c1.frame (placed j c2 c1 w.stand) all D G j' n2 n1 m2' m1' m2 m1 l1 l2 l w.locals;
+    facts = w.facts;
+    reached = w.reached;
+    start = w.start;
+    dests = dests_up (living j c2.frame c1.frame all) (living j' c2.frame c1.frame all) (living_up j j' c2.frame c1.frame l.up) d1 d2 w.dests;
+    later = λ d e v. same_holds D X.body1.locals c1.frame (λ x. lent x ≡ false) (write m1 d.addr v) (write m1' d.addr v) (λ x free. write_alike m1 m1' d.addr v c1.frame x (l.source c1.frame x l1 (w.stand.none x (place_none x free)))) w.facts (w.later d e v);
+  }
+
+  pub kept_law : KeptLaw X pass
+  kept_law G j j' d2 d1 c2 c1 gs n2 n1 m2' m1' m2 m1 ks l1 l2 lo l ge (e, w) = (e, waits_kept G j j' d2 d1 c2 c1 n2 n1 m2' m1' m2 m1 l1 l2 l w)
+
+  module _ (folds : Folds X xs) where
+    -- ---- a call
+
+    slots_same : (j : Renaming) (vs ws : List Value) → ValuesRel j vs ws → (x : ℕ) (v : Value) → slice_get (new_slots D X.body1.locals vs) x ≡ Some v → SomeRel j v (slice_get (new_slots D X.body2.locals ws) x)
+    slots_same j vs ws h x v e = subst (λ ts. SomeRel j v (slice_get (new_slots D ts ws) x)) (sym folds.same_locals) (value_in j (new_slots D X.body1.locals vs) (new_slots D X.body1.locals ws) x v (slots_rel j D X.body1.locals vs ws h) e)
+
+    begins : (j : Renaming) (k2 k1 : ℕ) (d2 d1 : Option Dest) (m2 m1 : Memory) (vs ws : List Value) → ValuesRel j vs ws → length vs ≤ X.body1.args → ((x : ℕ) → j k1 x ≡ None) → ((h x g y : ℕ) → j h x ≡ Some (g, y) → g < k2) → Runs (opened j k2 k1 place) (new_control X.f k2 d2) (new_control X.f k1 d1) (open_frame m2 k2 (new_slots D X.body2.locals ws)) (open_frame m1 k1 (new_slots D X.body1.locals vs))
+    begins j k2 k1 d2 d1 m2 m1 vs ws hv few fresh1 fresh2 =
+        let (fs, at, below) = folds.sound.first in
+        let m1' = open_frame m1 k1 (new_slots D X.body1.locals vs) in
+        starts (opened j k2 k1 place) (new_control X.f k2 d2) (new_control X.f k1 d1) (open_frame m2 k2 (new_slots D X.body2.locals ws)) m1' fs
+        (stand_begins X.f place AsFar j k2 k1 d2 d1 0 fresh1 fresh2 refl)
+        refl
+        (record { at = λ x v none a e. here x v e; room = λ x v none e. (let (w, g, r) = here x v e in (w, g)) })
+        at
+        (holds_below D X.body1.locals k1 (λ x. lent x ≡ false) m1' (first_facts D X.body1) fs below (first_holds D X.body1 k1 m1 vs few))
+      where
+        here : (x : ℕ) (v : Value) → local_at (open_frame m1 k1 (new_slots D X.body1.locals vs)) k1 x ≡ Some v → SomeRel (opened j k2 k1 place) v (local_at (open_frame m2 k2 (new_slots D X.body2.locals ws)) k2 x)
+        here x v e =
+            let (w, g, r) = slots_same j vs ws hv x v (sym (open_same m1 k1 (new_slots D X.body1.locals vs) x) ∙ e) in
+            (w, open_same m2 k2 (new_slots D X.body2.locals ws) x ∙ g, value_mono j (opened j k2 k1 place) (opened_up j k2 k1 place fresh1 fresh2) v w r)
+
+    -- ---- another function returns
+
+    module _ (V : Valids X) (Inv : State → Type 0) where
+      -- a frame of another function gives back values to a frame that waits
+      record Return : Type 1 where
+        pub n : ℕ
+        pub s2 : State
+        pub s1 : State
+        pub r : Related X pass V Inv n s2 s1
+        pub m2 : Memory
+        pub m1 : Memory
+        pub c2 : Control
+        pub c1 : Control
+        pub ds : List Control
+        pub cs2 : List Control
+        pub v : Value
+        pub w : Value
+        pub callers : s1.callers ≡ c1 ∷ ds
+        pub linked : Linked r.core.lent r.core.lent m2 m1
+        pub typed : MemTy X.source.shapes r.typed1.types m1
+        pub below : Below X pass r.core.lent c2.dest c1.dest c2.frame c1.frame cs2 ds m2 m1
+        pub older1 : c1.frame < s1.top.frame
+        pub older2 : c2.frame < s2.top.frame
+        pub same : Same r.core.lent v w
+
+      module _ (now : Return) (x : Next) where
+        open now use {n, s2, s1, r, m2, m1, c2, c1, ds, cs2, v, w, older1 as l1, older2 as l2}
+
+        abbrev j : Renaming
+        j = r.core.lent
+
+        abbrev G : TypeMap
+        G = r.typed1.types
+
+        goes_back : (d2 d1 : Option Dest) → Waits j d2 d1 c2 c1 m2 m1 → ((d : Dest) → d1 ≡ Some d → (t : Tree) × AddrTy D G d.addr t) → return_to D s1 m1 d1 (c1 ∷ ds) v ≡ Some x → GentleTo X G c1.frame m1 x → Goes X pass (return_to D s2 m2 d2 (c2 ∷ cs2) w) x
+        unfolding return_to destroyed
+        goes_back None None wt dt e ge = absurd (let (d, e1, k1) = bind_some e in let z : ◌≡◌ {A = Option Dropping} None (Some d) = sym wt.stand.calm ∙ e1 in grind arith)
+        goes_back (Some d2) (Some d1) wt dt e ge =
+            let (t, at) = dt d1 refl in
+            let (m1', e1, k1) = bind_some e in
+            let f2 = c2.frame in
+            let f1 = c1.frame in
+            let p = placed j c2 c1 wt.stand in
+            let K = living j f2 f1 all in
+            let low = living_low j f2 f1 p all in
+            let nears = living_near j f2 f1 p all in
+            let onces : (x y h x' : ℕ) (v : Value) → K f1 x ≡ Some (f2, y) → K h x' ≡ Some (f2, y) → local_at m1 h x' ≡ Some v → (h ≡ f1) × (x' ≡ x) = λ x y h x' v e e' q. living_once j f2 f1 p all x y h x' v m1 e e' q in
+            let ks = knows_waiting X pass V Inv n s2 s1 r c1 ds now.callers in
+            let lok = ks.0 X.body1 (ap (slice_get X.source.bodies) wt.stand.function1 ∙ X.at1) in
+            let bok = V.valid1.blank_ok G in
+            let ts1 = X.body1.locals in
+            let q = near.near_start D ts1 ts1 f1 f2 j K low G bok lok V.needs f2 f1 m2 m1 nears onces (living_linked j f2 f1 p all m2 m1 now.linked wt.locals) now.typed in
+            let (m2', g1, l', lv) = near.store_near D ts1 ts1 f1 f2 j K low G bok lok V.needs f2 f1 m2 m1 nears onces m2 m1 m1' d1 d2 t v w q wt.dests at now.same e1 in
+            let (old, eo, same) = store_split D m1 m1' d1 v e1 in
+            let runs = starts j c2 c1 m2' m1' wt.facts wt.stand wt.start (holds_linked j f2 f1 p m2' m1' l') wt.reached (subst (λ m. Known f1 m wt.facts) same (wt.later d1 refl v)) in
+            subst (λ o. Goes X pass o x) (sym (some_bind _ g1 refl)) (subst (λ z. Goes X pass (go_on (record s2 { callers = cs2 }) m2' c2) z) (some_val k1) (0, _, refl, back_core X pass V Inv kept_law n s2 s1 r m2 m1 m2' m1' c2 c1 ds cs2 ks.1 now.below l1 l2 (living_lent j f2 f1 p all m2' m1' l') lv (gentle_on X G f1 m1 (record s1 { memory = m1'; top = c1; callers = ds }) x ge k1 (omega arith)) 0 (refl, runs)))
+        goes_back None (Some d1) wt dt e ge = absurd wt.dests
+        goes_back (Some d2) None wt dt e ge = absurd wt.dests
+
+      resumed : (n : ℕ) (s2 s1 : State) (r : Related X pass V Inv n s2 s1) (m2 m1 : Memory) (c2 c1 : Control) (gs ds cs2 : List Control) (v w : Value) (x : Next) → s1.callers ≡ c1 ∷ (gs ++ ds) → MemTy D r.typed1.types m1 → Linked r.core.lent r.core.lent m2 m1 → pass.waits r.core.lent s2.top.dest s1.top.dest c2 c1 gs m2 m1 → Below X pass r.core.lent c2.dest (lowest c1 gs).dest c2.frame (lowest c1 gs).frame cs2 ds m2 m1 → c1.frame < s1.top.frame → c2.frame < s2.top.frame → ((d : Dest) → s1.top.dest ≡ Some d → (t : Tree) × AddrTy D r.typed1.types d.addr t) → Same r.core.lent v w → return_to D s1 m1 s1.top.dest (c1 ∷ (gs ++ ds)) v ≡ Some x → GentleTo X r.typed1.types c1.frame m1 x → Goes X pass (return_to D s2 m2 s2.top.dest (c2 ∷ cs2) w) x
+      resumed n s2 s1 r m2 m1 c2 c1 [] ds cs2 v w x q ty l (e, wt) be l1 l2 dt hv k ge =
+          goes_back (record { n = n; s2 = s2; s1 = s1; r = r; m2 = m2; m1 = m1; c2 = c2; c1 = c1; ds = ds; cs2 = cs2; v = v; w = w; callers = q; linked = l; typed = ty; below = be; older1 = l1; older2 = l2; same = hv }) x s2.top.dest s1.top.dest wt dt k ge
+      resumed n s2 s1 r m2 m1 c2 c1 (g ∷ gs) ds cs2 v w x q ty l (e, wt) be l1 l2 dt hv k ge = absurd (grind arith)
+
+      pub frames : FrameLaws X pass V Inv
+      frames = record {
+        kept = kept_law;
+        once = λ x x' y e e'. (let (a, b) = place_some x y e in let (a', b') = place_some x' y e' in b ∙ sym b');
+        slots = λ j vs ws hv few x y e v k. (let (a, b) = place_some x y e in subst (λ y. SomeRel j v (slice_get (new_slots D X.body2.locals ws) y)) b (slots_same j vs ws hv.0 x v k));
+        begins = λ j k2 k1 d2 d1 m2 m1 vs ws hv few f1 f2 l. (0, (refl, begins j k2 k1 d2 d1 m2 m1 vs ws hv.0 few f1 f2));
+        resumes = λ n s2 s1 r m2 m1 c2 c1 gs ds cs2 v w x q q2 p2 p1 l wt be l1 l2 lo dt hv k ge. resumed n s2 s1 r m2 m1 c2 c1 gs ds cs2 v w x q (subst (MemTy D r.typed1.types) (sym p1) (closed_ty D r.typed1.types s1.memory s1.top.frame r.typed1.mem)) l wt be l1 l2 dt hv k ge;
+      }

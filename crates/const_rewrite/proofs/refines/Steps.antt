@@ -1,0 +1,185 @@
+-- A step of a body and of its folded one.
+use Rattle.std.proofs.Common.{◌≡◌, inl, refl, sym, ap, ap₂, ◌∙◌, subst, ℕ, suc, true, List, [], ◌∷◌, ◌++◌, take, Option, Some, None, slice_get, arith}
+use Rattle.mir_syntax.specs.declared.body.Place.{Place}
+use Rattle.mir_syntax.specs.Tree.{Tree}
+use Rattle.mir_syntax.specs.Shapes.{Shape}
+use Rattle.mir_syntax.specs.Crate.{TypedRvalue, TypedStmt, assign, storage_live, storage_dead, set_discriminant, TypedBlock, TypedBody}
+use Rattle.mir_semantics.specs.Values.{Addr, Value}
+use Rattle.mir_semantics.specs.Memory.{Memory}
+use Rattle.mir_semantics.specs.Step.{Here, Dest, Control, State, Next, on, resolve, type_of, guard_of, dest_of, allows, next_stmt, exec, perform, step}
+use Rattle.mir_syntax.proofs.Binds.{bind_some, some_bind}
+use Rattle.mir_rules.specs.Drops.{NoDrops}
+use Rattle.mir_renaming.specs.Renaming.{Renaming}
+use Rattle.mir_renaming.proofs.Ghosts.{Flat}
+use Rattle.mir_renaming.proofs.Items.{step_parts}
+use Rattle.mir_renaming.proofs.Types.{TypeMap, AddrTy, StmtTy, resolve_ty, eval_ty}
+use Rattle.mir_relate.specs.Alike.{GotMemory, Sides}
+use Rattle.mir_relate.specs.Frames.{Change, target, Pass, lowest, Below}
+use Rattle.mir_relate.specs.Pass.{GentleTo, Valids, RvalueMoves, StmtMoves, Laws, Answers, Related}
+use Rattle.mir_relate.specs.Simulation.{keep_on}
+use Rattle.mir_relate.proofs.BodyLaw.{goes_answer}
+use Rattle.mir_relate.proofs.Enter.{goes_by}
+use Rattle.mir_relate.proofs.Kept as kept
+use Rattle.mir_relate.proofs.Leaves.{some_val}
+use Rattle.mir_relate.proofs.Mild.{gentle_on}
+use Rattle.mir_relate.proofs.Own as own
+use Rattle.mir_relate.proofs.Single.{step_is}
+use Rattle.const_flow.specs.Facts.{Facts, after_all}
+use Rattle.const_flow.specs.ConstAt.{Reached, text}
+use Rattle.const_flow.proofs.sound.Points.{take_more}
+use Rattle.const_flow.proofs.sound.Related.{RefsOk, StmtRefsOk, exec_holds}
+use Rattle.const_flow.proofs.sound.Lent.{refs_ok}
+use Rattle.const_rewrite.specs.Folded.{folded_rvalue, folded_stmt, folded_stmts, folded_term}
+use Rattle.const_rewrite.proofs.Blocks.{stmt_there, stmt_gone, block_is}
+use Rattle.const_rewrite.proofs.refines.Frames as frames
+use Rattle.const_rewrite.proofs.refines.Frames.{Folds, Runs, holds_linked}
+use Rattle.const_rewrite.proofs.refines.Moment as moment
+use Rattle.const_rewrite.proofs.refines.Moment.{Moment, Knows}
+use Rattle.const_rewrite.proofs.refines.Values.{folded_evals}
+use Rattle.const_rewrite.proofs.refines.Terms.{term_goes}
+
+dest_parts : (h : Here) (m : Memory) (p : Place) (d : Dest) → dest_of h m p ≡ Some d → (a : Addr) × (t : Tree) × (resolve h m p ≡ Some a) × (type_of h p ≡ Some t) × (record { addr = a; guard = guard_of h.shapes p.proj t } ≡ d)
+unfolding dest_of
+dest_parts h m p d e =
+    let (a, e1, k1) = bind_some e in
+    let (t, e2, k2) = bind_some k1 in
+    (a, t, e1, e2, some_val k2)
+
+module _ {X : Change} {xs : List Reached} {V : Valids X} {Inv : State → Type 0} (now : Moment X xs V Inv) (no_drops : NoDrops X.body1) where
+  open now use {folds, n, s2, s1, r, runs}
+
+  abbrev D : List Shape
+  D = X.source.shapes
+
+  abbrev P : Pass
+  P = frames.pass X xs
+
+  abbrev j : Renaming
+  j = now.r.core.lent
+
+  abbrev G : TypeMap
+  G = now.r.typed1.types
+
+  abbrev f1 : ℕ
+  f1 = now.s1.top.frame
+
+  abbrev f2 : ℕ
+  f2 = now.s2.top.frame
+
+  abbrev ts : List Tree
+  ts = X.body1.locals
+
+  abbrev S : Sides
+  S = moment.S now
+
+  abbrev T : Here
+  T = text X.source.shapes X.body1
+
+  -- ---- a folded statement does what the statement does
+
+  module _ (fs : Facts) (first : Knows now fs s2.memory s1.memory) (m1' : Memory) where
+    abbrev Fits : TypedStmt → Type 0
+    Fits = StmtTy D G (moment.bok now) ts f1 (moment.lok now)
+
+    abbrev As : TypedStmt → TypedStmt → Type 0
+    As = kept.StmtAs D ts ts f1 f2 j (moment.K now) (moment.low now) G (moment.bok now) (moment.lok now) (moment.Q now) (moment.keeps now)
+
+    same_exec : (s : TypedStmt) → As s s → exec S.source s1.memory s ≡ Some m1' → GotMemory (moment.Q now) m1' (exec S.target s2.memory s)
+    same_exec s as' e = kept.exec_as D ts ts f1 f2 j (moment.K now) (moment.low now) G (moment.bok now) (moment.lok now) (moment.Q now) (moment.keeps now) s s as' s2.memory s1.memory m1' (λ u. moment.payloads now) first.near e
+
+    assign_execs : (p : Place) (x : TypedRvalue) → RvalueMoves S.source x → RefsOk D X.body1 x → Fits (assign p x) → exec S.source s1.memory (assign p x) ≡ Some m1' → GotMemory (moment.Q now) m1' (exec S.target s2.memory (assign p (folded_rvalue T fs x)))
+    unfolding exec
+    assign_execs p x mo ok (t, pt, xt) e =
+        let bok = moment.bok now in
+        let lok = moment.lok now in
+        let low = moment.low now in
+        let K = moment.K now in
+        let keeps = moment.keeps now in
+        let (v, e1, k1) = bind_some e in
+        let (d, e2, k2) = bind_some k1 in
+        let (vt, mt) = eval_ty D G bok ts f1 lok s1.memory x t v first.near.typed xt e1 in
+        let (w, g1, h1, q1) = (folded_evals now fs x mo ok (t, xt)).evals s2.memory s1.memory v first e1 in
+        let (c, g2, h2) = kept.dest_as D ts ts f1 f2 j K low G bok lok (moment.Q now) keeps w.1 v.1 p p d (moment.place_self now p) q1.near e2 in
+        let (a, u, r1, r2, r3) = dest_parts S.source v.1 p d e2 in
+        let at : AddrTy D G d.addr t = subst (λ (d : Dest). AddrTy D G d.addr t) r3 (resolve_ty D G bok ts f1 lok v.1 p a t mt pt r1) in
+        let fair : (old : Value) → allows D d.guard old ≡ true → kept.Fair D ts ts f1 f2 j K low G bok lok d.addr t old = subst (λ (d : Dest). (old : Value) → allows D d.guard old ≡ true → kept.Fair D ts ts f1 f2 j K low G bok lok d.addr t old) r3 (λ old yes. kept.dest_fair D ts ts f1 f2 j K low G bok lok (moment.Q now) keeps v.1 p a t old r1 (subst (λ u. allows D (guard_of D p.proj u) old ≡ true) (some_val (sym r2 ∙ pt)) yes)) in
+        let (m2', g3, q3) = kept.store_as D ts ts f1 f2 j K low G bok lok (moment.Q now) keeps w.1 v.1 m1' d c t v.0 w.0 fair h2 at vt h1 q1.near k2 in
+        (m2', some_bind _ g1 (some_bind _ g2 g3), q3)
+
+    stmt_execs : (s : TypedStmt) → StmtMoves S.source s → StmtRefsOk D X.body1 s → Fits s → exec S.source s1.memory s ≡ Some m1' → GotMemory (moment.Q now) m1' (exec S.target s2.memory (folded_stmt T fs s))
+    stmt_execs (assign p x) mo ok ty e = assign_execs p x mo ok ty e
+    stmt_execs (storage_live x) mo ok ty e = same_exec (storage_live x) (record { root = moment.itself now x; ty = refl }) e
+    stmt_execs (storage_dead x) mo ok ty e = same_exec (storage_dead x) (record { root = moment.itself now x; ty = refl }) e
+    stmt_execs (set_discriminant p k) mo ok ty e = same_exec (set_discriminant p k) (moment.place_self now p, refl, mo) e
+
+  -- ---- steps
+
+  module _ (k : TypedBlock) (ek : slice_get X.body1.blocks s1.top.block ≡ Some k) where
+    abbrev fs0 : Facts
+    fs0 = now.runs.facts
+
+    -- what is known where the frame stands
+    abbrev fs : Facts
+    fs = after_all T (take now.s1.top.at k.stmts) now.runs.facts
+
+    abbrev k2 : TypedBlock
+    k2 = record { stmts = folded_stmts T now.runs.facts k.stmts; term = folded_term T (after_all T k.stmts now.runs.facts) k.term }
+
+    at_k : slice_get X.body2.blocks s2.top.block ≡ Some k2
+    at_k = ap (slice_get X.body2.blocks) runs.stand.block ∙ folds.blocks s1.top.block k (Some fs0) ek runs.reached ∙ ap Some (block_is T k fs0)
+
+    target_is : step (target X) s2 ≡ perform (target X) S.target s2 k2.term (slice_get k2.stmts s1.top.at)
+    target_is = step_is (target X) s2 X.body2 k2 (moment.eb2 now) at_k ∙ ap₂ (λ (ls : List Tree) (a : ℕ). perform (target X) (record { shapes = D; locals = ls; frame = f2 }) s2 k2.term (slice_get k2.stmts a)) folds.same_locals runs.stand.here
+
+    first : Knows now fs s2.memory s1.memory
+    first = record { near = moment.start now; known = runs.known k ek }
+
+    stmt_step : (s : TypedStmt) (x : Next) → slice_get k.stmts s1.top.at ≡ Some s → StmtMoves S.source s → StmtTy D G (moment.bok now) ts f1 (moment.lok now) s → perform X.source S.source s1 k.term (Some s) ≡ Some x → GentleTo X G f1 s1.memory x → Answers X P n s2 x
+    unfolding perform
+    stmt_step s x at mo ty e ge =
+        let (m1', e1, q) = bind_some e in
+        let ok = refs_ok D X.body1 s1.top.block s1.top.at k s ek at in
+        let (m2', g1, q2) = stmt_execs fs first m1' s mo ok ty e1 in
+        let after = exec_holds D X.body1 f1 f2 j (moment.K now) (moment.low now) (moment.itself now) (moment.unlent_at now) (moment.lent_at now) s2.memory s1.memory first.near.linked.mem fs first.known s m1' ok e1 in
+        let known : moment.Known now m1' (after_all T (take (suc s1.top.at) k.stmts) fs0) = subst (moment.Known now m1') (sym (take_more T k.stmts s1.top.at s fs0 at)) after in
+        let run : Runs X xs j (next_stmt s2.top) (next_stmt s1.top) m2' m1' = record {
+          stand = moment.moved now (next_stmt s2.top) (next_stmt s1.top) refl refl refl refl runs.stand.block runs.stand.calm (ap suc runs.stand.here);
+          locals = holds_linked j f2 f1 (moment.pl now) m2' m1' q2.linked;
+          facts = fs0;
+          reached = runs.reached;
+          known = λ k' e'. subst (λ (k : TypedBlock). moment.Known now m1' (after_all T (take (suc s1.top.at) k.stmts) fs0)) (some_val (sym ek ∙ e')) known;
+        } in
+        let at2 : slice_get k2.stmts s1.top.at ≡ Some (folded_stmt T fs s) = stmt_there T k.stmts s1.top.at fs0 s at in
+        subst (Answers X P n s2) (some_val q) (1, 0, record s2 { memory = m2'; top = next_stmt s2.top }, ap (keep_on (λ s. Some s)) (target_is ∙ ap (perform (target X) S.target s2 k2.term) at2 ∙ some_bind _ g1 refl), own.own_core X P V Inv (frames.frames X xs folds V Inv) n s2 s1 r [] s1.callers refl (omega arith) now.below 0 m2' m1' (next_stmt s2.top) (next_stmt s1.top) refl refl refl refl (moment.left now m2' m1' q2) (gentle_on X G f1 s1.memory (record s1 { memory = m1'; top = next_stmt s1.top }) x ge q (omega arith)) (refl, run), inl (omega arith))
+
+    end_step : (x : Next) → slice_get k.stmts s1.top.at ≡ None → perform X.source S.source s1 k.term None ≡ Some x → Flat x → GentleTo X G f1 s1.memory x → Answers X P n s2 x
+    unfolding perform
+    end_step x none e fl ge =
+        let none2 : slice_get k2.stmts s1.top.at ≡ None = stmt_gone T k.stmts s1.top.at fs0 none in
+        let eb = moment.eb now in
+        let g = s1.top.function in
+        goes_answer X P n s2 x (goes_by X P _ _ x (target_is ∙ ap (perform (target X) S.target s2 k2.term) none2)
+        (term_goes now k ek none k.term x refl (no_drops.none s1.top.block k ek) (V.terms f1 g X.body1 s1.top.block k eb ek) (V.valid1.terms f1 g X.body1 s1.top.block k eb ek) (V.calls g X.body1 s1.top.block k eb ek) e fl ge))
+
+  pub one_step : (x : Next) → step X.source s1 ≡ Some x → Flat x → GentleTo X G f1 s1.memory x → Answers X P n s2 x
+  one_step x e fl ge =
+      let (bo, k, ebo, ek, q) = step_parts X.source s1 x e in
+      let sb : bo ≡ X.body1 = some_val (sym ebo ∙ moment.eb now) in
+      go k (ap (λ (b : TypedBody). slice_get b.blocks s1.top.block) (sym sb) ∙ ek) (slice_get k.stmts s1.top.at) refl (subst (λ (b : TypedBody). perform X.source (record { shapes = D; locals = b.locals; frame = f1 }) s1 k.term (slice_get k.stmts s1.top.at) ≡ Some x) sb q)
+    where
+      go : (k : TypedBlock) (ek : slice_get X.body1.blocks s1.top.block ≡ Some k) (o : Option TypedStmt) → slice_get k.stmts s1.top.at ≡ o → perform X.source S.source s1 k.term o ≡ Some x → Answers X P n s2 x
+      go k ek None at q = end_step k ek x at q fl ge
+      go k ek (Some s) at q = stmt_step k ek s x at (V.stmts f1 s1.top.function X.body1 s1.top.block k s1.top.at s (moment.eb now) ek at) (V.valid1.stmts G f1 s1.top.function X.body1 s1.top.block k s1.top.at s (moment.eb now) ek at (moment.lok now)) q ge
+
+module _ (X : Change) (xs : List Reached) (folds : Folds X xs) (no_drops : NoDrops X.body1) (V : Valids X) (Inv : State → Type 0) where
+  abbrev pass : Pass
+  pass = frames.pass X xs
+
+  steps_law : (n : ℕ) (s2 s1 : State) (r : Related X pass V Inv n s2 s1) (gs ds : List Control) (x : Next) → s1.callers ≡ gs ++ ds → pass.own n r.core.lent s2.top s1.top gs s2.memory s1.memory → Below X pass r.core.lent s2.top.dest (lowest s1.top gs).dest s2.top.frame (lowest s1.top gs).frame s2.callers ds s2.memory s1.memory → step X.source s1 ≡ Some x → Flat x → GentleTo X r.typed1.types s1.top.frame s1.memory x → Answers X pass n s2 x
+  steps_law n s2 s1 r [] ds x q (e, runs) be k fl ge =
+      let below = subst (λ cs. Below X pass r.core.lent s2.top.dest s1.top.dest s2.top.frame s1.top.frame s2.callers cs s2.memory s1.memory) (sym q) be in
+      one_step {X = X} {xs = xs} {V = V} {Inv = Inv} (record { folds = folds; n = n; s2 = s2; s1 = s1; r = r; runs = runs; below = below }) no_drops x k fl ge
+  steps_law n s2 s1 r (g ∷ gs) ds x q (e, runs) be k fl ge = absurd (grind arith)
+
+  pub laws : ((s s' : State) → Inv s → step X.source s ≡ Some (on s') → Inv s') → ((s : State) (x : Next) → Inv s → step X.source s ≡ Some x → Flat x) → Laws X pass V Inv
+  laws inv_kept flat = record { inv_kept = inv_kept; flat = flat; frames = frames.frames X xs folds V Inv; steps = λ n s2 s1 r gs ds x q lo o be k fl ge. steps_law n s2 s1 r gs ds x q o be k fl ge }
