@@ -4,3 +4,5 @@ pub mod Heights
 pub mod Rising
 pub mod Rows
 pub mod sound
+pub mod WorkedRows
+pub mod Looking

@@ -3,3 +3,5 @@ pub mod Facts
 pub mod ConstAt
 pub mod Order
 pub mod Holding
+pub mod Cells
+pub mod Sights

@@ -6,5 +6,19 @@
 #![tactic(auto)]
 
 mod cell;
+mod edges;
+mod effects;
+mod facts;
+mod flow;
+mod places;
+mod rows;
+mod scalar;
+mod sight;
+#[cfg(test)]
+mod tests;
 
-pub use cell::Cell;
+pub use cell::{Cell, Known};
+pub use effects::taken_arm;
+pub use facts::Facts;
+pub use rows::{ConstRows, consts};
+pub use scalar::{scalar_of, scalar_ty};

@@ -8,6 +8,14 @@
 //! breaks no rule.
 #![tactic(auto)]
 
+mod constant;
+mod fold;
 mod laws;
+mod point;
+mod statement;
+mod terminator;
+#[cfg(test)]
+mod tests;
 
+pub use fold::folded;
 pub use laws::{folded_refines, folded_stays_valid};
