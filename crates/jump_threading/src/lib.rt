@@ -9,6 +9,11 @@
 //! breaks no rule and stays within the limits.
 #![tactic(auto)]
 
+mod edges;
 mod laws;
+#[cfg(test)]
+mod tests;
+mod thread;
 
 pub use laws::{threaded_refines, threaded_stays_valid};
+pub use thread::threaded;
