@@ -1,4 +1,5 @@
 //! The edges that are threaded.
+use crate::thread::Edge;
 use const_flow::{ConstRows, Facts, Known, taken_arm};
 use mir_syntax::{Arm, Block, Body, List, OutOfMemory, Program, Stmt, Term};
 use std::alloc::Global;
@@ -8,14 +9,6 @@ const MOST_COPIED: usize = 8;
 
 /// A body has no more blocks.
 const MOST_BLOCKS: usize = 10_000;
-
-/// An edge that is threaded: the block that it leaves, the one that is copied for it, and where the copy goes on.
-#[derive(Clone, Copy, Debug, Drop)]
-pub(crate) struct Edge {
-    pub from: u32,
-    pub through: u32,
-    pub to: u32,
-}
 
 /// What a walk along a body sees.
 #[derive(Clone, Copy)]
