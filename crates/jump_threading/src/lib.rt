@@ -11,11 +11,8 @@
 
 mod edges;
 mod laws;
-mod edges;
-mod laws;
 #[cfg(test)]
 mod tests;
-mod thread;
 mod thread;
 
 pub use laws::{threaded_refines, threaded_stays_valid};
