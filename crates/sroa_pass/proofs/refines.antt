@@ -1,0 +1,12 @@
+-- A crate with a split body refines the crate.
+pub mod Parts
+pub mod Spots
+pub mod Plans
+pub mod Pieces
+pub mod Rooms
+pub mod Copies
+pub mod Nested
+pub mod Blanks
+pub mod Whole
+pub mod Given
+pub mod Stmts
