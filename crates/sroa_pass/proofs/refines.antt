@@ -10,3 +10,6 @@ pub mod Blanks
 pub mod Whole
 pub mod Given
 pub mod Stmts
+pub mod Frames
+pub mod Law
+pub mod Refined
