@@ -1,7 +1,6 @@
 -- A crate with a split body refines the crate.
 pub mod Parts
 pub mod Spots
-pub mod Plans
 pub mod Pieces
 pub mod Rooms
 pub mod Copies

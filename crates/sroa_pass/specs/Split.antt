@@ -11,23 +11,25 @@ use Rattle.mir_syntax.specs.declared.body.Term.{Term}
 use Rattle.mir_syntax.specs.declared.body.Term.TheVariants.{Goto, Switch, Return, Unreachable, Drop, Call, Assert}
 use Rattle.mir_syntax.specs.Tree.{Tree, empty, more}
 use Rattle.mir_syntax.specs.Crate.{TypedRvalue, «use», binary, overflow, unary, cast, ref, ref_mut, discriminant, tuple, build, TypedStmt, assign, storage_live, storage_dead, set_discriminant, TypedBlock, TypedBody}
-use Rattle.mir_syntax.specs.Shapes.{Shape, fields_of, destructor_of}
+use Rattle.mir_syntax.specs.Shapes.{◌>>=◌, Shape, fields_of, destructor_of}
 use Rattle.mir_syntax.specs.Parts.{has_deref, begins_with_field, rvalue_places, term_places}
 use Rattle.escape_info.specs.Borrowed.{borrowed}
 
 -- ---- fields
 
-abbrev pub types_in : Tree → List Tree
-types_in (more t ts) = t ∷ types_in ts
-types_in _ = []
+-- the types of which a tuple is made
+abbrev pub parts_of : Tree → Option (List Tree)
+parts_of empty = Some []
+parts_of (more t ts) = parts_of ts >>= λ us. Some (t ∷ us)
+parts_of _ = None
 
-abbrev pub types_if_any : Option Tree → List Tree
-types_if_any None = []
-types_if_any (Some t) = types_in t
+abbrev pub if_any : Option (List Tree) → List Tree
+if_any None = []
+if_any (Some ts) = ts
 
 -- the types of the fields of a tuple, or of a struct without a destructor of its own
 abbrev pub field_types : List Shape → Tree → List Tree
-field_types D t = if is_some (destructor_of D t) then [] else types_if_any (fields_of D t)
+field_types D t = if is_some (destructor_of D t) then [] else if_any (fields_of D t >>= parts_of)
 
 -- ---- which locals are split
 

@@ -13,6 +13,7 @@ use Rattle.mir_semantics.specs.Step.{Here, local_addr, resolve, read_at, read, r
 use Rattle.mir_syntax.proofs.Binds.{bind_some, some_bind}
 use Rattle.mir_renaming.proofs.Statements.{true_only}
 use Rattle.mir_renaming.proofs.Types.{TypeMap, HasTy, more_eq}
+use Rattle.sroa_pass.proofs.Fields.{Rows}
 
 abbrev pub field_of : Place → ℕ → Place
 field_of q i = record q { proj = q.proj ++ Field i ∷ [] }
@@ -20,12 +21,6 @@ field_of q i = record q { proj = q.proj ++ Field i ∷ [] }
 abbrev pub field_copies : Place → ℕ → Tree → List Operand
 field_copies q i (more t ts) = operand.Copy (field_of q i) ∷ field_copies q (suc i) ts
 field_copies q i t = []
-
--- the types of a tuple
-abbrev pub Rows : Tree → Type 0
-Rows empty = Unit {0}
-Rows (more t ts) = Rows ts
-Rows t = ⊥
 
 val : {A : Type 0} {x y : A} → Some x ≡ Some y → x ≡ y
 val e = grind arith

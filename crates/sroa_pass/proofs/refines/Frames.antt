@@ -21,7 +21,7 @@ use Rattle.mir_relate.specs.Frames.{Change}
 use Rattle.mir_relate.proofs.Leaves.{leaves_then, leaves_source, leaves_target, leaves_write}
 use Rattle.sroa_pass.proofs.refines.Parts as parts
 use Rattle.sroa_pass.proofs.refines.Parts.{Parts, PartOf}
-use Rattle.sroa_pass.proofs.refines.Plans.{Has, Plan, PlaceTo}
+use Rattle.sroa_pass.proofs.Plans.{Has, Plan, PlaceTo}
 use Rattle.sroa_pass.proofs.refines.Pieces as pieces
 use Rattle.sroa_pass.proofs.refines.Pieces.{Roots}
 

@@ -17,10 +17,11 @@ use Rattle.mir_renaming.proofs.Memory.{root_or_not, write_same, write_other}
 use Rattle.mir_renaming.proofs.Types.{TypeMap, AddrTy, HasTy, MemTy, value_at_ty, more_eq}
 use Rattle.mir_renaming.proofs.Agree.{NeedsOk}
 use Rattle.mir_relate.specs.Alike.{Between, Sides, GotMemory}
-use Rattle.sroa_pass.proofs.refines.Plans.{local_place}
-use Rattle.sroa_pass.proofs.refines.Plans.{Has, Plan, PartAs, PlaceTo}
+use Rattle.sroa_pass.proofs.Plans.{local_place}
+use Rattle.sroa_pass.proofs.Plans.{Has, Plan, PartAs, PlaceTo}
 use Rattle.sroa_pass.proofs.refines.Rooms.{part_there, rows_ty, part_field, alongside}
-use Rattle.sroa_pass.proofs.refines.Copies.{Rows, field_of, field_read, field_there, both_true}
+use Rattle.sroa_pass.proofs.Fields.{Rows}
+use Rattle.sroa_pass.proofs.refines.Copies.{field_of, field_read, field_there, both_true}
 use Rattle.sroa_pass.proofs.refines.Nested.{Above, walk_still, value_still, puts, puts_all, Alongside}
 use Rattle.sroa_pass.proofs.refines.Whole.{exec_all}
 use Rattle.sroa_pass.proofs.refines.Pieces as pieces

@@ -30,6 +30,7 @@ use Rattle.mir_relate.proofs.Rest.{drop_some, drop_none, get_drop}
 use Rattle.trim_locals.proofs.refines.Slots.{slots_of}
 use Rattle.trim_locals.proofs.Renumbered.{NonEmpty}
 use Rattle.mir_relate.specs.Alike.{Between, Same, AllSame, Sides, AllRead}
+use Rattle.mir_rules.specs.Drops.{is_drop}
 use Rattle.mir_relate.specs.Leaves.{Leaves}
 use Rattle.mir_relate.specs.Frames.{Change, target, Pass, lowest, opened, Below}
 use Rattle.mir_relate.specs.Pass.{GentleTo, KnowsAll, Valids, AllMoves, TermMoves, FewTerm, KeptLaw, FrameLaws, Laws, Goes, Answers, Related}
@@ -42,7 +43,7 @@ use Rattle.mir_relate.proofs.Own as own
 use Rattle.mir_relate.proofs.Single.{step_is, back_core, knows_waiting}
 use Rattle.mir_relate.proofs.Mild.{gentle_on}
 use Rattle.sroa_pass.proofs.refines.Parts.{Parts}
-use Rattle.sroa_pass.proofs.refines.Plans.{Has, Plan, PlaceTo, OperandTo, OperandsTo, TermTo}
+use Rattle.sroa_pass.proofs.Plans.{Has, Plan, PlaceTo, OperandTo, OperandsTo, TermTo}
 use Rattle.sroa_pass.proofs.refines.Blanks.{blank_part, blank_slot}
 use Rattle.sroa_pass.proofs.refines.Whole.{exec_all}
 use Rattle.sroa_pass.proofs.refines.Pieces as pieces
@@ -56,6 +57,7 @@ pub record Texts (X : Change) (P : Plan X.source.shapes X.body1.locals X.body2.l
   pub some1 : NonEmpty X.body1.locals
   pub some2 : NonEmpty X.body2.locals
   pub behind : (x y : ℕ) → P.split x ≡ Some y → (X.body1.args < x) × (X.body1.args < y)
+  pub calm : (i : ℕ) (k1 : TypedBlock) → slice_get X.body1.blocks i ≡ Some k1 → is_drop k1.term ≡ false
   pub blocks : (i : ℕ) (k1 : TypedBlock) → slice_get X.body1.blocks i ≡ Some k1 → (k2 : TypedBlock) × (slice_get X.body2.blocks i ≡ Some k2) × (k2.stmts ≡ flat_map st k1.stmts) × TermTo X.source.shapes X.body1.locals X.body2.locals P k1.term k2.term
 
 -- a statement of the body and its split, at the start of the step
@@ -307,24 +309,25 @@ module _ (X : Change) (P : Plan X.source.shapes X.body1.locals X.body2.locals) (
         let ((w, g, rel), at) = text.read_at_rel D ts1 ts2 f1 f2 j (pieces.K D ts1 ts2 P f2 f1 j R) (pieces.low D ts1 ts2 P f2 f1 j R) s2.memory s1.memory (record { frame = f1; local = 0; path = [] }) (record { frame = f2; local = 0; path = [] }) v (record { root = pieces.at_stays D ts1 ts2 P f2 f1 j R 0 0 (T.fixed 0 (omega arith)); path = refl }) first.near.linked.mem e in
         (w, g, (rel, whole_tight j v w rel (read_at_whole s1.memory (record { frame = f1; local = 0; path = [] }) v e)))
 
-    likewise : (t u : Term) → TermTo D ts1 ts2 P t u → TermMoves H1 t → TermTy X.source H1 t → own.SameStep X pass V Inv frames n s2 s1 r [] s1.callers refl (omega arith) be S Q left refl first t u
-    likewise (Goto u1) (Goto u2) h mo ty = λ m2 m1 q. edge m2 m1 u2 u1 h (owns m2 m1 q)
-    likewise (Switch o arms1 u1) (Switch p arms2 u2) (ho, ha, hu) mo ty = (
+    likewise : (t u : Term) → TermTo D ts1 ts2 P t u → is_drop t ≡ false → TermMoves H1 t → TermTy X.source H1 t → own.SameStep X pass V Inv frames n s2 s1 r [] s1.callers refl (omega arith) be S Q left refl first t u
+    likewise (Goto u1) (Goto u2) h calm mo ty = λ m2 m1 q. edge m2 m1 u2 u1 h (owns m2 m1 q)
+    likewise (Switch o arms1 u1) (Switch p arms2 u2) (ho, ha, hu) calm mo ty = (
       spots.reads_as D ts1 ts2 f1 f2 j (pieces.AddrTo D ts1 ts2 P f2 f1 j R) (PlaceTo D ts1 ts2 P) G bok lok Q keeps o p (operand_as o p ho) mo,
       λ i m2 m1 q. edge m2 m1 (take_arm i arms2 u2) (take_arm i arms1 u1) (ap₂ (take_arm i) ha hu) (owns m2 m1 q),
     )
-    likewise Return Return h mo ty = (refl, result)
-    likewise Unreachable u h mo ty = tt
-    likewise (Call p g os u1) (Call p' g' ps u2) (hp, hg, ho, hu) mo (t, pt, ct) = (
+    likewise Return Return h calm mo ty = (refl, result)
+    likewise Unreachable u h calm mo ty = tt
+    likewise (Call p g os u1) (Call p' g' ps u2) (hp, hg, ho, hu) calm mo (t, pt, ct) = (
       hg,
       reads os ps ho mo,
       λ d1 e.
           let (d2, g1, dr) = spots.dest_as D ts1 ts2 f1 f2 j (pieces.AddrTo D ts1 ts2 P f2 f1 j R) (PlaceTo D ts1 ts2 P) G bok lok Q keeps s2.memory s1.memory p p' d1 hp first e in
           (d2, g1, goal d2 d1 u2 u1 t hu dr.addr dr.guard (dest_ty D G bok ts1 f1 lok s1.memory p t d1 r.typed1.mem pt e)),
     )
-    likewise (Assert o c words os u1) (Assert p c' words' ps u2) (hp, hc, hw, ho, hu) mo ty =
+    likewise (Assert o c words os u1) (Assert p c' words' ps u2) (hp, hc, hw, ho, hu) calm mo ty =
         (spots.reads_as D ts1 ts2 f1 f2 j (pieces.AddrTo D ts1 ts2 P f2 f1 j R) (PlaceTo D ts1 ts2 P) G bok lok Q keeps o p (operand_as o p hp) mo.0, hc, hw, reads os ps ho mo.1, λ m2 m1 q. edge m2 m1 u2 u1 hu (owns m2 m1 q))
-    likewise t u h mo ty = absurd h
+    likewise (Drop p u1) (Drop q u2) h calm mo ty = absurd (grind arith)
+    likewise t u h calm mo ty = absurd h
 
     payloads : spots.PayloadsOk D ts1 ts2 f1 f2 j (pieces.AddrTo D ts1 ts2 P f2 f1 j R) (PlaceTo D ts1 ts2 P) G bok lok Q keeps s2.memory
     payloads q b t us k u er et ev e =
@@ -368,14 +371,14 @@ module _ (X : Change) (P : Plan X.source.shapes X.body1.locals X.body2.locals) (
           let o' = owns m2' m1' q2 in
           subst (Answers X pass n s2) (some_val q) (length (st s), m, at_memory m2' k, mv, own.own_core X pass V Inv frames n s2 s1 r [] s1.callers refl (omega arith) be m m2' m1' c2' (next_stmt s1.top) refl refl refl refl (left m2' m1' q2) (gentle_on X G f1 s1.memory (record s1 { memory = m1'; top = next_stmt s1.top }) x ge q (omega arith)) (refl, sd', record { stays = o'.stays; fields = o'.fields }), inr less)
 
-      end_step : (x : Next) → slice_get k1.stmts s1.top.at ≡ None → TermMoves H1 k1.term → TermTy X.source H1 k1.term → FewTerm X.source k1.term → perform X.source H1 s1 k1.term None ≡ Some x → Flat x → GentleTo X G f1 s1.memory x → Answers X pass n s2 x
+      end_step : (x : Next) → slice_get k1.stmts s1.top.at ≡ None → is_drop k1.term ≡ false → TermMoves H1 k1.term → TermTy X.source H1 k1.term → FewTerm X.source k1.term → perform X.source H1 s1 k1.term None ≡ Some x → Flat x → GentleTo X G f1 s1.memory x → Answers X pass n s2 x
       unfolding perform
-      end_step x none mo ty few e fl ge =
+      end_step x none calm mo ty few e fl ge =
           let nil2 : drop s2.top.at k2.stmts ≡ [] = ss ∙ ap (flat_map st) (drop_none k1.stmts s1.top.at none) in
           let none2 : slice_get k2.stmts s2.top.at ≡ None = get_drop k2.stmts s2.top.at ∙ ap (λ ss. slice_get ss 0) nil2 in
           let target_is = step_is (target X) s2 X.body2 k2 eb2 (ap (slice_get X.body2.blocks) sd.block ∙ i2) in
           goes_answer X pass n s2 x (subst (λ o. Goes X pass o x) (sym (target_is ∙ ap (perform (target X) S.target s2 k2.term) none2))
-          (own.same_step_goes X pass V Inv frames n s2 s1 r [] s1.callers refl (omega arith) be S Q left refl first refl refl X.body1 eb (λ h x y v e q. (R.only h x y e).0) (λ h x y lt e. (let z = (R.only h x y e).0 in omega (arith, z, lt))) k1.term k2.term x few (likewise k1.term k2.term ts mo ty) e fl ge))
+          (own.same_step_goes X pass V Inv frames n s2 s1 r [] s1.callers refl (omega arith) be S Q left refl first refl refl X.body1 eb (λ h x y v e q. (R.only h x y e).0) (λ h x y lt e. (let z = (R.only h x y e).0 in omega (arith, z, lt))) k1.term k2.term x few (likewise k1.term k2.term ts calm mo ty) e fl ge))
 
     one_step : (x : Next) → step X.source s1 ≡ Some x → Flat x → GentleTo X G f1 s1.memory x → Answers X pass n s2 x
     one_step x e fl ge =
@@ -387,7 +390,7 @@ module _ (X : Change) (P : Plan X.source.shapes X.body1.locals X.body2.locals) (
         go k1 k2 i1 i2 ss len ts (slice_get k1.stmts s1.top.at) refl (subst (λ (b : TypedBody). perform X.source (record { shapes = D; locals = b.locals; frame = f1 }) s1 k1.term (slice_get k1.stmts s1.top.at) ≡ Some x) sb q)
       where
         go : (k1 k2 : TypedBlock) → slice_get X.body1.blocks s1.top.block ≡ Some k1 → slice_get X.body2.blocks s1.top.block ≡ Some k2 → drop s2.top.at k2.stmts ≡ flat_map st (drop s1.top.at k1.stmts) → n ≡ length (drop s1.top.at k1.stmts) → TermTo D ts1 ts2 P k1.term k2.term → (o : Option TypedStmt) → slice_get k1.stmts s1.top.at ≡ o → perform X.source H1 s1 k1.term o ≡ Some x → Answers X pass n s2 x
-        go k1 k2 i1 i2 ss len ts None at q = end_step k1 k2 i1 i2 ss len ts x at (V.terms f1 s1.top.function X.body1 s1.top.block k1 eb i1) (V.valid1.terms f1 s1.top.function X.body1 s1.top.block k1 eb i1) (V.calls s1.top.function X.body1 s1.top.block k1 eb i1) q fl ge
+        go k1 k2 i1 i2 ss len ts None at q = end_step k1 k2 i1 i2 ss len ts x at (T.calm s1.top.block k1 i1) (V.terms f1 s1.top.function X.body1 s1.top.block k1 eb i1) (V.valid1.terms f1 s1.top.function X.body1 s1.top.block k1 eb i1) (V.calls s1.top.function X.body1 s1.top.block k1 eb i1) q fl ge
         go k1 k2 i1 i2 ss len ts (Some s) at q = stmt_step k1 k2 i1 i2 ss len ts s x at q ge
 
   steps_law : StmtLaw X V P st → (n : ℕ) (s2 s1 : State) (r : Related X pass V Inv n s2 s1) (gs ds : List Control) (x : Next) → s1.callers ≡ gs ++ ds → pass.own n r.core.lent s2.top s1.top gs s2.memory s1.memory → Below X pass r.core.lent s2.top.dest (lowest s1.top gs).dest s2.top.frame (lowest s1.top gs).frame s2.callers ds s2.memory s1.memory → step X.source s1 ≡ Some x → Flat x → GentleTo X r.typed1.types s1.top.frame s1.memory x → Answers X pass n s2 x

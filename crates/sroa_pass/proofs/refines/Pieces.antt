@@ -25,7 +25,7 @@ use Rattle.mir_relate.proofs.Kept as kept
 use Rattle.mir_relate.proofs.Near as near
 use Rattle.sroa_pass.proofs.refines.Parts as parts
 use Rattle.sroa_pass.proofs.refines.Parts.{Parts, PartOf}
-use Rattle.sroa_pass.proofs.refines.Plans.{Has, Plan, PartAs, PlaceTo}
+use Rattle.sroa_pass.proofs.Plans.{Has, Plan, PartAs, PlaceTo}
 use Rattle.sroa_pass.proofs.refines.Spots as spots
 
 val : {A : Type 0} {x y : A} → Some x ≡ Some y → x ≡ y

@@ -10,7 +10,7 @@ use Rattle.mir_semantics.specs.Refines.{Refines}
 use Rattle.valid_runs.proofs.Codes.{valid_code}
 use Rattle.valid_runs.proofs.Shown.{step_flat, step_known}
 use Rattle.mir_relate.proofs.Replaced.{change, valids, Runs, replaced}
-use Rattle.sroa_pass.proofs.refines.Plans.{Plan}
+use Rattle.sroa_pass.proofs.Plans.{Plan}
 use Rattle.sroa_pass.proofs.refines.Law.{Texts, StmtLaw, pass, laws}
 
 pub split_refines : (C : Crate) → (valid : Valid C) → (f : ℕ) (g : TypedFunction) (there : slice_get C.functions f ≡ Some g) (b2 : TypedBody) (alike : Alike (with_body g b2) g) (valid2 : Valid (at_function C f g b2)) (P : Plan (shapes_of C) g.body.locals b2.locals) (st : TypedStmt → List TypedStmt) → Texts (change C valid f g there b2 alike valid2) P st → StmtLaw (change C valid f g there b2 alike valid2) (valids C valid f g there b2 alike valid2) P st → Refines (at_function C f g b2) C

@@ -6,7 +6,7 @@ use Rattle.mir_semantics.specs.Values.{Value, number, nil, cons, variant, pointe
 use Rattle.mir_syntax.proofs.Binds.{bind_some}
 use Rattle.mir_renaming.proofs.Types.{TypeMap, AddrTy, HasTy, can_hole, is_scalar, more_eq, as_rows}
 
-use Rattle.sroa_pass.proofs.refines.Copies.{Rows}
+use Rattle.sroa_pass.proofs.Fields.{Rows}
 use Rattle.sroa_pass.proofs.refines.Nested.{Alongside}
 
 module _ (D : List Shape) (G : TypeMap) where

@@ -24,14 +24,15 @@ use Rattle.mir_relate.specs.Alike.{Between, Sides, Refers, GotMemory}
 use Rattle.mir_relate.specs.Pass.{AllMoves, RvalueMoves, StmtMoves}
 use Rattle.mir_relate.proofs.Kept as kept
 use Rattle.mir_relate.proofs.Near as near
-use Rattle.sroa_pass.proofs.refines.Plans.{local_place}
+use Rattle.sroa_pass.proofs.Plans.{local_place}
 use Rattle.sroa_pass.proofs.refines.Parts as parts
-use Rattle.sroa_pass.proofs.refines.Plans.{Has, Plan, PlaceTo, OperandTo, OperandsTo}
+use Rattle.sroa_pass.proofs.Plans.{Has, Plan, PlaceTo, OperandTo, OperandsTo}
 use Rattle.sroa_pass.proofs.refines.Pieces as pieces
 use Rattle.sroa_pass.proofs.refines.Pieces.{Roots}
 use Rattle.sroa_pass.proofs.refines.Spots as spots
 use Rattle.mir_relate.proofs.Operands.{whole_at}
-use Rattle.sroa_pass.proofs.refines.Copies.{field_of, field_copies, Rows}
+use Rattle.sroa_pass.proofs.Fields.{Rows}
+use Rattle.sroa_pass.proofs.refines.Copies.{field_of, field_copies}
 use Rattle.sroa_pass.proofs.refines.Nested.{walk_still}
 use Rattle.sroa_pass.proofs.refines.Given as given
 use Rattle.sroa_pass.proofs.refines.Given.{gives_by}

@@ -21,14 +21,15 @@ use Rattle.mir_relate.specs.Pass.{MoveOk}
 use Rattle.mir_relate.specs.Alike.{Between, Sides, Same, AllSame, Reads}
 use Rattle.mir_relate.specs.Leaves.{Leaves}
 use Rattle.mir_relate.proofs.Leaves.{leaves_then}
-use Rattle.sroa_pass.proofs.refines.Plans.{local_place}
+use Rattle.sroa_pass.proofs.Plans.{local_place}
 use Rattle.sroa_pass.proofs.refines.Parts as parts
 use Rattle.sroa_pass.proofs.refines.Parts.{Parts, PartOf}
-use Rattle.sroa_pass.proofs.refines.Plans.{Has, Plan, PartAs, PlaceTo}
+use Rattle.sroa_pass.proofs.Plans.{Has, Plan, PartAs, PlaceTo}
 use Rattle.mir_relate.proofs.Alike.{all_read}
 use Rattle.sroa_pass.proofs.refines.Blanks.{blank_part, blank_under}
 use Rattle.sroa_pass.proofs.refines.Rooms.{part_there, rows_ty}
-use Rattle.sroa_pass.proofs.refines.Copies.{field_copies, Rows, fields_copied}
+use Rattle.sroa_pass.proofs.Fields.{Rows}
+use Rattle.sroa_pass.proofs.refines.Copies.{field_copies, fields_copied}
 use Rattle.sroa_pass.proofs.refines.Pieces as pieces
 use Rattle.sroa_pass.proofs.refines.Pieces.{Roots}
 use Rattle.sroa_pass.proofs.refines.Spots as spots

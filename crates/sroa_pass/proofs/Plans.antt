@@ -62,12 +62,13 @@ module _ (D : List Shape) (ts1 ts2 : List Tree) (P : Plan D ts1 ts2) where
   OperandsTo (o ∷ os) (p ∷ ps) = OperandTo o p × OperandsTo os ps
   OperandsTo _ _ = ⊥
 
-  -- terminators, none of which drops
+  -- terminators
   abbrev pub TermTo : Term → Term → Type 0
   TermTo (Goto u1) (Goto u2) = u1 ≡ u2
   TermTo (Switch o arms1 u1) (Switch p arms2 u2) = OperandTo o p × (arms1 ≡ arms2) × (u1 ≡ u2)
   TermTo Return Return = Unit {0}
   TermTo Unreachable Unreachable = Unit {0}
+  TermTo (Drop p u1) (Drop q u2) = PlaceTo D ts1 ts2 P p q × (u1 ≡ u2)
   TermTo (Call p g os u1) (Call q h ps u2) = PlaceTo D ts1 ts2 P p q × (g ≡ h) × OperandsTo os ps × (u1 ≡ u2)
   TermTo (Assert o c words os u1) (Assert p c' words' ps u2) = OperandTo o p × (c ≡ c') × (words ≡ words') × OperandsTo os ps × (u1 ≡ u2)
   TermTo t u = ⊥
