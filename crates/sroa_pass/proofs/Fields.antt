@@ -32,6 +32,14 @@ parts_at (ref t) ts e k = absurd (grind arith)
 parts_at (ref_mut t) ts e k = absurd (grind arith)
 parts_at (named d) ts e k = absurd (grind arith)
 
+pub parts_more : (us : Tree) (ts : List Tree) → parts_of us ≡ Some ts → nat_lt 0 (length ts) ≡ true → (u us' : Tree) × (us ≡ more u us')
+parts_more empty ts e h = absurd (let z : nat_lt 0 0 ≡ true = ap (λ (ts : List Tree). nat_lt 0 (length ts)) (val e) ∙ h in grind arith)
+parts_more (more t us) ts e h = (t, us, refl)
+parts_more (scalar s) ts e h = absurd (grind arith)
+parts_more (ref t) ts e h = absurd (grind arith)
+parts_more (ref_mut t) ts e h = absurd (grind arith)
+parts_more (named d) ts e h = absurd (grind arith)
+
 -- a type with fields to split
 pub record Splits (D : List Shape) (t : Tree) : Type 0 where
   pub tuple : Tree

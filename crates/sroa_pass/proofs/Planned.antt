@@ -11,7 +11,7 @@ use Rattle.mir_syntax.specs.declared.body.Operand.{Operand}
 use Rattle.mir_syntax.specs.declared.body.Operand.TheVariants as operand
 use Rattle.mir_syntax.specs.declared.body.Term.{Term}
 use Rattle.mir_syntax.specs.declared.body.Term.TheVariants.{Goto, Switch, Return, Unreachable, Drop, Call, Assert}
-use Rattle.mir_syntax.specs.Tree.{Tree}
+use Rattle.mir_syntax.specs.Tree.{Tree, empty}
 use Rattle.mir_syntax.specs.Crate.{TypedRvalue, TypedStmt, TypedBlock, TypedBody}
 use Rattle.mir_syntax.specs.Shapes.{◌>>=◌, Shape, fields_of, field_ty, path_ty, place_ty}
 use Rattle.mir_syntax.specs.Parts.{begins_with_field, operand_places, term_places}
@@ -23,7 +23,7 @@ use Rattle.mir_rules.proofs.Lists.{and_true-left, and_true-right, or_false-right
 use Rattle.mir_rules.proofs.Typed.{missing, place_typed}
 use Rattle.mir_renaming.proofs.Types.{can_hole}
 use Rattle.escape_info.specs.Borrowed.{borrowed}
-use Rattle.sroa_pass.specs.Split.{field_types, by_field, allows_stmt, allows_block, most_fields, may_split, firsts, new_types, First, moved_to, split_place, split_operand, split_term, first_of}
+use Rattle.sroa_pass.specs.Split.{field_types, by_field, allows_stmt, allows_block, most_fields, may_split, firsts, new_types, First, moved_to, split_place, split_operand, split_term, first_of, fields_at}
 use Rattle.sroa_pass.proofs.Fields.{Splits, splits, parts_at}
 use Rattle.sroa_pass.proofs.NewLocals.{in_front, get_some, owners_from, IsFirst, is_first}
 use Rattle.sroa_pass.proofs.Plans.{Has, Plan, PartAs, PlaceTo, OperandTo, OperandsTo, TermTo}
@@ -61,7 +61,7 @@ module _ (D : List Shape) (b : TypedBody) where
     pub types : (k : ℕ) (u : Tree) → slice_get (field_types D ty) k ≡ Some u → slice_get ts2 (y + k) ≡ Some u
     pub owner : (k : ℕ) (u : Tree) → slice_get (field_types D ty) k ≡ Some u → owner_of (y + k) ≡ Some (x, k)
 
-  has_fields : (x : ℕ) (t : Tree) → may_split D b x t ≡ true → nat_lt 0 (length (field_types D t)) ≡ true
+  pub has_fields : (x : ℕ) (t : Tree) → may_split D b x t ≡ true → nat_lt 0 (length (field_types D t)) ≡ true
   has_fields x t h =
       let n = length (field_types D t) in
       let rest = nat_lt n (suc most_fields) && list_all (allows_block x) b.blocks in
@@ -155,6 +155,27 @@ module _ (D : List Shape) (b : TypedBody) where
     types = λ x y i e h. (let c = chosen x y e in c.types i h.field (has_type x y i c h));
     solid = λ x y e t q. (let c = chosen x y e in ap (can_hole D) (val (sym q ∙ c.there)) ∙ c.splits.solid);
   }
+
+  pub split_at : (x y : ℕ) → s x ≡ Some y → plan.split x ≡ Some y
+  unfolding plan
+  split_at x y e = e
+
+  pub stays_at : (x : ℕ) → x < length b.locals → s x ≡ None → plan.stays x ≡ Some x
+  unfolding plan
+  stays_at x l e = stay_at x l e
+
+  pub lent_at : (x : ℕ) → x < length b.locals → s x ≡ None → borrowed D b x ≡ true → plan.lent x ≡ Some x
+  unfolding plan
+  lent_at x l e h = if_true (stay x) None h ∙ stay_at x l e
+
+  -- it has its type in the list
+  pub chosen_fields : (x y : ℕ) (c : Chosen x y) → fields_at D b.locals x ≡ field_types D c.ty
+  chosen_fields x y c = ap (field_types D) (got b.locals x c.ty c.there)
+    where
+      got : (ts : List Tree) (x : ℕ) (t : Tree) → slice_get ts x ≡ Some t → get_or ts x empty ≡ t
+      got [] x t e = absurd (grind arith)
+      got (u ∷ ts) zero t e = val e
+      got (u ∷ ts) (suc x) t e = got ts x t e
 
   -- ---- places
 

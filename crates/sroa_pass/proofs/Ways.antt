@@ -1,5 +1,5 @@
 -- The three ways in which an assignment is split: it fills a split local, hands one on, or stays one assignment.
-use Rattle.std.proofs.Common.{◌≡◌, ◌⊎◌, inl, inr, refl, sym, ap, ap₂, ◌∙◌, subst, ℕ, zero, suc, ◌+◌, Bool, true, false, not, ◌&&◌, ◌||◌, nat_eq, if◌then◌else◌, List, [], ◌∷◌, ◌++◌, map, Option, Some, None, is_some, slice_get, arith, eq-eqb, eqb-true}
+use Rattle.std.proofs.Common.{◌≡◌, ◌⊎◌, inl, inr, refl, sym, ap, ap₂, ◌∙◌, subst, ℕ, zero, suc, ◌+◌, ◌<◌, Bool, true, false, not, ◌&&◌, ◌||◌, nat_eq, if◌then◌else◌, List, [], ◌∷◌, ◌++◌, map, length, Option, Some, None, is_some, slice_get, arith, eq-eqb, eqb-true}
 use Rattle.std.specs.List.{list_all, list_any, flat_map}
 use Rattle.std.proofs.lemmas.Bool.{not-true}
 use Rattle.mir_syntax.specs.declared.body.Proj.{Proj}
@@ -56,11 +56,17 @@ module _ (D : List Shape) (b : TypedBody) where
   Lends (assign p (rvalue.ref_mut q)) = has_deref q.proj ≡ false → borrowed D b q.local ≡ true
   Lends x = Unit {0}
 
+  abbrev There : TypedStmt → Type 0
+  There (storage_live x) = x < length b.locals
+  There (storage_dead x) = x < length b.locals
+  There x = Unit {0}
+
   -- what a valid body says of its statements
   pub record Known (x : TypedStmt) : Type 0 where
     pub typed : StmtTyped D b.args b.locals x
     pub allowed : (z y : ℕ) → s D b z ≡ Some y → allows_stmt z x ≡ true
     pub lends : Lends x
+    pub there : There x
 
   -- a place that fits, or the whole of a local that is split
   pub record Whole (q : Place) : Type 0 where
@@ -133,14 +139,14 @@ module _ (D : List Shape) (b : TypedBody) where
     is_some_of (Some y) h = (y, refl)
 
     -- a place is whole and split, or isn't
-    split_parts : (q : Place) → is_split (s D b) q ≡ true → (y : ℕ) × (q.proj ≡ []) × (s D b q.local ≡ Some y)
+    pub split_parts : (q : Place) → is_split (s D b) q ≡ true → (y : ℕ) × (q.proj ≡ []) × (s D b q.local ≡ Some y)
     split_parts q h = let (y, e) = is_some_of (s D b q.local) (and_true-right (is_nil q.proj) (is_some (s D b q.local)) h) in (y, nil_is q.proj (and_true-left (is_nil q.proj) (is_some (s D b q.local)) h), e)
 
-    whole_parts : (x : ℕ) (q : Place) → is_whole x q ≡ true → (q.local ≡ x) × (q.proj ≡ [])
+    pub whole_parts : (x : ℕ) (q : Place) → is_whole x q ≡ true → (q.local ≡ x) × (q.proj ≡ [])
     whole_parts x q h = (eqb-true q.local x (and_true-left (nat_eq q.local x) (is_nil q.proj) h), nil_is q.proj (and_true-right (nat_eq q.local x) (is_nil q.proj) h))
 
     -- the whole of a split local is split
-    whole_split : (x y : ℕ) (q : Place) → s D b x ≡ Some y → is_whole x q ≡ true → is_split (s D b) q ≡ true
+    pub whole_split : (x y : ℕ) (q : Place) → s D b x ≡ Some y → is_whole x q ≡ true → is_split (s D b) q ≡ true
     whole_split x y q e h = let (same, n) = whole_parts x q h in ap₂ (λ ps o. is_nil ps && is_some o) n (ap (s D b) same ∙ e)
 
     taken : (x : ℕ) → takes_whole x r ≡ true → (q : Place) × (used_place r ≡ Some q) × (is_whole x q ≡ true)

@@ -9,6 +9,7 @@ pub mod Blanks
 pub mod Whole
 pub mod Given
 pub mod Stmts
+pub mod Does
 pub mod Frames
 pub mod Law
 pub mod Refined
