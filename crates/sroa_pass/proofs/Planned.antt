@@ -160,6 +160,10 @@ module _ (D : List Shape) (b : TypedBody) where
   unfolding plan
   split_at x y e = e
 
+  pub split_back : (x y : ℕ) → plan.split x ≡ Some y → s x ≡ Some y
+  unfolding plan
+  split_back x y e = e
+
   pub stays_at : (x : ℕ) → x < length b.locals → s x ≡ None → plan.stays x ≡ Some x
   unfolding plan
   stays_at x l e = stay_at x l e

@@ -1,5 +1,5 @@
 -- What is known of a body's split locals: which they are, where their fields' locals stand, and which locals stay.
-use Rattle.std.proofs.Common.{◌≡◌, ◌⊎◌, ℕ, ◌+◌, false, List, [], ◌∷◌, Option, Some, None, slice_get}
+use Rattle.std.proofs.Common.{◌≡◌, ◌⊎◌, inl, inr, refl, sym, ap, ap₂, ◌∙◌, ℕ, ◌+◌, false, List, [], ◌∷◌, Option, Some, None, slice_get}
 use Rattle.mir_syntax.specs.declared.body.Proj.TheVariants.{Field}
 use Rattle.mir_syntax.specs.declared.body.Place.{Place}
 use Rattle.mir_syntax.specs.declared.body.Operand.{Operand}
@@ -7,7 +7,8 @@ use Rattle.mir_syntax.specs.declared.body.Operand.TheVariants as operand
 use Rattle.mir_syntax.specs.declared.body.Term.{Term}
 use Rattle.mir_syntax.specs.declared.body.Term.TheVariants.{Goto, Switch, Return, Unreachable, Drop, Call, Assert}
 use Rattle.mir_syntax.specs.Tree.{Tree}
-use Rattle.mir_syntax.specs.Shapes.{Shape, fields_of, field_ty}
+use Rattle.mir_syntax.specs.Shapes.{◌>>=◌, Shape, fields_of, field_ty, path_ty, place_ty}
+use Rattle.mir_syntax.proofs.Binds.{some_bind}
 use Rattle.mir_renaming.proofs.Types.{can_hole}
 
 abbrev pub local_place : ℕ → Place
@@ -72,3 +73,11 @@ module _ (D : List Shape) (ts1 ts2 : List Tree) (P : Plan D ts1 ts2) where
   TermTo (Call p g os u1) (Call q h ps u2) = PlaceTo D ts1 ts2 P p q × (g ≡ h) × OperandsTo os ps × (u1 ≡ u2)
   TermTo (Assert o c words os u1) (Assert p c' words' ps u2) = OperandTo o p × (c ≡ c') × (words ≡ words') × OperandsTo os ps × (u1 ≡ u2)
   TermTo t u = ⊥
+
+  -- a place has the type of what stands for it
+  pub place_types : (p q : Place) → PlaceTo D ts1 ts2 P p q → place_ty D ts1 p ≡ place_ty D ts2 q
+  unfolding place_ty
+  place_types p q (inl (s, same)) = ap₂ (λ o ps. o >>= λ t. path_ty D t ps) (P.kept p.local q.local s) same
+  place_types p q (inr h) =
+      let left : place_ty D ts1 p ≡ path_ty D h.has.field q.proj = ap (λ ps. slice_get ts1 p.local >>= λ t. path_ty D t ps) h.proj ∙ some_bind _ h.has.is (some_bind _ (some_bind _ h.has.tuple h.has.at) refl) in
+      left ∙ sym (some_bind _ (ap (slice_get ts2) h.local ∙ P.types p.local h.first h.field h.split h.has) refl)

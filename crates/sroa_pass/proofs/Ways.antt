@@ -51,12 +51,12 @@ module _ (D : List Shape) (b : TypedBody) where
   abbrev S : First
   S = s D b
 
-  abbrev Lends : TypedStmt → Type 0
+  abbrev pub Lends : TypedStmt → Type 0
   Lends (assign p (rvalue.ref q)) = has_deref q.proj ≡ false → borrowed D b q.local ≡ true
   Lends (assign p (rvalue.ref_mut q)) = has_deref q.proj ≡ false → borrowed D b q.local ≡ true
   Lends x = Unit {0}
 
-  abbrev There : TypedStmt → Type 0
+  abbrev pub There : TypedStmt → Type 0
   There (storage_live x) = x < length b.locals
   There (storage_dead x) = x < length b.locals
   There x = Unit {0}

@@ -12,4 +12,3 @@ pub mod Stmts
 pub mod Does
 pub mod Frames
 pub mod Law
-pub mod Refined

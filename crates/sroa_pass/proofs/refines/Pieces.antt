@@ -25,7 +25,7 @@ use Rattle.mir_relate.proofs.Kept as kept
 use Rattle.mir_relate.proofs.Near as near
 use Rattle.sroa_pass.proofs.refines.Parts as parts
 use Rattle.sroa_pass.proofs.refines.Parts.{Parts, PartOf}
-use Rattle.sroa_pass.proofs.Plans.{Has, Plan, PartAs, PlaceTo}
+use Rattle.sroa_pass.proofs.Plans.{Has, Plan, PartAs, PlaceTo, place_types as types_same}
 use Rattle.sroa_pass.proofs.refines.Spots as spots
 
 val : {A : Type 0} {x y : A} → Some x ≡ Some y → x ≡ y
@@ -230,11 +230,8 @@ module _ (D : List Shape) (ts1 ts2 : List Tree) (P : Plan D ts1 ts2) (f2 f1 : �
         (b, subst (λ y. walk m2 (record { frame = f2; local = y; path = [] }) q.proj ≡ Some b) (sym h.local) g, r)
 
     pub place_types : (p q : Place) → To p q → type_of S.source p ≡ type_of S.target q
-    unfolding type_of place_ty
-    place_types p q (inl (s, same)) = ap₂ (λ o ps. o >>= λ t. path_ty D t ps) (P.kept p.local q.local s) same
-    place_types p q (inr h) =
-        let left : place_ty D ts1 p ≡ path_ty D h.has.field q.proj = ap (λ ps. slice_get ts1 p.local >>= λ t. path_ty D t ps) h.proj ∙ some_bind _ h.has.is (some_bind _ (some_bind _ h.has.tuple h.has.at) refl) in
-        left ∙ sym (some_bind _ (ap (slice_get ts2) h.local ∙ P.types p.local h.first h.field h.split h.has) refl)
+    unfolding type_of
+    place_types p q h = types_same D ts1 ts2 P p q h
 
     place_derefs : (p q : Place) → To p q → has_deref p.proj ≡ has_deref q.proj
     place_derefs p q (inl (s, same)) = ap has_deref same

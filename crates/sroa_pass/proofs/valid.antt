@@ -1,0 +1,2 @@
+-- A split body breaks no rule.
+pub mod Types
