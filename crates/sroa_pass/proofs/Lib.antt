@@ -3,6 +3,7 @@ pub mod NewLocals
 pub mod Plans
 pub mod Planned
 pub mod Ways
+pub mod Uses
 pub mod KnownAt
 pub mod valid
 pub mod refines

@@ -1,2 +1,3 @@
 -- A split body breaks no rule.
 pub mod Types
+pub mod Spread

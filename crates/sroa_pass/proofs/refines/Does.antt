@@ -32,6 +32,7 @@ use Rattle.sroa_pass.proofs.Fields.{Rows, parts_rows, parts_more}
 use Rattle.sroa_pass.proofs.Plans.{local_place, Plan, PlaceTo, OperandTo, OperandsTo}
 use Rattle.sroa_pass.proofs.Planned.{val, s, ts2, plan, Chosen, chosen, chosen_fields, split_at, stays_at, lent_at, unlent, Fits, place_local, place_to, AllFit, all_fit, has_fields, operand_to, operands_to}
 use Rattle.sroa_pass.proofs.Ways.{Known, Whole, field_fits, Filled, Handed, Stays, Way, way, read, split_parts, whole_split, whole_parts, field_typed}
+use Rattle.sroa_pass.proofs.Uses.{whole_ty, used_ty, used_whole, split_or_fits, built_fit, const_typed, Parts, parts, no_const}
 use Rattle.sroa_pass.proofs.refines.Copies.{field_copies}
 use Rattle.sroa_pass.proofs.refines.Given.{gives_by}
 use Rattle.sroa_pass.proofs.refines.Pieces as pieces
@@ -152,96 +153,6 @@ module _ (D : List Shape) (b : TypedBody) where
   rvalue_to p (tuple os) h k = operands_to D b os h
   rvalue_to p (build d i os) h k = (refl, refl, operands_to D b os h)
 
-  -- ---- types
-
-  whole_ty : (p : Place) (t : Tree) → p.proj ≡ [] → place_ty D b.locals p ≡ Some t → slice_get b.locals p.local ≡ Some t
-  unfolding place_ty
-  whole_ty p t n e = let (u, e1, e2) = bind_some e in e1 ∙ sym (ap (λ ps. path_ty D u ps) n) ∙ e2
-
-  used_ty : (p q : Place) (o : Operand) → (o ≡ operand.Copy q) ⊎ (o ≡ operand.Move q) → (k : Known D b (assign p («use» o))) → place_ty D b.locals q ≡ Some k.typed.ty
-  unfolding rvalue_ty operand_ty
-  used_ty p q o (inl i) k = sym (ap (operand_ty D b.locals) i) ∙ k.typed.rvalue
-  used_ty p q o (inr i) k = sym (ap (operand_ty D b.locals) i) ∙ k.typed.rvalue
-
-  -- the place that is copied or moved
-  used_whole : (p q : Place) (o : Operand) → (o ≡ operand.Copy q) ⊎ (o ≡ operand.Move q) → (k : Known D b (assign p («use» o))) → Whole D b q
-  used_whole p q o i k = record { ty = k.typed.ty; is = used_ty p q o i k; inside = λ y e. go i (read D b fields p («use» o) k q.local y e) }
-    where
-      at : (o ≡ operand.Copy q) ⊎ (o ≡ operand.Move q) → (list_all (by_field q.local) (rvalue_places («use» o)) ≡ true) → by_field q.local q ≡ true
-      at (inl i) h = and_true-left (by_field q.local q) true (sym (ap (λ o. list_all (by_field q.local) (rvalue_places («use» o))) i) ∙ h)
-      at (inr i) h = and_true-left (by_field q.local q) true (sym (ap (λ o. list_all (by_field q.local) (rvalue_places («use» o))) i) ∙ h)
-
-      taken : (o ≡ operand.Copy q) ⊎ (o ≡ operand.Move q) → takes_whole q.local («use» o) ≡ true → is_whole q.local q ≡ true
-      taken (inl i) h = sym (ap (λ o. takes_whole q.local («use» o)) i) ∙ h
-      taken (inr i) h = sym (ap (λ o. takes_whole q.local («use» o)) i) ∙ h
-
-      go : (o ≡ operand.Copy q) ⊎ (o ≡ operand.Move q) → (list_all (by_field q.local) (rvalue_places («use» o)) ≡ true) ⊎ (hands_on q.local p («use» o) ≡ true) → (by_field q.local q ≡ true) ⊎ (q.proj ≡ [])
-      go i (inl h) = inl (at i h)
-      go i (inr h) = inr (whole_parts D b fields p («use» o) q.local q (taken i (and_true-left (takes_whole q.local («use» o)) _ h))).1
-
-  -- a part that fits, or all of a split local
-  split_or_fits : (p : Place) (r : TypedRvalue) (q : Place) → Whole D b q → ((y : ℕ) × (q.proj ≡ []) × (s D b q.local ≡ Some y)) ⊎ Fits D b q
-  split_or_fits p r q h = go (is_split (s D b) q) refl
-    where
-      go : (c : Bool) → is_split (s D b) q ≡ c → ((y : ℕ) × (q.proj ≡ []) × (s D b q.local ≡ Some y)) ⊎ Fits D b q
-      go true e = inl (split_parts D b fields p r q e)
-      go false e = inr (record { ty = h.ty; is = h.is; inside = λ y z. by y z (h.inside y z) })
-        where
-          by : (y : ℕ) → s D b q.local ≡ Some y → (by_field q.local q ≡ true) ⊎ (q.proj ≡ []) → by_field q.local q ≡ true
-          by y z (inl l) = l
-          by y z (inr n) = absurd (let k : true ≡ false = sym (ap₂ (λ ps o. is_nil ps && is_some o) n z) ∙ e in grind arith)
-
-  -- what is built is of parts that fit
-  built_fit : (p : Place) (r : TypedRvalue) → Known D b (assign p r) → ((x : ℕ) → takes_whole x r ≡ false) → AllFit D b (rvalue_places r)
-  built_fit p r k none = all_fit D b (rvalue_places r) (typed_rvalue D b.locals r k.typed.ty k.typed.rvalue) (λ x y e. go x (read D b fields p r k x y e))
-    where
-      go : (x : ℕ) → (list_all (by_field x) (rvalue_places r) ≡ true) ⊎ (hands_on x p r ≡ true) → list_all (by_field x) (rvalue_places r) ≡ true
-      go x (inl h) = h
-      go x (inr h) = absurd (let z : true ≡ false = sym (and_true-left (takes_whole x r) _ h) ∙ none x in grind arith)
-
-  const_typed : {p : Place} (c : Const) (k : Known D b (assign p («use» (operand.Const c)))) → const_ty c ≡ k.typed.ty
-  unfolding rvalue_ty operand_ty
-  const_typed c k = val k.typed.rvalue
-
-  -- ---- what is done
-
-  -- the fields of a split local
-  pub record Parts (x y : ℕ) (t : Tree) : Type 0 where
-    pub sp : (plan D b).split x ≡ Some y
-    pub tuple : Tree
-    pub is : fields_of D t ≡ Some tuple
-    pub parts : parts_of tuple ≡ Some (fields_at D b.locals x)
-    pub rows : Rows tuple
-    pub first : Tree
-    pub rest : Tree
-    pub some : tuple ≡ more first rest
-    pub any : (u : Tree) → slice_get b.locals x ≡ Some u → fields_of D u ≡ Some tuple
-
-  parts : (x y : ℕ) (t : Tree) → s D b x ≡ Some y → slice_get b.locals x ≡ Some t → Parts x y t
-  parts x y t e h =
-      let c = chosen D b x y e in
-      let same : t ≡ c.ty = val (sym h ∙ c.there) in
-      let tuple = c.splits.tuple in
-      let ps : parts_of tuple ≡ Some (fields_at D b.locals x) = c.splits.parts ∙ ap Some (sym (chosen_fields D b x y c)) in
-      let (u, us, is) = parts_more tuple (field_types D c.ty) c.splits.parts (has_fields D b x c.ty c.may) in
-      record {
-        sp = split_at D b x y e;
-        tuple = tuple;
-        is = ap (fields_of D) same ∙ c.splits.fields;
-        parts = ps;
-        rows = parts_rows tuple (field_types D c.ty) c.splits.parts;
-        first = u;
-        rest = us;
-        some = is;
-        any = λ v g. ap (fields_of D) (let z : v ≡ c.ty = val (sym g ∙ c.there) in z) ∙ c.splits.fields;
-      }
-
-  -- no constant has fields
-  no_const : {x y : ℕ} {t : Tree} (c : Const) → Parts x y t → const_ty c ≡ t → ⊥
-  no_const (constant.Int i n) h e = (let z : ◌≡◌ {A = Option Tree} None (Some h.tuple) = ap (fields_of D) e ∙ h.is in grind arith)
-  no_const (constant.Bool v) h e = (let z : ◌≡◌ {A = Option Tree} None (Some h.tuple) = ap (fields_of D) e ∙ h.is in grind arith)
-  no_const constant.Unit h e = (let z : ◌≡◌ {A = Option Tree} (Some empty) (Some (more h.first h.rest)) = ap (fields_of D) e ∙ h.is ∙ ap Some h.some in grind arith)
-
   module _ (f2 f1 : ℕ) (j : Renaming) (R : Roots D b.locals (ts2 D b) (plan D b) f2 f1 j) (G : TypeMap) (bok : (t : Tree) → HasTy D G t (blank D t)) (lok : (x : ℕ) (t : Tree) → slice_get b.locals x ≡ Some t → G f1 x ≡ Some t) (needs : NeedsOk D) (m2s m1s : Memory) where
     abbrev All : Between
     All = pieces.Pieces D b.locals (ts2 D b) (plan D b) f2 f1 j R G bok lok needs m2s m1s
@@ -274,8 +185,8 @@ module _ (D : List Shape) (b : TypedBody) where
         abbrev y : ℕ
         y = w.first
 
-        its : Parts p.local w.first k.typed.ty
-        its = parts p.local w.first k.typed.ty w.chosen (whole_ty p k.typed.ty w.whole k.typed.place)
+        its : Parts D b p.local w.first k.typed.ty
+        its = parts D b p.local w.first k.typed.ty w.chosen (whole_ty D b p k.typed.ty w.whole k.typed.place)
 
         far : q.local ≡ p.local → ⊥
         far = go i
@@ -286,7 +197,7 @@ module _ (D : List Shape) (b : TypedBody) where
 
         its_copies : OperandsTo D b.locals (ts2 D b) (Rest p.local w.first its.sp) (field_copies q 0 its.tuple) (map (split_operand (s D b)) (field_copies q 0 its.tuple))
         unfolding used_whole
-        its_copies = copies_to p.local w.first its.sp q far its.tuple 0 (λ n u f. field_fits D b q (used_whole p q o i k) its.tuple u (0 + n) its.is (ap (field_ty its.tuple) (let z : 0 + n ≡ n = omega arith in z) ∙ f))
+        its_copies = copies_to p.local w.first its.sp q far its.tuple 0 (λ n u f. field_fits D b q (used_whole D b p q o i k) its.tuple u (0 + n) its.is (ap (field_ty its.tuple) (let z : 0 + n ≡ n = omega arith in z) ∙ f))
 
         text : map (renamed (s D b)) (copies p q 0 (fields_at D b.locals p.local)) ≡ writes w.first (map (split_operand (s D b)) (field_copies q 0 its.tuple))
         text = copied_in p q w.first w.whole w.chosen its.tuple (fields_at D b.locals p.local) its.parts 0 w.first (omega arith)
@@ -298,12 +209,12 @@ module _ (D : List Shape) (b : TypedBody) where
           let r : TypedRvalue = «use» (operand.Copy q) in
           did_by _ _ m1' (text q (operand.Copy q) (inl refl) w k)
           (stmts.take_does D b.locals (ts2 D b) (plan D b) f2 f1 j R G bok lok needs m2s m1s p.local w.first c.sp q (map (split_operand (s D b)) (field_copies q 0 c.tuple)) c.tuple c.first c.rest m1' (its_copies q (operand.Copy q) (inl refl) w k) c.rows c.some (subst (λ p. Ty (assign p r)) is ty) c.any l (subst (λ p. exec H1 m1s (assign p r) ≡ Some m1') is e))
-      fill («use» (operand.Move q)) w k mo ty e = go (split_or_fits p («use» (operand.Move q)) q (used_whole p q (operand.Move q) (inr refl) k))
+      fill («use» (operand.Move q)) w k mo ty e = go (split_or_fits D b p («use» (operand.Move q)) q (used_whole D b p q (operand.Move q) (inr refl) k))
         where
           r : TypedRvalue
           r = «use» (operand.Move q)
 
-          c : Parts p.local w.first k.typed.ty
+          c : Parts D b p.local w.first k.typed.ty
           c = its q (operand.Move q) (inr refl) w k
 
           apart : q.local ≡ p.local → ⊥
@@ -325,17 +236,17 @@ module _ (D : List Shape) (b : TypedBody) where
               let e2 = subst (λ q. exec H1 m1s (assign (local_place p.local) («use» (operand.Move q))) ≡ Some m1') iq (subst (λ p. exec H1 m1s (assign p r) ≡ Some m1') ip e) in
               did_by _ _ m1' (same ∙ ap (λ q. writes w.first (map (split_operand (s D b)) (field_copies q 0 c.tuple))) iq)
               (stmts.take_split D b.locals (ts2 D b) (plan D b) f2 f1 j R G bok lok needs m2s m1s p.local w.first c.sp q.local yz (map (split_operand (s D b)) (field_copies (local_place q.local) 0 c.tuple)) c.tuple c.first c.rest m1' apart (split_at D b q.local yz ez) (subst (λ q. OperandsTo D b.locals (ts2 D b) (Rest p.local w.first c.sp) (field_copies q 0 c.tuple) (map (split_operand (s D b)) (field_copies q 0 c.tuple))) iq its_to) c.rows c.some ty2 c.any l e2)
-      fill («use» (operand.Const c)) w k mo ty e = absurd (no_const c (parts p.local w.first k.typed.ty w.chosen (whole_ty p k.typed.ty w.whole k.typed.place)) (const_typed c k))
+      fill («use» (operand.Const c)) w k mo ty e = absurd (no_const D b c (parts D b p.local w.first k.typed.ty w.chosen (whole_ty D b p k.typed.ty w.whole k.typed.place)) (const_typed D b c k))
       fill (tuple os) w k mo ty e =
           let is = whole_is p w.whole in
           let sp = split_at D b p.local w.first w.chosen in
           did_by _ _ m1' (put_in p w.first w.whole w.chosen os 0 w.first (omega arith))
-          (stmts.tuple_does D b.locals (ts2 D b) (plan D b) f2 f1 j R G bok lok needs m2s m1s p.local w.first sp os (map (split_operand (s D b)) os) m1' (apart_to p.local w.first sp os w.apart (built_fit p (tuple os) k (λ x. refl))) mo (subst (λ p. Ty (assign p (tuple os))) is ty) l (subst (λ p. exec H1 m1s (assign p (tuple os)) ≡ Some m1') is e))
+          (stmts.tuple_does D b.locals (ts2 D b) (plan D b) f2 f1 j R G bok lok needs m2s m1s p.local w.first sp os (map (split_operand (s D b)) os) m1' (apart_to p.local w.first sp os w.apart (built_fit D b p (tuple os) k (λ x. refl))) mo (subst (λ p. Ty (assign p (tuple os))) is ty) l (subst (λ p. exec H1 m1s (assign p (tuple os)) ≡ Some m1') is e))
       fill (build d v os) w k mo ty e =
           let is = whole_is p w.whole in
           let sp = split_at D b p.local w.first w.chosen in
           did_by _ _ m1' (put_in p w.first w.whole w.chosen os 0 w.first (omega arith))
-          (stmts.build_does D b.locals (ts2 D b) (plan D b) f2 f1 j R G bok lok needs m2s m1s p.local w.first sp d v os (map (split_operand (s D b)) os) m1' (apart_to p.local w.first sp os w.apart (built_fit p (build d v os) k (λ x. refl))) mo (subst (λ p. Ty (assign p (build d v os))) is ty) l (subst (λ p. exec H1 m1s (assign p (build d v os)) ≡ Some m1') is e))
+          (stmts.build_does D b.locals (ts2 D b) (plan D b) f2 f1 j R G bok lok needs m2s m1s p.local w.first sp d v os (map (split_operand (s D b)) os) m1' (apart_to p.local w.first sp os w.apart (built_fit D b p (build d v os) k (λ x. refl))) mo (subst (λ p. Ty (assign p (build d v os))) is ty) l (subst (λ p. exec H1 m1s (assign p (build d v os)) ≡ Some m1') is e))
       fill (binary op a c) w k mo ty e = absurd (let z : false ≡ true = w.gives in grind arith)
       fill (overflow op a c) w k mo ty e = absurd (let z : false ≡ true = w.gives in grind arith)
       fill (unary op a) w k mo ty e = absurd (let z : false ≡ true = w.gives in grind arith)
@@ -352,8 +263,8 @@ module _ (D : List Shape) (b : TypedBody) where
         from_chosen : s D b q.local ≡ Some w.first
         from_chosen = ap (λ (q : Place). s D b q.local) (sym from) ∙ w.chosen
 
-        from_parts : Parts q.local w.first k.typed.ty
-        from_parts = parts q.local w.first k.typed.ty from_chosen (whole_ty q k.typed.ty from_whole (used_ty p q o i k))
+        from_parts : Parts D b q.local w.first k.typed.ty
+        from_parts = parts D b q.local w.first k.typed.ty from_chosen (whole_ty D b q k.typed.ty from_whole (used_ty D b p q o i k))
 
         from_far : p.local ≡ q.local → ⊥
         from_far = not_of p.local q.local (ap (λ (q : Place). is_apart q.local p) (sym from) ∙ w.apart)
@@ -414,11 +325,11 @@ module _ (D : List Shape) (b : TypedBody) where
         go false None q ty mo e = did_by _ _ m1' (ap (split_storage storage_dead (fields_at D b.locals x) x) q) (one (storage_dead x) (storage_dead x) m1' (stays_at D b x below q) mo ty pay l e)
         go true (Some y) q ty mo e =
             let c = chosen D b x y q in
-            let ps = parts x y c.ty q c.there in
+            let ps = parts D b x y c.ty q c.there in
             did_by _ _ m1' (ap (split_storage storage_live (fields_at D b.locals x) x) q ∙ marked storage_live ps.tuple (fields_at D b.locals x) ps.parts y) (stmts.storage_does D b.locals (ts2 D b) (plan D b) f2 f1 j R G bok lok needs m2s m1s true x y ps.sp c.ty ps.tuple m1' c.there ps.is l e)
         go false (Some y) q ty mo e =
             let c = chosen D b x y q in
-            let ps = parts x y c.ty q c.there in
+            let ps = parts D b x y c.ty q c.there in
             did_by _ _ m1' (ap (split_storage storage_dead (fields_at D b.locals x) x) q ∙ marked storage_dead ps.tuple (fields_at D b.locals x) ps.parts y) (stmts.storage_does D b.locals (ts2 D b) (plan D b) f2 f1 j R G bok lok needs m2s m1s false x y ps.sp c.ty ps.tuple m1' c.there ps.is l e)
 
     pub split_does : (x : TypedStmt) (m1' : Memory) → Known D b x → StmtMoves H1 x → Ty x → Pay → All m2s m1s → exec H1 m1s x ≡ Some m1' → Did (split_stmt (s D b) (fields_at D b.locals) x) m1'
