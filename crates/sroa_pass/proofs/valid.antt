@@ -1,3 +1,4 @@
 -- A split body breaks no rule.
 pub mod Types
 pub mod Spread
+pub mod Kept

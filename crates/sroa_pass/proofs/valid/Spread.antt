@@ -66,7 +66,7 @@ only_variant (t ∷ []) zero us l e = grind arith
 only_variant (t ∷ []) (suc v) us l e = absurd (grind arith)
 only_variant (t ∷ u ∷ ts) v us l e = absurd (omega (arith, l))
 
-struct_built : (C : Crate) → Valid C → (d v : ℕ) (us t parts : Tree) → build_ty (shapes_of C) d v us ≡ Some t → fields_of (shapes_of C) t ≡ Some parts → us ≡ parts
+pub struct_built : (C : Crate) → Valid C → (d v : ℕ) (us t parts : Tree) → build_ty (shapes_of C) d v us ≡ Some t → fields_of (shapes_of C) t ≡ Some parts → us ≡ parts
 struct_built C valid d v us t parts e f =
     let (z, e1, k1) = bind_some e in
     let (fields, e2, k2) = bind_some k1 in
@@ -97,7 +97,7 @@ module _ (C : Crate) (valid : Valid C) (b b2 : TypedBody) (formed : body_formed 
   AllGood [] = Unit {0}
   AllGood (t ∷ ts) = Good t × AllGood ts
 
-  good : (p : Place) (r : TypedRvalue) → Source p r → Good (renamed (s D b) (assign p r))
+  pub good : (p : Place) (r : TypedRvalue) → Source p r → Good (renamed (s D b) (assign p r))
   unfolding stmt_formed
   good p r h =
       let place = place_formed b p in
@@ -136,7 +136,7 @@ module _ (C : Crate) (valid : Valid C) (b b2 : TypedBody) (formed : body_formed 
     form = both _ _ (longer p i fp) (both _ _ (longer q i fq) refl);
   }
 
-  copies_good : (p q : Place) (hp : Whole D b p) (hq : Whole D b q) (us : Tree) → fields_of D hp.ty ≡ Some us → fields_of D hq.ty ≡ Some us → place_formed b p ≡ true → place_formed b q ≡ true → (vs : List Tree) (i : ℕ) → ((k : ℕ) (u : Tree) → slice_get vs k ≡ Some u → field_ty us (i + k) ≡ Some u) → AllGood (map (renamed (s D b)) (copies p q i vs))
+  pub copies_good : (p q : Place) (hp : Whole D b p) (hq : Whole D b q) (us : Tree) → fields_of D hp.ty ≡ Some us → fields_of D hq.ty ≡ Some us → place_formed b p ≡ true → place_formed b q ≡ true → (vs : List Tree) (i : ℕ) → ((k : ℕ) (u : Tree) → slice_get vs k ≡ Some u → field_ty us (i + k) ≡ Some u) → AllGood (map (renamed (s D b)) (copies p q i vs))
   copies_good p q hp hq us gp gq fp fq [] i h = tt
   copies_good p q hp hq us gp gq fp fq (v ∷ vs) i h =
       let here : field_ty us i ≡ Some v = ap (field_ty us) (let z : i ≡ i + 0 = omega arith in z) ∙ h 0 v refl in
@@ -171,7 +171,7 @@ module _ (C : Crate) (valid : Valid C) (b b2 : TypedBody) (formed : body_formed 
     form = both _ _ (longer p i fp) (both _ _ (both _ _ fo refl) places);
   }
 
-  puts_good : (p : Place) (hp : Whole D b p) (us : Tree) → fields_of D hp.ty ≡ Some us → place_formed b p ≡ true → (os : List Operand) (ts : Tree) (i : ℕ) → operands_ty D b.locals os ≡ Some ts → ((k : ℕ) (u : Tree) → field_ty ts k ≡ Some u → field_ty us (i + k) ≡ Some u) → AllFit D b (flat_map operand_places os) → list_all operand_formed os ≡ true → list_all (place_formed b) (flat_map operand_places os) ≡ true → MovesKept D b.locals os → AllGood (map (renamed (s D b)) (puts p i os))
+  pub puts_good : (p : Place) (hp : Whole D b p) (us : Tree) → fields_of D hp.ty ≡ Some us → place_formed b p ≡ true → (os : List Operand) (ts : Tree) (i : ℕ) → operands_ty D b.locals os ≡ Some ts → ((k : ℕ) (u : Tree) → field_ty ts k ≡ Some u → field_ty us (i + k) ≡ Some u) → AllFit D b (flat_map operand_places os) → list_all operand_formed os ≡ true → list_all (place_formed b) (flat_map operand_places os) ≡ true → MovesKept D b.locals os → AllGood (map (renamed (s D b)) (puts p i os))
   unfolding operands_ty
   puts_good p hp us gp fp [] ts i e h all fo fs m = tt
   puts_good p hp us gp fp (o ∷ os) ts i e h all fo fs m =
