@@ -8,3 +8,4 @@ pub mod KnownAt
 pub mod valid
 pub mod refines
 pub mod Rows
+pub mod PassLaws

@@ -12,3 +12,4 @@ pub mod Stmts
 pub mod Does
 pub mod Frames
 pub mod Law
+pub mod Refined

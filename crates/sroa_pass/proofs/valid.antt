@@ -2,3 +2,4 @@
 pub mod Types
 pub mod Spread
 pub mod Kept
+pub mod Body
