@@ -1,10 +1,10 @@
 -- A crate with a split body refines the crate.
-use Rattle.std.proofs.Common.{◌≡◌, refl, sym, ap, ◌∙◌, subst, ℕ, ◌<◌, ◌≤◌, List, [], ◌∷◌, length, Option, Some, None, slice_get, arith}
+use Rattle.std.proofs.Common.{◌≡◌, refl, sym, ap, ◌∙◌, subst, ℕ, ◌<◌, ◌≤◌, true, List, [], ◌∷◌, length, Option, Some, None, slice_get, arith}
 use Rattle.std.proofs.lemmas.List.{set-set}
 use Rattle.mir_syntax.proofs.Lists.{map_there}
 use Rattle.mir_syntax.specs.Tree.{Tree}
 use Rattle.mir_syntax.specs.Crate.{TypedStmt, TypedBlock, TypedBody, TypedFunction, Crate}
-use Rattle.mir_syntax.specs.Shapes.{shapes_of}
+use Rattle.mir_syntax.specs.Shapes.{Shape, shapes_of}
 use Rattle.mir_rules.specs.Drops.{is_drop, NoDrops}
 use Rattle.mir_rules.specs.Formed.{body_formed}
 use Rattle.mir_rules.specs.Valid.{Valid, with_body, at_function, ValidAt}
