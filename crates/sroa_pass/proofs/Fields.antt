@@ -1,5 +1,5 @@
 -- The fields of a type that may be split.
-use Rattle.std.proofs.Common.{◌≡◌, refl, sym, ap, ap₂, ◌∙◌, subst, ℕ, zero, suc, Bool, true, false, ◌||◌, nat_lt, if◌then◌else◌, List, [], ◌∷◌, length, Option, Some, None, is_some, slice_get, arith}
+use Rattle.std.proofs.Common.{◌≡◌, refl, sym, ap, ap₂, ◌∙◌, ℕ, zero, suc, Bool, true, false, ◌||◌, nat_lt, if◌then◌else◌, List, [], length, Option, Some, None, is_some, slice_get, arith}
 use Rattle.mir_syntax.specs.Tree.{Tree, scalar, empty, more, ref, ref_mut, named}
 use Rattle.mir_syntax.specs.Shapes.{◌>>=◌, Shape, fields_of, field_ty, fields_of_struct, struct_fields, destructor_of}
 use Rattle.mir_syntax.proofs.Binds.{bind_some, some_bind}

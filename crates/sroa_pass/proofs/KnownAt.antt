@@ -1,13 +1,12 @@
 -- What a valid body says of its statements and of what the split body has for them.
-use Rattle.std.proofs.Common.{◌≡◌, inl, inr, refl, ℕ, ◌<◌, true, nat_lt, ◌&&◌, List, [], ◌∷◌, ◌++◌, length, Some, slice_get, arith, ltb-true}
-use Rattle.std.specs.List.{list_all}
+use Rattle.std.proofs.Common.{◌≡◌, inl, inr, ℕ, true, List, ◌++◌, length, Some, slice_get, ltb-true}
 use Rattle.mir_syntax.specs.Crate.{TypedRvalue, «use», binary, overflow, unary, cast, discriminant, tuple, build, TypedStmt, assign, storage_live, storage_dead, set_discriminant, TypedBlock, TypedBody, Crate}
 use Rattle.mir_syntax.specs.Crate as rvalue
 use Rattle.mir_syntax.specs.Shapes.{Shape, shapes_of}
 use Rattle.mir_syntax.specs.Parts.{term_places}
 use Rattle.mir_rules.specs.BodyRules.{breaks_v05, breaks_v06}
 use Rattle.mir_rules.specs.Broken.{if_broken, own_broken, operands_broken, terminator_broken}
-use Rattle.mir_rules.specs.Formed.{local_formed, stmt_formed, body_formed}
+use Rattle.mir_rules.specs.Formed.{stmt_formed, body_formed}
 use Rattle.mir_syntax.specs.Parts.{term_operands}
 use Rattle.mir_rules.proofs.Keeps.{BodyKeeps}
 use Rattle.mir_rules.proofs.Lists.{append_empty-left, append_empty-right, if_broken_empty}

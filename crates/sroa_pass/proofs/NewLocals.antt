@@ -1,5 +1,5 @@
 -- The locals of fields: where they stand, whose they are, and how many.
-use Rattle.std.proofs.Common.{◌≡◌, ◌⊎◌, inl, inr, refl, sym, ap, ap₂, ◌∙◌, subst, ℕ, zero, suc, ◌+◌, ◌<◌, ◌≤◌, Bool, true, false, ◌&&◌, nat_lt, if◌then◌else◌, List, [], ◌∷◌, ◌++◌, length, get_or, Option, Some, None, slice_get, arith, ltb-true}
+use Rattle.std.proofs.Common.{◌≡◌, refl, sym, ap, ap₂, ◌∙◌, subst, ℕ, zero, suc, ◌+◌, ◌≤◌, Bool, true, false, ◌&&◌, nat_lt, if◌then◌else◌, List, [], ◌∷◌, ◌++◌, length, get_or, Option, Some, None, slice_get, arith, ltb-true}
 use Rattle.std.proofs.lemmas.List.{length-append}
 use Rattle.mir_syntax.specs.Tree.{Tree}
 use Rattle.mir_syntax.specs.Crate.{TypedBody}

@@ -1,5 +1,5 @@
 -- The plan of a split body: which locals are split, and what stands for its places, operands and terminators.
-use Rattle.std.proofs.Common.{◌≡◌, ◌⊎◌, inl, inr, refl, sym, ap, ap₂, ◌∙◌, subst, ℕ, zero, suc, ◌+◌, ◌-◌, ◌<◌, ◌≤◌, Bool, true, false, not, ◌&&◌, ◌||◌, nat_eq, nat_lt, if◌then◌else◌, List, [], ◌∷◌, ◌++◌, map, length, get_or, Option, Some, None, slice_get, arith, ltb-true, lt-ltb, le-ltb, eq-eqb}
+use Rattle.std.proofs.Common.{◌≡◌, inl, inr, refl, sym, ap, ap₂, ◌∙◌, subst, ℕ, zero, suc, ◌+◌, ◌-◌, ◌<◌, ◌≤◌, Bool, true, false, not, ◌&&◌, ◌||◌, nat_eq, nat_lt, if◌then◌else◌, List, [], ◌∷◌, ◌++◌, map, length, get_or, Option, Some, None, slice_get, arith, ltb-true, lt-ltb, le-ltb, eq-eqb}
 use Rattle.std.specs.List.{list_all, list_any, flat_map}
 use Rattle.std.proofs.lemmas.Option.{slice_get_within}
 use Rattle.std.proofs.lemmas.Bool.{not-true}
@@ -12,8 +12,8 @@ use Rattle.mir_syntax.specs.declared.body.Operand.TheVariants as operand
 use Rattle.mir_syntax.specs.declared.body.Term.{Term}
 use Rattle.mir_syntax.specs.declared.body.Term.TheVariants.{Goto, Switch, Return, Unreachable, Drop, Call, Assert}
 use Rattle.mir_syntax.specs.Tree.{Tree, empty}
-use Rattle.mir_syntax.specs.Crate.{TypedRvalue, TypedStmt, TypedBlock, TypedBody}
-use Rattle.mir_syntax.specs.Shapes.{◌>>=◌, Shape, fields_of, field_ty, path_ty, place_ty}
+use Rattle.mir_syntax.specs.Crate.{TypedStmt, TypedBlock, TypedBody}
+use Rattle.mir_syntax.specs.Shapes.{Shape, fields_of, field_ty, path_ty, place_ty}
 use Rattle.mir_syntax.specs.Parts.{begins_with_field, operand_places, term_places}
 use Rattle.mir_syntax.proofs.Binds.{bind_some}
 use Rattle.mir_syntax.proofs.Bools.{if_true, if_false}
@@ -25,8 +25,8 @@ use Rattle.mir_renaming.proofs.Types.{can_hole}
 use Rattle.escape_info.specs.Borrowed.{borrowed}
 use Rattle.sroa_pass.specs.Split.{field_types, by_field, allows_stmt, allows_block, most_fields, may_split, firsts, new_types, First, moved_to, split_place, split_operand, split_term, first_of, fields_at}
 use Rattle.sroa_pass.proofs.Fields.{Splits, splits, parts_at}
-use Rattle.sroa_pass.proofs.NewLocals.{in_front, get_some, owners_from, IsFirst, is_first}
-use Rattle.sroa_pass.proofs.Plans.{Has, Plan, PartAs, PlaceTo, OperandTo, OperandsTo, TermTo}
+use Rattle.sroa_pass.proofs.NewLocals.{in_front, get_some, owners_from, is_first}
+use Rattle.sroa_pass.proofs.Plans.{Has, Plan, PlaceTo, OperandTo, OperandsTo, TermTo}
 
 pub val : {A : Type 0} {x y : A} → Some x ≡ Some y → x ≡ y
 val e = grind arith
@@ -83,9 +83,9 @@ module _ (D : List Shape) (b : TypedBody) where
         above = omega (arith, first);
         types = λ k u g. ap (λ n. slice_get ts2 n) (let z : y + k ≡ length b.locals + (d + k) = omega (arith, first) in z) ∙ slice_get-behind b.locals (new_types D (firsts D b) b.locals) (d + k) ∙ f.types k u g;
         owner = λ k u g. (
-          let far : length b.locals ≤ y + k = omega (arith, first) in
-          let z : (y + k) - length b.locals ≡ d + k = omega (arith, first) in
-          if_false None _ (le-ltb (y + k) (length b.locals) far) ∙ ap (slice_get (owners_from D b (firsts D b) 0 b.locals)) z ∙ f.owner k u g ∙ ap (λ x. Some (x, k)) x0);
+            let far : length b.locals ≤ y + k = omega (arith, first) in
+            let z : (y + k) - length b.locals ≡ d + k = omega (arith, first) in
+            if_false None _ (le-ltb (y + k) (length b.locals) far) ∙ ap (slice_get (owners_from D b (firsts D b) 0 b.locals)) z ∙ f.owner k u g ∙ ap (λ x. Some (x, k)) x0);
       }
 
   -- what it has is among its type's fields

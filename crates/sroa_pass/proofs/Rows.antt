@@ -1,5 +1,5 @@
 -- Small bodies split, computed.
-use Rattle.std.proofs.Common.{◌≡◌, refl, ℕ, true, false, List, [], ◌∷◌, ◌++◌, Option, Some, None}
+use Rattle.std.proofs.Common.{◌≡◌, refl, ℕ, true, false, List, [], ◌∷◌, ◌++◌, Some, None}
 use Rattle.mir_syntax.specs.declared.types.IntTy.TheVariants.{U8, U32}
 use Rattle.mir_syntax.specs.declared.types.ScalarTy.TheVariants as scalar_ty
 use Rattle.mir_syntax.specs.declared.body.BinOp.TheVariants.{Add}
@@ -14,7 +14,7 @@ use Rattle.mir_syntax.specs.declared.body.Term.TheVariants.{Return}
 use Rattle.mir_syntax.specs.Tree.{Tree, scalar, empty, more, ref, ref_mut, named}
 use Rattle.mir_syntax.specs.Crate.{«use», binary, overflow, tuple, build, TypedStmt, assign, storage_live, storage_dead, TypedBody}
 use Rattle.mir_syntax.specs.Crate as rvalue
-use Rattle.mir_syntax.specs.Shapes.{Shape, ◌>>=◌, needs_drop, place_ty, whole_place_ty, whole_path_ty}
+use Rattle.mir_syntax.specs.Shapes.{Shape, ◌>>=◌}
 use Rattle.sroa_pass.specs.Split.{split}
 
 abbrev u8 : Tree
@@ -64,10 +64,10 @@ copying =
 splits_copies : split [] (returning 1 (more bytes (more u8 empty) ∷ bytes ∷ bytes ∷ bytes ∷ []) copying)
     ≡ returning 1 (more bytes (more u8 empty) ∷ bytes ∷ bytes ∷ bytes ∷ u8 ∷ u8 ∷ u8 ∷ u8 ∷ [])
     (storage_live 4 ∷ storage_live 5
-        ∷ assign (local 4) («use» (Copy (field 1 0))) ∷ assign (local 5) («use» (Copy (field 1 1)))
-        ∷ assign (local 6) («use» (Copy (local 4))) ∷ assign (local 7) («use» (Copy (local 5)))
-        ∷ assign (at 0 (Field 0 ∷ Field 0 ∷ [])) («use» (Copy (local 6))) ∷ assign (at 0 (Field 0 ∷ Field 1 ∷ [])) («use» (Copy (local 7)))
-        ∷ storage_dead 4 ∷ storage_dead 5 ∷ [])
+    ∷ assign (local 4) («use» (Copy (field 1 0))) ∷ assign (local 5) («use» (Copy (field 1 1)))
+    ∷ assign (local 6) («use» (Copy (local 4))) ∷ assign (local 7) («use» (Copy (local 5)))
+    ∷ assign (at 0 (Field 0 ∷ Field 0 ∷ [])) («use» (Copy (local 6))) ∷ assign (at 0 (Field 0 ∷ Field 1 ∷ [])) («use» (Copy (local 7)))
+    ∷ storage_dead 4 ∷ storage_dead 5 ∷ [])
 unfolding split ◌>>=◌
 splits_copies = refl
 

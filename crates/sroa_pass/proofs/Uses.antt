@@ -1,5 +1,5 @@
 -- What an assignment that copies, moves or builds says of its places.
-use Rattle.std.proofs.Common.{◌≡◌, ◌⊎◌, inl, inr, refl, sym, ap, ap₂, ◌∙◌, subst, ℕ, Bool, true, false, ◌&&◌, List, [], ◌∷◌, Option, Some, None, is_some, slice_get, arith}
+use Rattle.std.proofs.Common.{◌≡◌, ◌⊎◌, inl, inr, refl, sym, ap, ap₂, ◌∙◌, ℕ, Bool, true, false, ◌&&◌, List, [], Option, Some, None, is_some, slice_get, arith}
 use Rattle.std.specs.List.{list_all}
 use Rattle.mir_syntax.specs.declared.body.Place.{Place}
 use Rattle.mir_syntax.specs.declared.body.Const.{Const}
@@ -8,7 +8,7 @@ use Rattle.mir_syntax.specs.declared.body.Operand.{Operand}
 use Rattle.mir_syntax.specs.declared.body.Operand.TheVariants as operand
 use Rattle.mir_syntax.specs.Tree.{Tree, empty, more}
 use Rattle.mir_syntax.specs.Crate.{TypedRvalue, «use», assign, TypedBody}
-use Rattle.mir_syntax.specs.Shapes.{◌>>=◌, Shape, fields_of, path_ty, place_ty}
+use Rattle.mir_syntax.specs.Shapes.{Shape, fields_of, path_ty, place_ty}
 use Rattle.mir_syntax.specs.Parts.{rvalue_places}
 use Rattle.mir_syntax.proofs.Binds.{bind_some}
 use Rattle.mir_rules.specs.Typing.{const_ty, operand_ty, rvalue_ty}

@@ -1,24 +1,23 @@
 -- The three ways in which an assignment is split: it fills a split local, hands one on, or stays one assignment.
-use Rattle.std.proofs.Common.{◌≡◌, ◌⊎◌, inl, inr, refl, sym, ap, ap₂, ◌∙◌, subst, ℕ, zero, suc, ◌+◌, ◌<◌, Bool, true, false, not, ◌&&◌, ◌||◌, nat_eq, if◌then◌else◌, List, [], ◌∷◌, ◌++◌, map, length, Option, Some, None, is_some, slice_get, arith, eq-eqb, eqb-true}
-use Rattle.std.specs.List.{list_all, list_any, flat_map}
+use Rattle.std.proofs.Common.{◌≡◌, ◌⊎◌, inl, inr, refl, sym, ap, ap₂, ◌∙◌, ℕ, ◌<◌, Bool, true, false, not, ◌&&◌, ◌||◌, nat_eq, List, [], ◌∷◌, ◌++◌, length, Option, Some, None, is_some, arith, eq-eqb, eqb-true}
+use Rattle.std.specs.List.{list_all}
 use Rattle.std.proofs.lemmas.Bool.{not-true}
 use Rattle.mir_syntax.specs.declared.body.Proj.{Proj}
 use Rattle.mir_syntax.specs.declared.body.Proj.TheVariants.{Field, Downcast, Deref}
 use Rattle.mir_syntax.specs.declared.body.Place.{Place}
-use Rattle.mir_syntax.specs.declared.body.Operand.{Operand}
 use Rattle.mir_syntax.specs.declared.body.Operand.TheVariants as operand
 use Rattle.mir_syntax.specs.Tree.{Tree}
 use Rattle.mir_syntax.specs.Crate.{TypedRvalue, «use», binary, overflow, unary, cast, discriminant, tuple, build, TypedStmt, assign, storage_live, storage_dead, set_discriminant, TypedBody}
 use Rattle.mir_syntax.specs.Crate as rvalue
 use Rattle.mir_syntax.specs.Shapes.{◌>>=◌, Shape, fields_of, field_ty, path_ty, place_ty}
-use Rattle.mir_syntax.specs.Parts.{has_deref, begins_with_field, operand_places, rvalue_places}
+use Rattle.mir_syntax.specs.Parts.{has_deref, begins_with_field, rvalue_places}
 use Rattle.mir_syntax.proofs.Binds.{bind_some, some_bind}
 use Rattle.mir_syntax.proofs.Bools.{if_true, if_false}
 use Rattle.mir_rules.proofs.Lists.{and_true-left, and_true-right}
-use Rattle.mir_rules.proofs.Statements.{StmtTyped, Assigns}
+use Rattle.mir_rules.proofs.Statements.{StmtTyped}
 use Rattle.mir_rules.proofs.Typed.{typed_rvalue}
 use Rattle.escape_info.specs.Borrowed.{borrowed}
-use Rattle.sroa_pass.specs.Split.{is_nil, is_of, is_whole, is_apart, by_field, gives_fields, takes_whole, fills, hands_on, allows_stmt, First, Fields, used_place, is_split, spread, spread_read, by_fields, field_at}
+use Rattle.sroa_pass.specs.Split.{is_nil, is_whole, is_apart, by_field, gives_fields, takes_whole, fills, hands_on, allows_stmt, First, Fields, used_place, is_split, spread, spread_read, by_fields, field_at}
 use Rattle.sroa_pass.proofs.Planned.{val, s, Fits, AllFit, all_fit}
 
 pub or_true : (a b : Bool) → (a || b) ≡ true → (a ≡ true) ⊎ (b ≡ true)
@@ -130,9 +129,9 @@ module _ (D : List Shape) (b : TypedBody) where
     -- the whole of a split local is not in a field of it
     not_by_field : (x : ℕ) (q : Place) → q.local ≡ x → q.proj ≡ [] → by_field x q ≡ true → ⊥
     not_by_field x q e n h = (
-      let z : (not (nat_eq q.local x) || begins_with_field q.proj) ≡ false = ap₂ (λ c ps. not c || begins_with_field ps) (eq-eqb q.local x e) n in
-      let k : true ≡ false = sym h ∙ z in
-      grind arith)
+        let z : (not (nat_eq q.local x) || begins_with_field q.proj) ≡ false = ap₂ (λ c ps. not c || begins_with_field ps) (eq-eqb q.local x e) n in
+        let k : true ≡ false = sym h ∙ z in
+        grind arith)
 
     is_some_of : (o : Option ℕ) → is_some o ≡ true → (y : ℕ) × (o ≡ Some y)
     is_some_of None h = absurd (grind arith)
@@ -220,9 +219,9 @@ module _ (D : List Shape) (b : TypedBody) where
               each : (x y : ℕ) → s D b x ≡ Some y → (list_all (by_field x) (rvalue_places r) ≡ true) ⊎ (hands_on x p r ≡ true) → list_all (by_field x) (rvalue_places r) ≡ true
               each x y e (inl h) = h
               each x y e (inr h) = (
-                let (q, u, w) = taken x (and_true-left (takes_whole x r) (is_apart x p && not (has_deref p.proj)) h) in
-                let z : true ≡ false = sym (whole_split x y q e w) ∙ none q u in
-                absurd (grind arith))
+                  let (q, u, w) = taken x (and_true-left (takes_whole x r) (is_apart x p && not (has_deref p.proj)) h) in
+                  let z : true ≡ false = sym (whole_split x y q e w) ∙ none q u in
+                  absurd (grind arith))
 
           handed : (q : Place) (y : ℕ) → is_split (s D b) p ≡ false → used_place r ≡ Some q → q.proj ≡ [] → s D b q.local ≡ Some y → is_split (s D b) q ≡ true → (list_all (by_field q.local) (rvalue_places r) ≡ true) ⊎ (hands_on q.local p r ≡ true) → Way
           handed q y n u w e h (inl k) = absurd (not_by_field q.local q refl w (and_true-left (by_field q.local q) true (sym (ap (list_all (by_field q.local)) (used_places q u)) ∙ k)))

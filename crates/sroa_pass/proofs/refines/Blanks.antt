@@ -1,11 +1,10 @@
 -- The fields of a blank, and the blank locals of a new frame.
-use Rattle.std.proofs.Common.{◌≡◌, refl, sym, ap, ◌∙◌, subst, ℕ, zero, suc, ◌<◌, ◌≤◌, Bool, true, false, if◌then◌else◌, List, [], ◌∷◌, ◌++◌, length, drop, Option, Some, None, is_some, ◌||◌, slice_get, arith}
+use Rattle.std.proofs.Common.{◌≡◌, refl, sym, ap, ◌∙◌, subst, ℕ, zero, suc, ◌<◌, ◌≤◌, Bool, true, false, if◌then◌else◌, List, [], ◌∷◌, ◌++◌, length, drop, Option, Some, None, slice_get, arith}
 use Rattle.mir_syntax.specs.Tree.{Tree, scalar, empty, more, ref, ref_mut, named}
 use Rattle.mir_syntax.specs.Shapes.{Shape, ◌>>=◌, struct_fields, fields_of, fields_of_struct, field_ty}
-use Rattle.mir_semantics.specs.Values.{Value, hole, nil, cons, part, is_unit, blank_by, blank_of, blank_def, blank}
+use Rattle.mir_semantics.specs.Values.{Value, hole, cons, part, is_unit, blank_by, blank_of, blank_def, blank}
 use Rattle.mir_semantics.specs.Step.{blanks, new_slots}
 use Rattle.mir_renaming.specs.Renaming.{Renaming, ValueRel}
-use Rattle.mir_syntax.proofs.Binds.{bind_some}
 use Rattle.mir_renaming.proofs.Statements.{blank_rel}
 use Rattle.mir_renaming.proofs.Types.{can_hole, holds_by}
 use Rattle.sroa_pass.proofs.refines.Parts.{blank_by_less, blank_less}

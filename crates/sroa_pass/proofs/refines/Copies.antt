@@ -1,14 +1,14 @@
 -- The fields of a place, read one by one.
-use Rattle.std.proofs.Common.{◌≡◌, refl, sym, ap, ap₂, ◌∙◌, subst, ℕ, zero, suc, ◌+◌, Bool, true, false, ◌&&◌, List, [], ◌∷◌, ◌++◌, Option, Some, None, arith}
+use Rattle.std.proofs.Common.{◌≡◌, refl, sym, ap, ◌∙◌, subst, ℕ, suc, ◌+◌, Bool, true, false, ◌&&◌, List, [], ◌∷◌, ◌++◌, Option, Some, arith}
 use Rattle.mir_syntax.specs.declared.body.Proj.{Proj}
-use Rattle.mir_syntax.specs.declared.body.Proj.TheVariants.{Field, Downcast, Deref}
+use Rattle.mir_syntax.specs.declared.body.Proj.TheVariants.{Field}
 use Rattle.mir_syntax.specs.declared.body.Place.{Place}
 use Rattle.mir_syntax.specs.declared.body.Operand.{Operand}
 use Rattle.mir_syntax.specs.declared.body.Operand.TheVariants as operand
 use Rattle.mir_syntax.specs.Tree.{Tree, scalar, empty, more, ref, ref_mut, named}
-use Rattle.mir_syntax.specs.Shapes.{Shape, ◌>>=◌}
+use Rattle.mir_syntax.specs.Shapes.{Shape}
 use Rattle.mir_semantics.specs.Values.{Addr, Value, number, nil, cons, variant, pointer, hole, listed, whole, part, inner, at_path}
-use Rattle.mir_semantics.specs.Memory.{Memory, local_at, value_at, further, there, project, walk}
+use Rattle.mir_semantics.specs.Memory.{Memory, value_at, further, there, project, walk}
 use Rattle.mir_semantics.specs.Step.{Here, local_addr, resolve, read_at, read, read_all}
 use Rattle.mir_syntax.proofs.Binds.{bind_some, some_bind}
 use Rattle.mir_renaming.proofs.Statements.{true_only}

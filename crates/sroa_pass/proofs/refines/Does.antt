@@ -1,37 +1,31 @@
 -- Each statement of the body, and the statements that the split body has for it.
-use Rattle.std.proofs.Common.{◌≡◌, ◌⊎◌, inl, inr, refl, sym, ap, ap₂, ◌∙◌, subst, ℕ, zero, suc, ◌+◌, ◌<◌, Bool, true, false, not, ◌&&◌, nat_eq, if◌then◌else◌, is_some, List, [], ◌∷◌, ◌++◌, map, length, Option, Some, None, slice_get, arith, eq-eqb}
+use Rattle.std.proofs.Common.{◌≡◌, ◌⊎◌, inl, inr, refl, sym, ap, ap₂, ◌∙◌, subst, ℕ, suc, ◌+◌, ◌<◌, Bool, true, false, not, nat_eq, if◌then◌else◌, List, [], ◌∷◌, ◌++◌, map, length, Option, Some, None, slice_get, arith, eq-eqb}
 use Rattle.std.specs.List.{list_all, flat_map}
-use Rattle.std.proofs.lemmas.Bool.{not-true}
 use Rattle.mir_syntax.specs.declared.body.Proj.{Proj}
 use Rattle.mir_syntax.specs.declared.body.Proj.TheVariants.{Field, Downcast, Deref}
 use Rattle.mir_syntax.specs.declared.body.Place.{Place}
-use Rattle.mir_syntax.specs.declared.body.Const.{Const}
-use Rattle.mir_syntax.specs.declared.body.Const.TheVariants as constant
 use Rattle.mir_syntax.specs.declared.body.Operand.{Operand}
 use Rattle.mir_syntax.specs.declared.body.Operand.TheVariants as operand
 use Rattle.mir_syntax.specs.Tree.{Tree, scalar, empty, more, ref, ref_mut, named}
 use Rattle.mir_syntax.specs.Crate.{TypedRvalue, «use», binary, overflow, unary, cast, discriminant, tuple, build, TypedStmt, assign, storage_live, storage_dead, set_discriminant, TypedBody}
 use Rattle.mir_syntax.specs.Crate as rvalue
-use Rattle.mir_syntax.specs.Shapes.{◌>>=◌, Shape, fields_of, field_ty, path_ty, place_ty}
+use Rattle.mir_syntax.specs.Shapes.{Shape, fields_of, field_ty, place_ty}
 use Rattle.mir_syntax.specs.Parts.{has_deref, operand_places, rvalue_places}
 use Rattle.mir_syntax.proofs.Binds.{bind_some, some_bind}
-use Rattle.mir_rules.specs.Typing.{const_ty, operand_ty, rvalue_ty}
-use Rattle.mir_rules.proofs.Typed.{typed_rvalue}
 use Rattle.mir_rules.proofs.Lists.{and_true-left, and_true-right}
-use Rattle.mir_semantics.specs.Values.{Value, blank}
+use Rattle.mir_semantics.specs.Values.{blank}
 use Rattle.mir_semantics.specs.Memory.{Memory}
 use Rattle.mir_semantics.specs.Step.{Here, type_of, exec}
 use Rattle.mir_renaming.specs.Renaming.{Renaming}
 use Rattle.mir_renaming.proofs.Types.{TypeMap, HasTy, StmtTy}
 use Rattle.mir_renaming.proofs.Agree.{NeedsOk}
 use Rattle.mir_relate.specs.Alike.{Between}
-use Rattle.mir_relate.specs.Pass.{AllMoves, StmtMoves}
+use Rattle.mir_relate.specs.Pass.{StmtMoves}
 use Rattle.escape_info.specs.Borrowed.{borrowed}
-use Rattle.sroa_pass.specs.Split.{parts_of, field_types, is_nil, is_whole, takes_whole, hands_on, spread, is_apart, by_field, gives_fields, allows_stmt, First, Fields, moved_to, split_place, split_operand, split_rvalue, is_split, copies, puts, by_fields, renamed, storages, split_stmt, field_at, fields_at, split_storage}
-use Rattle.sroa_pass.proofs.Fields.{Rows, parts_rows, parts_more}
+use Rattle.sroa_pass.specs.Split.{parts_of, spread, is_apart, First, Fields, moved_to, split_place, split_operand, split_rvalue, copies, puts, by_fields, renamed, storages, split_stmt, field_at, fields_at, split_storage}
 use Rattle.sroa_pass.proofs.Plans.{local_place, Plan, PlaceTo, OperandTo, OperandsTo}
-use Rattle.sroa_pass.proofs.Planned.{val, s, ts2, plan, Chosen, chosen, chosen_fields, split_at, stays_at, lent_at, unlent, Fits, place_local, place_to, AllFit, all_fit, has_fields, operand_to, operands_to}
-use Rattle.sroa_pass.proofs.Ways.{Known, Whole, field_fits, Filled, Handed, Stays, Way, way, read, split_parts, whole_split, whole_parts, field_typed}
+use Rattle.sroa_pass.proofs.Planned.{val, s, ts2, plan, chosen, split_at, stays_at, lent_at, unlent, Fits, place_local, place_to, AllFit, operand_to, operands_to}
+use Rattle.sroa_pass.proofs.Ways.{Known, Whole, field_fits, Filled, Handed, Way, way, field_typed}
 use Rattle.sroa_pass.proofs.Uses.{whole_ty, used_ty, used_whole, split_or_fits, built_fit, const_typed, Parts, parts, no_const}
 use Rattle.sroa_pass.proofs.refines.Copies.{field_copies}
 use Rattle.sroa_pass.proofs.refines.Given.{gives_by}

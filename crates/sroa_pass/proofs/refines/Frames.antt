@@ -1,27 +1,27 @@
 -- Frames of the split body: what waits of them, and what comes to them.
-use Rattle.std.proofs.Common.{◌≡◌, ◌⊎◌, inl, inr, refl, sym, ap, ap₂, ◌∙◌, subst, ℕ, zero, suc, ◌+◌, ◌<◌, ◌≤◌, true, false, nat_eq, List, [], ◌∷◌, ◌++◌, length, drop, Option, Some, None, slice_get, arith}
+use Rattle.std.proofs.Common.{◌≡◌, ◌⊎◌, inl, inr, refl, sym, ap, ◌∙◌, subst, ℕ, ◌+◌, ◌<◌, ◌≤◌, true, List, length, drop, Option, Some, None, slice_get, arith}
 use Rattle.std.specs.List.{flat_map}
 use Rattle.mir_syntax.specs.Tree.{Tree}
 use Rattle.mir_syntax.specs.Shapes.{Shape}
 use Rattle.mir_syntax.specs.Crate.{TypedStmt, TypedBlock}
-use Rattle.mir_semantics.specs.Values.{Addr, Value, blank}
+use Rattle.mir_semantics.specs.Values.{Addr, Value}
 use Rattle.mir_semantics.specs.Memory.{Memory, local_at, value_at, write}
-use Rattle.mir_semantics.specs.Step.{Dest, Dropping, Control, allows, store}
-use Rattle.mir_renaming.specs.Renaming.{Renaming, AddrRel, ValueRel, SomeRel, Sub, MemRel}
+use Rattle.mir_semantics.specs.Step.{Dest, Control, allows, store}
+use Rattle.mir_renaming.specs.Renaming.{Renaming, AddrRel, SomeRel, Sub}
 use Rattle.mir_syntax.proofs.Binds.{bind_some, some_bind}
 use Rattle.mir_renaming.proofs.Memory.{fewer}
 use Rattle.mir_renaming.proofs.Ghosts.{value_mono}
 use Rattle.mir_renaming.proofs.Statements.{Linked, write_linked, only_true, true_only, allows_rel}
 use Rattle.mir_renaming.proofs.Types.{TypeMap, AddrTy}
 use Rattle.mir_renaming.proofs.Agree.{tight_agree}
-use Rattle.mir_renaming.proofs.Stores.{root_of, store_split}
-use Rattle.mir_relate.specs.Alike.{Between, Same}
+use Rattle.mir_renaming.proofs.Stores.{root_of}
+use Rattle.mir_relate.specs.Alike.{Same}
 use Rattle.mir_relate.specs.Leaves.{Leaves}
 use Rattle.mir_relate.specs.Frames.{Change}
 use Rattle.mir_relate.proofs.Leaves.{leaves_then, leaves_source, leaves_target, leaves_write}
 use Rattle.sroa_pass.proofs.refines.Parts as parts
 use Rattle.sroa_pass.proofs.refines.Parts.{Parts, PartOf}
-use Rattle.sroa_pass.proofs.Plans.{Has, Plan, PlaceTo}
+use Rattle.sroa_pass.proofs.Plans.{Has, Plan}
 use Rattle.sroa_pass.proofs.refines.Pieces as pieces
 use Rattle.sroa_pass.proofs.refines.Pieces.{Roots}
 

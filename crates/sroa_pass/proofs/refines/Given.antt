@@ -1,5 +1,5 @@
 -- The whole of a split local goes to a place without a dereference, field by field.
-use Rattle.std.proofs.Common.{◌≡◌, ◌⊎◌, inl, inr, refl, sym, ap, ap₂, ◌∙◌, subst, ℕ, zero, suc, ◌+◌, Bool, true, false, ◌&&◌, if◌then◌else◌, List, [], ◌∷◌, ◌++◌, Option, Some, None, slice_get, option_map, arith}
+use Rattle.std.proofs.Common.{◌≡◌, ◌⊎◌, inl, inr, refl, sym, ap, ap₂, ◌∙◌, subst, ℕ, suc, ◌+◌, true, false, ◌&&◌, if◌then◌else◌, List, [], ◌∷◌, ◌++◌, Option, Some, None, slice_get, option_map, arith}
 use Rattle.mir_syntax.specs.declared.body.Proj.{Proj}
 use Rattle.mir_syntax.specs.declared.body.Proj.TheVariants.{Field}
 use Rattle.mir_syntax.specs.declared.body.Place.{Place}
@@ -14,15 +14,15 @@ use Rattle.mir_syntax.specs.Parts.{has_deref}
 use Rattle.mir_renaming.specs.Renaming.{Renaming, RootOf}
 use Rattle.mir_syntax.proofs.Binds.{bind_some, some_bind}
 use Rattle.mir_renaming.proofs.Memory.{root_or_not, write_same, write_other}
-use Rattle.mir_renaming.proofs.Types.{TypeMap, AddrTy, HasTy, MemTy, value_at_ty, more_eq}
+use Rattle.mir_renaming.proofs.Types.{TypeMap, AddrTy, HasTy, value_at_ty, more_eq}
 use Rattle.mir_renaming.proofs.Agree.{NeedsOk}
-use Rattle.mir_relate.specs.Alike.{Between, Sides, GotMemory}
+use Rattle.mir_relate.specs.Alike.{Between, Sides}
 use Rattle.sroa_pass.proofs.Plans.{local_place}
-use Rattle.sroa_pass.proofs.Plans.{Has, Plan, PartAs, PlaceTo}
+use Rattle.sroa_pass.proofs.Plans.{Has, Plan, PlaceTo}
 use Rattle.sroa_pass.proofs.refines.Rooms.{part_there, rows_ty, part_field, alongside}
 use Rattle.sroa_pass.proofs.Fields.{Rows}
 use Rattle.sroa_pass.proofs.refines.Copies.{field_of, field_read, field_there, both_true}
-use Rattle.sroa_pass.proofs.refines.Nested.{Above, walk_still, value_still, puts, puts_all, Alongside}
+use Rattle.sroa_pass.proofs.refines.Nested.{walk_still, value_still, puts, puts_all, Alongside}
 use Rattle.sroa_pass.proofs.refines.Whole.{exec_all}
 use Rattle.sroa_pass.proofs.refines.Pieces as pieces
 use Rattle.sroa_pass.proofs.refines.Pieces.{Roots}
@@ -119,8 +119,7 @@ module _ (D : List Shape) (ts1 ts2 : List Tree) (P : Plan D ts1 ts2) (x0 y0 : �
         let exb : local_at m1b f1 x0 ≡ Some v = write_other m1 (further a (Field i)) w f1 x0 (λ c d. far (sym d)) ∙ ex in
         let erb = walk_still p.proj m1 m1b (record { frame = f1; local = p.local; path = [] }) a plain er (λ c ab z e. value_still m1 a c i w z ab e) in
         let (old', evb) = value_still m1 a a i w old ([], refl, refl, nil_end a.path) ev in
-        let (m2', m1', ran, q', at, out) = given_run ws (suc i) m2b m1b old' qb w2 exb erb evb (λ k z e. next k z (pk (suc k) z e)) in
-        (
+        let (m2', m1', ran, q', at, out) = given_run ws (suc i) m2b m1b old' qb w2 exb erb evb (λ k z e. next k z (pk (suc k) z e)) in (
           m2',
           m1',
           some_bind _ g ran,

@@ -1,7 +1,6 @@
 -- What splitting shows of the frames of a body that drops nothing, for statements that do as their splits do.
-use Rattle.std.proofs.Common.{◌≡◌, ◌⊎◌, inl, inr, refl, sym, ap, ap₂, ◌∙◌, subst, ℕ, zero, suc, ◌+◌, ◌<◌, ◌≤◌, true, false, nat_eq, List, [], ◌∷◌, ◌++◌, length, drop, Option, Some, None, slice_get, arith}
+use Rattle.std.proofs.Common.{◌≡◌, ◌⊎◌, inl, inr, refl, sym, ap, ap₂, ◌∙◌, subst, ℕ, zero, suc, ◌+◌, ◌<◌, ◌≤◌, false, List, [], ◌∷◌, ◌++◌, length, drop, Option, Some, None, slice_get, arith}
 use Rattle.std.specs.List.{flat_map}
-use Rattle.mir_syntax.specs.declared.body.Place.{Place}
 use Rattle.mir_syntax.specs.declared.body.Operand.{Operand}
 use Rattle.mir_syntax.specs.declared.body.Operand.TheVariants as operand
 use Rattle.mir_syntax.specs.declared.body.Term.{Term}
@@ -9,22 +8,21 @@ use Rattle.mir_syntax.specs.declared.body.Term.TheVariants.{Goto, Switch, Return
 use Rattle.mir_syntax.specs.Tree.{Tree}
 use Rattle.mir_syntax.specs.Shapes.{Shape}
 use Rattle.mir_syntax.specs.Crate.{TypedStmt, TypedBlock, TypedBody}
-use Rattle.mir_semantics.specs.Values.{Addr, Value, blank, part}
-use Rattle.mir_semantics.specs.Memory.{Memory, local_at, write, open_frame}
-use Rattle.mir_semantics.specs.Step.{Code, Here, Dest, Dropping, Control, State, Next, on, local_addr, read_at, go_on, to_block, next_stmt, take_arm, destroyed, return_to, exec, new_slots, perform, step, dest_of}
-use Rattle.mir_renaming.specs.Renaming.{Renaming, AddrRel, ValueRel, SomeRel, Sub, MemRel}
+use Rattle.mir_semantics.specs.Values.{Value, blank, part}
+use Rattle.mir_semantics.specs.Memory.{Memory, local_at, open_frame}
+use Rattle.mir_semantics.specs.Step.{Here, Dest, Control, State, Next, on, local_addr, read_at, go_on, to_block, next_stmt, take_arm, return_to, exec, new_slots, perform, step}
+use Rattle.mir_renaming.specs.Renaming.{Renaming, SomeRel, Sub}
 use Rattle.mir_syntax.proofs.Binds.{bind_some, some_bind}
 use Rattle.mir_renaming.proofs.Frames.{open_same}
 use Rattle.mir_renaming.proofs.Ghosts.{value_mono}
 use Rattle.mir_renaming.proofs.Statements as text
 use Rattle.mir_renaming.proofs.Statements.{Linked, ValuesRel}
 use Rattle.mir_renaming.proofs.Types.{TypeMap, AddrTy, HasTy, resolve_ty, value_at_ty, blank_fits, dest_ty}
-use Rattle.mir_renaming.proofs.Typed.{FramesTy, TermTy}
+use Rattle.mir_renaming.proofs.Typed.{TermTy}
 use Rattle.mir_relate.specs.Simulation.{moves, keep_on}
 use Rattle.mir_renaming.proofs.Ghosts.{Flat}
 use Rattle.mir_renaming.proofs.Frames.{new_control}
 use Rattle.mir_renaming.proofs.Agree.{whole_tight}
-use Rattle.mir_relate.specs.Pass.{MoveOk}
 use Rattle.mir_renaming.proofs.Items.{step_parts}
 use Rattle.mir_relate.proofs.Rest.{drop_some, drop_none, get_drop}
 use Rattle.trim_locals.proofs.refines.Slots.{slots_of}
@@ -36,13 +34,11 @@ use Rattle.mir_relate.specs.Frames.{Change, target, Pass, lowest, opened, Below}
 use Rattle.mir_relate.specs.Pass.{GentleTo, KnowsAll, Valids, AllMoves, TermMoves, FewTerm, KeptLaw, FrameLaws, Laws, Goes, Answers, Related}
 use Rattle.mir_relate.proofs.Leaves.{some_val, leaves_none, leaves_then}
 use Rattle.mir_relate.proofs.Opens.{opened_at, opened_parts, opened_up}
-use Rattle.mir_relate.proofs.Stacks.{knows_all, below_kept}
 use Rattle.mir_relate.proofs.Wholes.{read_at_whole}
 use Rattle.mir_relate.proofs.BodyLaw.{goes_answer}
 use Rattle.mir_relate.proofs.Own as own
 use Rattle.mir_relate.proofs.Single.{step_is, back_core, knows_waiting}
 use Rattle.mir_relate.proofs.Mild.{gentle_on}
-use Rattle.sroa_pass.proofs.refines.Parts.{Parts}
 use Rattle.sroa_pass.proofs.Plans.{Has, Plan, PlaceTo, OperandTo, OperandsTo, TermTo}
 use Rattle.sroa_pass.proofs.refines.Blanks.{blank_part, blank_slot}
 use Rattle.sroa_pass.proofs.refines.Whole.{exec_all}
@@ -209,8 +205,8 @@ module _ (X : Change) (P : Plan X.source.shapes X.body1.locals X.body2.locals) (
     once = λ x x' y e e'. sym (same_lent x y e) ∙ same_lent x' y e';
     slots = λ j vs ws hv few x y e v q. slot j vs ws hv few x y (P.lends x y e) v q;
     begins = λ j k2 k1 d2 d1 m2 m1 vs ws hv few f1 f2 l. (
-      let (n, h) = begins_at (new_control X.f k2 d2) (new_control X.f k1 d1) refl refl in
-      (n, (refl, record { function1 = refl; function2 = refl; block = refl; calm = refl; roots = begin_roots j k2 k1 f1 f2; here = h }, begin_own j k2 k1 d2 d1 m2 m1 vs ws (opened_up j k2 k1 P.lent f1 f2) hv few)));
+        let (n, h) = begins_at (new_control X.f k2 d2) (new_control X.f k1 d1) refl refl in
+        (n, (refl, record { function1 = refl; function2 = refl; block = refl; calm = refl; roots = begin_roots j k2 k1 f1 f2; here = h }, begin_own j k2 k1 d2 d1 m2 m1 vs ws (opened_up j k2 k1 P.lent f1 f2) hv few)));
     resumes = λ n s2 s1 r m2 m1 c2 c1 gs ds cs2 v w x q q2 p2 p1 l wt be l1 l2 lo dt hv k ge. resumed n s2 s1 r m2 m1 c2 c1 gs ds cs2 v w x q l wt be l1 l2 dt hv k ge;
   }
 
@@ -277,8 +273,8 @@ module _ (X : Change) (P : Plan X.source.shapes X.body1.locals X.body2.locals) (
     goal d2 d1 u2 u1 t e ad gd at = record {
       waits = λ m2 m1 q. (let (n', (z, h, o)) = edge m2 m1 u2 u1 e (owns m2 m1 q) in (z, (n', h), o, record { roots = h.roots; to2 = d2; to1 = d1; is2 = refl; is1 = refl; addr = ad; guard = gd }));
       gets = λ m2 m1 m1' v q hv k. (
-        let (m2', g, l, p, lv) = frame.comes X P st j s2.top s1.top R G m2 m1 m1' d1 d2 t v v q.near.linked q.fields ad gd at hv k in
-        (m2', g, (frame.lent_part X P st j s2.top s1.top R m2' m1' l, leaves_more m2 m1 m2' m1' q.near.leaves lv), edge m2' m1' u2 u1 e (frame.own_part X P st j s2.top s1.top R m2' m1' l p)));
+          let (m2', g, l, p, lv) = frame.comes X P st j s2.top s1.top R G m2 m1 m1' d1 d2 t v v q.near.linked q.fields ad gd at hv k in
+          (m2', g, (frame.lent_part X P st j s2.top s1.top R m2' m1' l, leaves_more m2 m1 m2' m1' q.near.leaves lv), edge m2' m1' u2 u1 e (frame.own_part X P st j s2.top s1.top R m2' m1' l p)));
     }
       where
         leaves_more : (m2 m1 m2' m1' : Memory) → Leaves D G j j f2 f1 m2 m1 s2.memory s1.memory → Leaves D G j j f2 f1 m2' m1' m2 m1 → Leaves D G j j f2 f1 m2' m1' s2.memory s1.memory

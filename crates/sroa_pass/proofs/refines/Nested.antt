@@ -1,11 +1,9 @@
 -- A value that is written field by field is written as a whole, and plain places stay where they are meanwhile.
-use Rattle.std.proofs.Common.{◌≡◌, refl, sym, ap, ap₂, ◌∙◌, subst, ℕ, zero, suc, ◌+◌, Bool, true, false, nat_eq, if◌then◌else◌, List, [], ◌∷◌, ◌++◌, Option, Some, None, option_map, arith}
+use Rattle.std.proofs.Common.{◌≡◌, refl, sym, ap, ◌∙◌, ℕ, zero, suc, Bool, true, false, nat_eq, if◌then◌else◌, List, [], ◌∷◌, ◌++◌, Option, Some, None, option_map, arith}
 use Rattle.mir_syntax.specs.declared.body.Proj.{Proj}
 use Rattle.mir_syntax.specs.declared.body.Proj.TheVariants.{Field, Downcast, Deref}
-use Rattle.mir_syntax.specs.Tree.{Tree, scalar, empty, more, ref, ref_mut, named}
-use Rattle.mir_syntax.specs.Shapes.{Shape, ◌>>=◌}
-use Rattle.mir_semantics.specs.Values.{Addr, Value, number, nil, cons, variant, pointer, hole, part, payload, inner, at_path, change_part, change_payload, change_inner, put}
-use Rattle.mir_semantics.specs.Memory.{Memory, local_at, value_at, write, further, there, project, walk}
+use Rattle.mir_semantics.specs.Values.{Addr, Value, number, nil, cons, variant, pointer, hole, part, payload, inner, at_path, change_part, change_inner, put}
+use Rattle.mir_semantics.specs.Memory.{Memory, value_at, write, further, there, project, walk}
 use Rattle.mir_syntax.specs.Parts.{has_deref}
 use Rattle.mir_syntax.proofs.Binds.{bind_some, some_bind}
 use Rattle.mir_renaming.proofs.Memory.{write_same}

@@ -1,16 +1,15 @@
 -- Memories in which a local of the source stands for several locals of the target, one for each field.
-use Rattle.std.proofs.Common.{◌≡◌, ◌⊎◌, inl, inr, refl, sym, ap, ap₂, ◌∙◌, subst, ℕ, zero, suc, ◌+◌, Bool, true, false, nat_eq, if◌then◌else◌, List, [], ◌∷◌, ◌++◌, length, Option, Some, None, slice_get, option_map, arith}
+use Rattle.std.proofs.Common.{◌≡◌, ◌⊎◌, inl, inr, refl, sym, ap, ap₂, ◌∙◌, subst, ℕ, zero, suc, ◌+◌, Bool, true, false, if◌then◌else◌, List, [], ◌∷◌, ◌++◌, Option, Some, None, slice_get, option_map, arith}
 use Rattle.mir_syntax.specs.declared.body.Proj.{Proj}
 use Rattle.mir_syntax.specs.declared.body.Proj.TheVariants.{Field, Downcast, Deref}
-use Rattle.mir_syntax.specs.declared.body.Place.{Place}
 use Rattle.mir_syntax.specs.Tree.{Tree, scalar, empty, more, ref, ref_mut, named}
 use Rattle.mir_syntax.specs.Shapes.{Shape, struct_fields}
-use Rattle.mir_semantics.specs.Values.{Addr, Value, number, nil, cons, variant, pointer, hole, part, inner, at_path, change_part, put, is_unit, blank_by, blank_of, blank_def, blank}
+use Rattle.mir_semantics.specs.Values.{Addr, Value, number, nil, cons, variant, pointer, hole, part, at_path, change_part, put, is_unit, blank_by, blank_of, blank_def}
 use Rattle.mir_semantics.specs.Memory.{Memory, local_at, value_at, write, further, there, referent, project, walk}
 use Rattle.mir_syntax.specs.Parts.{has_deref}
 use Rattle.mir_renaming.specs.Renaming.{Renaming, AddrRel, ValueRel, SomeRel, Sub, MemRel, RootOf, AddrThere}
 use Rattle.mir_syntax.proofs.Binds.{bind_some, some_bind}
-use Rattle.mir_renaming.proofs.Memory.{same_or_not, root_or_not, at_path_rel, value_at_rel, sub_addr, further_rel, put_rel, walk_rel, write_same, write_other, write_back, write_source, write_target}
+use Rattle.mir_renaming.proofs.Memory.{root_or_not, at_path_rel, value_at_rel, sub_addr, further_rel, put_rel, walk_rel, write_same, write_other, write_back, write_source, write_target}
 
 -- the first of the locals of the fields, for a local that is split; and how many fields there are
 abbrev pub Splits : Type 0

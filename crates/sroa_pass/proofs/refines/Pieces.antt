@@ -1,15 +1,15 @@
 -- The memories of a frame of the body and one of the split body, whose locals stand one for one, but for the split ones.
-use Rattle.std.proofs.Common.{◌≡◌, ◌⊎◌, inl, inr, refl, sym, ap, ap₂, ◌∙◌, subst, ℕ, ◌+◌, ◌<◌, ◌≤◌, Bool, true, false, nat_eq, List, [], ◌∷◌, ◌++◌, Option, Some, None, slice_get, arith}
-use Rattle.mir_syntax.specs.declared.body.Proj.TheVariants.{Field, Downcast, Deref}
+use Rattle.std.proofs.Common.{◌≡◌, ◌⊎◌, inl, inr, refl, sym, ap, ap₂, ◌∙◌, subst, ℕ, ◌+◌, ◌<◌, ◌≤◌, Bool, true, false, nat_eq, List, [], ◌∷◌, Option, Some, None, slice_get, arith}
+use Rattle.mir_syntax.specs.declared.body.Proj.TheVariants.{Field}
 use Rattle.mir_syntax.specs.declared.body.Place.{Place}
 use Rattle.mir_syntax.specs.Tree.{Tree}
-use Rattle.mir_syntax.specs.Shapes.{Shape, needs_drop, path_ty, place_ty, ◌>>=◌}
+use Rattle.mir_syntax.specs.Shapes.{Shape, needs_drop}
 use Rattle.mir_semantics.specs.Values.{Addr, Value, blank}
 use Rattle.mir_semantics.specs.Memory.{Memory, local_at, value_at, write, there, project, walk}
 use Rattle.mir_semantics.specs.Step.{local_addr, resolve, type_of}
 use Rattle.mir_syntax.specs.Parts.{has_deref}
-use Rattle.mir_renaming.specs.Renaming.{Renaming, AddrRel, ValueRel, SomeRel, Sub, MemRel, AddrThere}
-use Rattle.mir_syntax.proofs.Binds.{bind_some, some_bind}
+use Rattle.mir_renaming.specs.Renaming.{Renaming, ValueRel, Sub, MemRel, AddrThere}
+use Rattle.mir_syntax.proofs.Binds.{bind_some}
 use Rattle.mir_renaming.proofs.Memory.{same_or_not, write_back, write_other, write_again, walk_rel}
 use Rattle.mir_renaming.proofs.Statements.{Linked, write_linked}
 use Rattle.mir_renaming.proofs.Types.{TypeMap, AddrTy, HasTy, MemTy, write_ty, resolve_ty, value_at_ty, blank_any}
@@ -25,7 +25,7 @@ use Rattle.mir_relate.proofs.Kept as kept
 use Rattle.mir_relate.proofs.Near as near
 use Rattle.sroa_pass.proofs.refines.Parts as parts
 use Rattle.sroa_pass.proofs.refines.Parts.{Parts, PartOf}
-use Rattle.sroa_pass.proofs.Plans.{Has, Plan, PartAs, PlaceTo, place_types as types_same}
+use Rattle.sroa_pass.proofs.Plans.{Has, Plan, PlaceTo, place_types as types_same}
 use Rattle.sroa_pass.proofs.refines.Spots as spots
 
 val : {A : Type 0} {x y : A} → Some x ≡ Some y → x ≡ y

@@ -1,18 +1,17 @@
 -- A crate with a split body refines the crate.
-use Rattle.std.proofs.Common.{◌≡◌, refl, sym, ap, ◌∙◌, subst, ℕ, ◌<◌, ◌≤◌, true, List, [], ◌∷◌, length, Option, Some, None, slice_get, arith}
+use Rattle.std.proofs.Common.{◌≡◌, refl, subst, ℕ, ◌≤◌, true, List, [], ◌∷◌, Option, Some, None, slice_get, arith}
 use Rattle.std.proofs.lemmas.List.{set-set}
 use Rattle.mir_syntax.proofs.Lists.{map_there}
 use Rattle.mir_syntax.specs.Tree.{Tree}
-use Rattle.mir_syntax.specs.Crate.{TypedStmt, TypedBlock, TypedBody, TypedFunction, Crate}
+use Rattle.mir_syntax.specs.Crate.{TypedStmt, TypedBody, TypedFunction, Crate}
 use Rattle.mir_syntax.specs.Shapes.{Shape, shapes_of}
-use Rattle.mir_rules.specs.Drops.{is_drop, NoDrops}
+use Rattle.mir_rules.specs.Drops.{NoDrops}
 use Rattle.mir_rules.specs.Formed.{body_formed}
 use Rattle.mir_rules.specs.Valid.{Valid, with_body, at_function, ValidAt}
-use Rattle.mir_rules.proofs.Bodies.{Alike}
 use Rattle.mir_rules.proofs.Fixed.{apart_in}
 use Rattle.mir_rules.proofs.Keeps.{BodyKeeps}
 use Rattle.mir_rules.proofs.ValidCrates.{args_below, result_there, body_formed_at, holds_body, keeps}
-use Rattle.mir_semantics.specs.Step.{State, Next, code_of}
+use Rattle.mir_semantics.specs.Step.{code_of}
 use Rattle.mir_semantics.specs.Refines.{Refines}
 use Rattle.valid_runs.proofs.Codes.{valid_code}
 use Rattle.valid_runs.proofs.Shown.{step_flat, step_known}
@@ -20,9 +19,8 @@ use Rattle.mir_relate.specs.Frames.{Change}
 use Rattle.mir_relate.specs.Pass.{Valids}
 use Rattle.mir_relate.proofs.Replaced.{change, valids, Runs, replaced}
 use Rattle.trim_locals.proofs.Renumbered.{NonEmpty}
-use Rattle.sroa_pass.specs.Split.{First, split_term, split_stmt, split_block, firsts, first_of, fields_at, split_by, split}
-use Rattle.sroa_pass.proofs.Plans.{Plan}
-use Rattle.sroa_pass.proofs.Planned.{s, ts2, plan, chosen, behind, stays_at, split_back, term_to}
+use Rattle.sroa_pass.specs.Split.{split_stmt, split_block, firsts, first_of, fields_at, split_by, split}
+use Rattle.sroa_pass.proofs.Planned.{s, plan, chosen, behind, stays_at, split_back, term_to}
 use Rattle.sroa_pass.proofs.KnownAt.{known_at, term_fits}
 use Rattle.sroa_pass.proofs.NewLocals.{in_front}
 use Rattle.sroa_pass.proofs.refines.Does.{split_does}
@@ -66,10 +64,10 @@ module _ (C : Crate) (valid : Valid C) (f : ℕ) (g : TypedFunction) (there : sl
     some1 = some_first g.body.locals (result_there C g.body formed).0 (result_there C g.body formed).1;
     some2 = some_first b2.locals (result_there C g.body formed).0 (in_front g.body.locals _ 0 (result_there C g.body formed).0 (result_there C g.body formed).1);
     behind = λ x y e. (
-      let q = split_back (shapes_of C) g.body x y e in
-      let a = args_below C g.body formed in
-      let above = (chosen (shapes_of C) g.body x y q).above in
-      (behind (shapes_of C) g.body x y q, omega (arith, a, above)));
+        let q = split_back (shapes_of C) g.body x y e in
+        let a = args_below C g.body formed in
+        let above = (chosen (shapes_of C) g.body x y q).above in
+        (behind (shapes_of C) g.body x y q, omega (arith, a, above)));
     calm = λ i k e. no_drops.none i k e;
     blocks = λ i k e. (split_block (first_of (firsts (shapes_of C) g.body)) (fields_at (shapes_of C) g.body.locals) k, map_there (split_block (first_of (firsts (shapes_of C) g.body)) (fields_at (shapes_of C) g.body.locals)) g.body.blocks i k e, refl, term_to (shapes_of C) g.body k.term (term_fits C g.body formed kept i k e));
   }

@@ -3,9 +3,7 @@ use Rattle.std.proofs.Common.{◌≡◌, refl, sym, ap, ◌∙◌, subst, ℕ, z
 use Rattle.mir_syntax.specs.Tree.{Tree, scalar, empty, more, ref, ref_mut, named}
 use Rattle.mir_syntax.specs.Shapes.{Shape, ◌>>=◌, struct_fields, fields_of, fields_of_struct, field_ty, variant_ty, variant_of_enum, pointee}
 use Rattle.mir_semantics.specs.Values.{Value, number, nil, cons, variant, pointer, hole, part}
-use Rattle.mir_syntax.proofs.Binds.{bind_some}
-use Rattle.mir_renaming.proofs.Types.{TypeMap, AddrTy, HasTy, can_hole, is_scalar, more_eq, as_rows}
-
+use Rattle.mir_renaming.proofs.Types.{TypeMap, HasTy, can_hole, is_scalar, more_eq, as_rows}
 use Rattle.sroa_pass.proofs.Fields.{Rows}
 use Rattle.sroa_pass.proofs.refines.Nested.{Alongside}
 

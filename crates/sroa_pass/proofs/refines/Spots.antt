@@ -10,8 +10,8 @@ use Rattle.mir_syntax.specs.Crate.{TypedRvalue, «use», binary, overflow, unary
 use Rattle.mir_syntax.specs.Crate as rvalue
 use Rattle.mir_syntax.specs.Shapes.{Shape, variant_ty, needs_drop, ◌>>=◌}
 use Rattle.mir_semantics.specs.Values.{Addr, Value, variant, whole, blank, full}
-use Rattle.mir_semantics.specs.Memory.{Memory, value_at, write, walk}
-use Rattle.mir_semantics.specs.Step.{Dest, local_addr, resolve, type_of, const_ty, operand_ty, scalar_ty_of, scalar_in, guard_of, dest_of, allows, store, const_value, read_at, read, set_blank, is_variant, write_unless, exec}
+use Rattle.mir_semantics.specs.Memory.{Memory, value_at, write}
+use Rattle.mir_semantics.specs.Step.{Dest, local_addr, resolve, type_of, const_ty, operand_ty, scalar_ty_of, scalar_in, guard_of, dest_of, allows, store, const_value, read_at, read, is_variant, write_unless, exec}
 use Rattle.mir_syntax.specs.Parts.{has_deref}
 use Rattle.mir_renaming.specs.Renaming.{Renaming, ValueRel, SomeRel}
 use Rattle.mir_syntax.proofs.Binds.{bind_some, some_bind}

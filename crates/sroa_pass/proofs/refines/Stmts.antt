@@ -1,29 +1,27 @@
 -- Statements of the body, and what the split body has for each of them.
-use Rattle.std.proofs.Common.{◌≡◌, ◌⊎◌, inl, inr, refl, sym, ap, ap₂, ◌∙◌, subst, ℕ, true, false, ◌||◌, if◌then◌else◌, Bool, List, [], ◌∷◌, Option, Some, None, is_some, slice_get, option_map, arith}
+use Rattle.std.proofs.Common.{◌≡◌, ◌⊎◌, inl, inr, refl, sym, ap, ◌∙◌, subst, ℕ, true, false, ◌||◌, if◌then◌else◌, Bool, List, [], ◌∷◌, Option, Some, None, is_some, slice_get, option_map, arith}
 use Rattle.mir_syntax.specs.declared.body.Place.{Place}
 use Rattle.mir_syntax.specs.declared.body.Operand.{Operand}
 use Rattle.mir_syntax.specs.declared.body.Operand.TheVariants as operand
-use Rattle.mir_syntax.specs.Tree.{Tree, empty, more, named}
+use Rattle.mir_syntax.specs.Tree.{Tree, more}
 use Rattle.mir_syntax.specs.Shapes.{Shape, ◌>>=◌, fields_of, field_ty, fields_of_struct, variant_of_enum, place_ty}
 use Rattle.mir_syntax.specs.Crate.{TypedRvalue, «use», binary, overflow, unary, cast, discriminant, tuple, build, TypedStmt, assign, storage_live, storage_dead, set_discriminant}
 use Rattle.mir_syntax.specs.Crate as rvalue
 use Rattle.mir_semantics.specs.Values.{Addr, Value, at_path, put, variant, hole, listed, blank}
 use Rattle.mir_semantics.specs.Memory.{Memory, local_at, value_at, walk, write}
-use Rattle.mir_semantics.specs.Step.{Here, Dest, local_addr, resolve, operand_ty, allows, type_of, dest_of, store, read_all, read, eval, built, set_blank, exec}
+use Rattle.mir_semantics.specs.Step.{Here, Dest, local_addr, resolve, operand_ty, allows, type_of, dest_of, store, read, eval, built, set_blank, exec}
 use Rattle.mir_syntax.specs.Parts.{has_deref}
 use Rattle.mir_renaming.specs.Renaming.{Renaming, RootOf}
 use Rattle.mir_syntax.proofs.Binds.{bind_some, some_bind}
 use Rattle.mir_renaming.proofs.Memory.{root_or_not, write_same, write_other}
-use Rattle.mir_renaming.proofs.Types.{TypeMap, HasTy, MemTy, eval_ty, RvalueTy, OperandsTy, StmtTy, BuiltTy, can_hole, holds_by}
+use Rattle.mir_renaming.proofs.Types.{TypeMap, HasTy, eval_ty, OperandsTy, StmtTy, can_hole, holds_by}
 use Rattle.mir_renaming.proofs.Types.{resolve_ty}
 use Rattle.mir_renaming.proofs.Statements.{only_true}
 use Rattle.mir_renaming.proofs.Walks.{walk_plain}
 use Rattle.mir_relate.specs.Pass.{MoveOk}
 use Rattle.mir_renaming.proofs.Agree.{NeedsOk}
-use Rattle.mir_relate.specs.Alike.{Between, Sides, Refers, GotMemory}
+use Rattle.mir_relate.specs.Alike.{Between, Sides, Refers}
 use Rattle.mir_relate.specs.Pass.{AllMoves, RvalueMoves, StmtMoves}
-use Rattle.mir_relate.proofs.Kept as kept
-use Rattle.mir_relate.proofs.Near as near
 use Rattle.sroa_pass.proofs.Plans.{local_place}
 use Rattle.sroa_pass.proofs.refines.Parts as parts
 use Rattle.sroa_pass.proofs.Plans.{Has, Plan, PlaceTo, OperandTo, OperandsTo}

@@ -1,30 +1,28 @@
 -- One split local is written as a whole: the target writes its fields one by one, while nothing is said of them, and then the source writes it.
-use Rattle.std.proofs.Common.{◌≡◌, ◌⊎◌, inl, inr, refl, sym, ap, ap₂, ◌∙◌, subst, ℕ, zero, suc, ◌+◌, ◌<◌, ◌≤◌, Bool, true, false, nat_eq, if◌then◌else◌, List, [], ◌∷◌, Option, Some, None, slice_get, option_map, arith}
+use Rattle.std.proofs.Common.{◌≡◌, ◌⊎◌, inl, inr, refl, sym, ap, ap₂, ◌∙◌, subst, ℕ, zero, suc, ◌+◌, ◌<◌, true, false, nat_eq, if◌then◌else◌, List, [], ◌∷◌, Option, Some, None, slice_get, option_map, arith}
 use Rattle.mir_syntax.specs.declared.body.Proj.TheVariants.{Field}
 use Rattle.mir_syntax.specs.declared.body.Place.{Place}
 use Rattle.mir_syntax.specs.declared.body.Operand.{Operand}
-use Rattle.mir_syntax.specs.declared.body.Operand.TheVariants as operand
 use Rattle.mir_syntax.specs.Tree.{Tree, scalar, empty, more, ref, ref_mut, named}
 use Rattle.mir_syntax.specs.Crate.{«use», TypedStmt, assign}
 use Rattle.mir_syntax.specs.Shapes.{Shape, ◌>>=◌, fields_of, field_ty, place_ty}
-use Rattle.mir_semantics.specs.Values.{Addr, Value, nil, cons, listed, whole, part, put, blank}
+use Rattle.mir_semantics.specs.Values.{Addr, Value, nil, listed, whole, part, put, blank}
 use Rattle.mir_semantics.specs.Memory.{Memory, local_at, value_at, write, walk}
-use Rattle.mir_semantics.specs.Step.{Here, Dest, local_addr, set_blank, allows, resolve, type_of, guard_of, dest_of, store, read, read_all, operand_ty, eval, exec}
-use Rattle.mir_renaming.specs.Renaming.{Renaming, AddrRel, ValueRel, SomeRel, MemRel, RootOf}
+use Rattle.mir_semantics.specs.Step.{Here, Dest, local_addr, set_blank, allows, resolve, type_of, guard_of, dest_of, store, read, read_all, eval, exec}
+use Rattle.mir_renaming.specs.Renaming.{Renaming, SomeRel, RootOf}
 use Rattle.mir_syntax.proofs.Binds.{bind_some, some_bind}
 use Rattle.mir_renaming.proofs.Memory.{same_or_not, root_or_not, write_same, write_other, write_back, write_source}
 use Rattle.mir_syntax.proofs.Bools.{if_true, if_false}
-use Rattle.mir_renaming.proofs.Statements.{Linked, only_true}
-use Rattle.mir_renaming.proofs.Types.{TypeMap, AddrTy, HasTy, MemTy, OperandsTy, write_ty, at_path_ty, blank_any}
+use Rattle.mir_renaming.proofs.Statements.{only_true}
+use Rattle.mir_renaming.proofs.Types.{TypeMap, HasTy, OperandsTy, write_ty, at_path_ty, blank_any}
 use Rattle.mir_renaming.proofs.Agree.{NeedsOk}
 use Rattle.mir_relate.specs.Pass.{MoveOk}
-use Rattle.mir_relate.specs.Alike.{Between, Sides, Same, AllSame, Reads}
-use Rattle.mir_relate.specs.Leaves.{Leaves}
+use Rattle.mir_relate.specs.Alike.{Between, Sides, Same}
 use Rattle.mir_relate.proofs.Leaves.{leaves_then}
 use Rattle.sroa_pass.proofs.Plans.{local_place}
 use Rattle.sroa_pass.proofs.refines.Parts as parts
 use Rattle.sroa_pass.proofs.refines.Parts.{Parts, PartOf}
-use Rattle.sroa_pass.proofs.Plans.{Has, Plan, PartAs, PlaceTo}
+use Rattle.sroa_pass.proofs.Plans.{Has, Plan, PlaceTo}
 use Rattle.mir_relate.proofs.Alike.{all_read}
 use Rattle.sroa_pass.proofs.refines.Blanks.{blank_part, blank_under}
 use Rattle.sroa_pass.proofs.refines.Rooms.{part_there, rows_ty}
@@ -173,10 +171,12 @@ module _ (D : List Shape) (ts1 ts2 : List Tree) (P : Plan D ts1 ts2) (x0 y0 : �
               leaves = leaves_then D G j j j f2 f1 m2s m1s m2 m1 (write m2 b w) m1 q.near.leaves (pieces.leaves_field2 D ts1 ts2 P f2 f1 j R G m2 m1 b w x0 y0 i refl refl s0 hi);
               back = q.near.back;
             };
-            fields = record { at = λ x y k s hk v u e1 e2. (
-              let (ne, s') = other_is x0 P.split x y s in
-              let (z, g, r) = q.fields.at x y k s hk v u e1 e2 in
-              (z, write_other m2 b w f2 (y + k) (λ c t. ne (ap (λ (c : ℕ × ℕ). c.0) (same_pair (x, k) (x0, i) (sym (P.back x y k s' hk) ∙ ap P.owner t ∙ P.back x0 y0 i s0 hi)))) ∙ g, r)) };
+            fields = record {
+              at = λ x y k s hk v u e1 e2. (
+                  let (ne, s') = other_is x0 P.split x y s in
+                  let (z, g, r) = q.fields.at x y k s hk v u e1 e2 in
+                  (z, write_other m2 b w f2 (y + k) (λ c t. ne (ap (λ (c : ℕ × ℕ). c.0) (same_pair (x, k) (x0, i) (sym (P.back x y k s' hk) ∙ ap P.owner t ∙ P.back x0 y0 i s0 hi)))) ∙ g, r));
+            };
           }
 
       -- a local takes an operand
@@ -361,26 +361,26 @@ module _ (D : List Shape) (ts1 ts2 : List Tree) (P : Plan D ts1 ts2) (x0 y0 : �
           let row : Row 0 us = λ k u f. (let z : k ≡ 0 + k = omega arith in (subst (Has D ts1 x0) z (has k u f), ap (λ k. slice_get ts2 (y0 + k)) (sym z) ∙ P.types x0 y0 k s0 (has k u f))) in
           let (m2', ran, q2, (below, here)) = blanks_run f fb 0 y0 us m2 m1 (omega arith) (rest m2 m1 q) row in
           let done = whole_done m2' m1 t (blank D t) q2 et (bok t) (λ o eo k u hk pu. (
-            let solid = P.solid x0 y0 s0 t et in
-            let z : y0 + k ≡ y0 + (0 + k) = omega arith in
-            let (o2, eo2) = rooms m2 m1 o q eo k hk in
-            let ht : hk.ty ≡ t = val (sym hk.is ∙ et) in
-            let hu : hk.fields ≡ us = val (sym hk.tuple ∙ ap (fields_of D) ht ∙ eu) in
-            let at : field_ty us k ≡ Some hk.field = ap (λ us. field_ty us k) (sym hu) ∙ hk.at in
-            (blank D hk.field, ap (local_at m2' f2) z ∙ here k hk.field o2 at (ap (local_at m2 f2) (sym z) ∙ eo2), blank_part j D k t us hk.field u eu solid at pu))) in
+          let solid = P.solid x0 y0 s0 t et in
+          let z : y0 + k ≡ y0 + (0 + k) = omega arith in
+          let (o2, eo2) = rooms m2 m1 o q eo k hk in
+          let ht : hk.ty ≡ t = val (sym hk.is ∙ et) in
+          let hu : hk.fields ≡ us = val (sym hk.tuple ∙ ap (fields_of D) ht ∙ eu) in
+          let at : field_ty us k ≡ Some hk.field = ap (λ us. field_ty us k) (sym hu) ∙ hk.at in
+          (blank D hk.field, ap (local_at m2' f2) z ∙ here k hk.field o2 at (ap (local_at m2 f2) (sym z) ∙ eo2), blank_part j D k t us hk.field u eu solid at pu))) in
           (m2', ran, subst (λ m. All m2' m) (ap (λ t. write m1 (local_addr f1 x0) (blank D t)) (sym tt') ∙ val k1) done)
 
       -- the source alone moves the local's value away
       pub empties : (m2 m1 : Memory) (t : Tree) → All m2 m1 → slice_get ts1 x0 ≡ Some t → All m2 (write m1 (local_addr f1 x0) (blank D t))
       empties m2 m1 t q et = whole_done m2 m1 t (blank D t) (rest m2 m1 q) et (bok t) (λ o eo k u hk pu. (
-        let ht : hk.ty ≡ t = val (sym hk.is ∙ et) in
-        let tuple : fields_of D t ≡ Some hk.fields = ap (fields_of D) (sym ht) ∙ hk.tuple in
-        let solid = P.solid x0 y0 s0 t et in
-        let oty : HasTy D G t o = q.near.typed.at f1 x0 t o (lok x0 t et) eo in
-        let (z, pz) = part_there D G k t hk.fields hk.field o oty solid tuple hk.at in
-        let zty : HasTy D G hk.field z = at_path_ty D G (Field k ∷ []) t hk.field o z oty (some_bind _ (some_bind _ tuple hk.at) refl) (some_bind _ pz refl) in
-        let (w, g, r) = q.fields.at x0 y0 k s0 hk o z eo pz in
-        (w, g, blank_under j D k t hk.fields hk.field u w tuple solid hk.at pu (blank_any D G j hk.field z w zty r))))
+          let ht : hk.ty ≡ t = val (sym hk.is ∙ et) in
+          let tuple : fields_of D t ≡ Some hk.fields = ap (fields_of D) (sym ht) ∙ hk.tuple in
+          let solid = P.solid x0 y0 s0 t et in
+          let oty : HasTy D G t o = q.near.typed.at f1 x0 t o (lok x0 t et) eo in
+          let (z, pz) = part_there D G k t hk.fields hk.field o oty solid tuple hk.at in
+          let zty : HasTy D G hk.field z = at_path_ty D G (Field k ∷ []) t hk.field o z oty (some_bind _ (some_bind _ tuple hk.at) refl) (some_bind _ pz refl) in
+          let (w, g, r) = q.fields.at x0 y0 k s0 hk o z eo pz in
+          (w, g, blank_under j D k t hk.fields hk.field u w tuple solid hk.at pu (blank_any D G j hk.field z w zty r))))
 
       -- a value is copied field by field from another place
       pub taken_does : (q : Place) (ps : List Operand) (t us : Tree) (a : Addr) (v : Value) (m1r m1' : Memory) (d : Dest) → All m2s m1s → AllAs (field_copies q 0 us) ps → slice_get ts1 x0 ≡ Some t → fields_of D t ≡ Some us → Rows us → (u us' : Tree) → us ≡ more u us' → resolve H1 m1s q ≡ Some a → value_at m1s a ≡ Some v → whole v ≡ true → HasTy D G t v → ((m2' : Memory) → Rest m2' m1s → Rest m2' m1r) → dest_of H1 m1r (local_place x0) ≡ Some d → store D m1r d v ≡ Some m1' → (m2' : Memory) × (exec_all S.target m2s (writes y0 ps) ≡ Some m2') × All m2' m1'

@@ -1,5 +1,5 @@
 -- A split body is valid in the place of the body; it drops and calls nothing new.
-use Rattle.std.proofs.Common.{◌≡◌, refl, sym, ap, ap₂, ◌∙◌, subst, ℕ, zero, suc, ◌+◌, ◌<◌, ◌≤◌, Bool, true, false, nat_lt, nat_eq, ◌&&◌, ◌||◌, if◌then◌else◌, List, [], ◌∷◌, ◌++◌, map, take, length, Option, Some, None, is_some, slice_get, arith, ltb-true, lt-ltb}
+use Rattle.std.proofs.Common.{◌≡◌, refl, sym, ap, ap₂, ◌∙◌, subst, ℕ, zero, suc, ◌≤◌, Bool, true, false, nat_lt, nat_eq, ◌&&◌, ◌||◌, if◌then◌else◌, List, [], ◌∷◌, ◌++◌, map, take, length, Option, Some, None, is_some, slice_get, arith, lt-ltb}
 use Rattle.std.specs.List.{list_all, flat_map}
 use Rattle.std.proofs.lemmas.List.{length-map, length-append}
 use Rattle.mir_syntax.specs.declared.body.Place.{Place}
@@ -16,7 +16,6 @@ use Rattle.mir_rules.specs.Broken.{statement_broken, terminator_broken}
 use Rattle.mir_rules.specs.Calls.{AddsNoCall}
 use Rattle.mir_rules.specs.Drops.{is_drop, NoDrops}
 use Rattle.mir_rules.specs.Formed.{type_formed, field_formed, variant_formed, def_formed, outside_formed, function_formed, is_formed, stmt_formed, term_formed, call_formed, block_formed, has_start, body_formed}
-use Rattle.mir_rules.specs.Limits.{most_in_body}
 use Rattle.mir_rules.specs.Valid.{Valid, with_body, at_function, ValidAt}
 use Rattle.mir_rules.proofs.Bodies.{Alike}
 use Rattle.mir_rules.proofs.Destructors.{shape_is}
@@ -25,7 +24,7 @@ use Rattle.mir_rules.proofs.Lists.{and_true-left, and_true-right, list_all_true,
 use Rattle.mir_rules.proofs.Statements.{typed_stmt}
 use Rattle.mir_rules.proofs.Terminators.{term_typed, typed_term}
 use Rattle.mir_rules.proofs.ValidCrates.{args_below, stmt_formed_at, term_formed_at, body_formed_at, keeps, holds_body, valid_put, valid_again}
-use Rattle.sroa_pass.specs.Split.{parts_of, if_any, field_types, First, Fields, split_place, split_operand, split_term, split_stmt, split_block, firsts, new_types, first_of, fields_at, split_by, split}
+use Rattle.sroa_pass.specs.Split.{parts_of, if_any, field_types, First, Fields, split_term, split_stmt, split_block, firsts, new_types, first_of, fields_at, split_by, split}
 use Rattle.sroa_pass.proofs.NewLocals.{few}
 use Rattle.sroa_pass.proofs.Planned.{val}
 use Rattle.sroa_pass.proofs.KnownAt.{known_at, term_fits}

@@ -1,43 +1,29 @@
 -- A split body keeps the rules, drops no more and calls nothing else.
-use Rattle.std.proofs.Common.{◌≡◌, ◌⊎◌, inl, inr, refl, sym, ap, ap₂, ◌∙◌, subst, ℕ, zero, suc, ◌+◌, ◌<◌, ◌≤◌, Bool, true, false, nat_lt, ◌&&◌, ◌||◌, nat_eq, if◌then◌else◌, List, [], ◌∷◌, ◌++◌, map, take, length, Option, Some, None, slice_get, arith, ltb-true, lt-ltb}
+use Rattle.std.proofs.Common.{◌≡◌, ◌⊎◌, inl, inr, refl, sym, ap, ap₂, ◌∙◌, subst, ℕ, zero, suc, ◌+◌, ◌<◌, Bool, true, false, nat_lt, ◌&&◌, List, [], ◌∷◌, ◌++◌, map, length, Option, Some, None, slice_get, arith, lt-ltb}
 use Rattle.std.specs.List.{list_all, flat_map}
-use Rattle.std.proofs.lemmas.List.{length-map, length-append}
+use Rattle.std.proofs.lemmas.List.{length-append}
 use Rattle.std.proofs.lemmas.Option.{slice_get_within}
 use Rattle.mir_syntax.specs.declared.body.Place.{Place}
-use Rattle.mir_syntax.specs.declared.body.Callee.{Callee}
 use Rattle.mir_syntax.specs.declared.body.Operand.{Operand}
 use Rattle.mir_syntax.specs.declared.body.Operand.TheVariants as operand
-use Rattle.mir_syntax.specs.declared.body.Term.{Term}
-use Rattle.mir_syntax.specs.declared.body.Term.TheVariants.{Goto, Switch, Return, Unreachable, Drop, Call, Assert}
-use Rattle.mir_syntax.specs.Tree.{Tree, scalar, empty, more, ref, ref_mut, named, tuple_of}
+use Rattle.mir_syntax.specs.Tree.{Tree}
 use Rattle.mir_syntax.specs.Crate.{TypedRvalue, «use», binary, overflow, unary, cast, discriminant, tuple, build, TypedStmt, assign, storage_live, storage_dead, set_discriminant, TypedField, TypedVariant, TypedDef, TypedBlock, TypedBody, TypedFunction, Crate}
 use Rattle.mir_syntax.specs.Crate as rvalue
-use Rattle.mir_syntax.specs.Shapes.{◌>>=◌, Shape, field_ty_of, fields_tuple, shape_of, shapes_of, first_variant, struct_fields, fields_of_struct, fields_of, field_ty}
-use Rattle.mir_syntax.specs.Parts.{operand_places, rvalue_operands, rvalue_places, term_places}
-use Rattle.mir_syntax.proofs.Binds.{bind_some, some_bind}
-use Rattle.mir_syntax.proofs.Lists.{map_back}
-use Rattle.mir_rules.specs.Calls.{AddsNoCall}
-use Rattle.mir_rules.specs.Drops.{is_drop, NoDrops}
-use Rattle.mir_rules.specs.Formed.{type_formed, field_formed, variant_formed, def_formed, outside_formed, function_formed, is_formed, place_formed, operand_formed, shape_formed, stmt_formed, term_formed, call_formed, block_formed, has_start, body_formed}
-use Rattle.mir_rules.specs.Limits.{most_in_body}
+use Rattle.mir_syntax.specs.Shapes.{Shape, shapes_of, fields_of, field_ty}
+use Rattle.mir_syntax.specs.Parts.{rvalue_operands, rvalue_places}
+use Rattle.mir_syntax.proofs.Binds.{bind_some}
+use Rattle.mir_rules.specs.Formed.{place_formed, operand_formed, shape_formed, stmt_formed, body_formed}
 use Rattle.mir_rules.specs.Typing.{build_ty, operands_ty, rvalue_ty}
-use Rattle.mir_rules.specs.Valid.{Valid, with_body, at_function, ValidAt}
-use Rattle.mir_rules.proofs.Bodies.{Alike}
-use Rattle.mir_rules.proofs.Destructors.{shape_is}
-use Rattle.mir_rules.proofs.Keeps.{BodyKeeps}
-use Rattle.mir_rules.proofs.Lists.{and_true-left, and_true-right, list_all_true, list_all_true-at}
-use Rattle.mir_rules.proofs.Statements.{StmtTyped, typed_stmt, stmt_typed}
-use Rattle.mir_rules.proofs.Terminators.{term_typed, typed_term}
-use Rattle.mir_rules.proofs.ValidCrates.{args_below, local_formed_at, stmt_formed_at, term_formed_at, body_formed_at, keeps, holds_body, valid_put, valid_again}
-use Rattle.sroa_pass.specs.Split.{parts_of, gives_fields, most_locals, First, Fields, split_place, split_rvalue, split_operand, split_term, used_place, copies, puts, spread, by_fields, renamed, storages, split_storage, split_stmt, split_block, field_at, fields_at, field_types, firsts_from, firsts, new_types, first_of, split_by, split}
+use Rattle.mir_rules.specs.Valid.{Valid}
+use Rattle.mir_rules.proofs.Lists.{and_true-left, and_true-right}
+use Rattle.mir_rules.proofs.ValidCrates.{args_below}
+use Rattle.sroa_pass.specs.Split.{Fields, copies, spread, by_fields, renamed, storages, split_storage, split_stmt, fields_at, firsts, new_types}
 use Rattle.sroa_pass.proofs.Fields.{parts_at}
-use Rattle.sroa_pass.proofs.NewLocals.{in_front, few}
-use Rattle.sroa_pass.proofs.Planned.{val, s, ts2, Chosen, chosen, chosen_fields, behind, Fits, AllFit}
-use Rattle.sroa_pass.proofs.Ways.{Known, Whole, Filled, Handed, Stays, Way, way}
+use Rattle.sroa_pass.proofs.Planned.{val, s, ts2, chosen, chosen_fields, Fits}
+use Rattle.sroa_pass.proofs.Ways.{Known, Filled, Handed, Way, way}
 use Rattle.sroa_pass.proofs.Uses.{whole_ty, used_ty, used_whole, built_fit, const_typed, Parts, parts, no_const}
-use Rattle.sroa_pass.proofs.KnownAt.{known_at, term_fits}
-use Rattle.sroa_pass.proofs.valid.Types.{place_same, place_there, term_keeps, term_kept}
-use Rattle.sroa_pass.proofs.valid.Spread.{Good, AllGood, Source, good, copies_good, puts_good, struct_built}
+use Rattle.sroa_pass.proofs.valid.Types.{place_same, place_there}
+use Rattle.sroa_pass.proofs.valid.Spread.{Good, AllGood, good, copies_good, puts_good, struct_built}
 
 both : (x y : Bool) → x ≡ true → y ≡ true → (x && y) ≡ true
 both x y e e' = ap₂ (λ x y. x && y) e e'

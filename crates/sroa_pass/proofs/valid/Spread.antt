@@ -1,32 +1,29 @@
 -- The assignments that are made of one, before they are put at the new locals: each keeps the rules, and so does what becomes of it.
-use Rattle.std.proofs.Common.{◌≡◌, ◌⊎◌, inl, inr, refl, sym, ap, ap₂, ◌∙◌, subst, ℕ, zero, suc, ◌+◌, ◌<◌, Bool, true, false, not, nat_lt, nat_eq, ◌&&◌, ◌||◌, if◌then◌else◌, List, [], ◌∷◌, ◌++◌, map, length, Option, Some, None, slice_get, arith, eqb-true}
+use Rattle.std.proofs.Common.{◌≡◌, refl, sym, ap, ap₂, ◌∙◌, subst, ℕ, zero, suc, ◌+◌, Bool, true, false, nat_lt, nat_eq, ◌&&◌, ◌||◌, if◌then◌else◌, List, [], ◌∷◌, ◌++◌, map, length, Option, Some, None, slice_get, arith, eqb-true}
 use Rattle.std.specs.List.{list_all, list_any, flat_map}
 use Rattle.mir_syntax.specs.declared.body.Proj.{Proj}
 use Rattle.mir_syntax.specs.declared.body.Proj.TheVariants.{Field, Downcast, Deref}
 use Rattle.mir_syntax.specs.declared.body.Place.{Place}
 use Rattle.mir_syntax.specs.declared.body.Operand.{Operand}
 use Rattle.mir_syntax.specs.declared.body.Operand.TheVariants as operand
-use Rattle.mir_syntax.specs.Tree.{Tree, empty, more, named}
-use Rattle.mir_syntax.specs.Crate.{TypedRvalue, «use», binary, overflow, unary, cast, discriminant, tuple, build, TypedStmt, assign, storage_live, storage_dead, set_discriminant, TypedVariant, TypedDef, TypedBody, Crate}
-use Rattle.mir_syntax.specs.Crate as rvalue
-use Rattle.mir_syntax.specs.Shapes.{◌>>=◌, Shape, fields_tuple, shapes_of, first_variant, struct_fields, fields_of_struct, fields_of, field_ty, place_ty}
+use Rattle.mir_syntax.specs.Tree.{Tree, more, named}
+use Rattle.mir_syntax.specs.Crate.{TypedRvalue, «use», TypedStmt, assign, TypedVariant, TypedDef, TypedBody, Crate}
+use Rattle.mir_syntax.specs.Shapes.{Shape, fields_tuple, shapes_of, first_variant, struct_fields, fields_of_struct, fields_of, field_ty, place_ty}
 use Rattle.mir_syntax.specs.Parts.{path_formed, begins_with_field, operand_places, rvalue_operands, rvalue_places}
 use Rattle.mir_syntax.proofs.Binds.{bind_some, some_bind}
 use Rattle.mir_rules.specs.Same.{same_tree}
 use Rattle.mir_rules.specs.Typing.{build_ty, operand_ty, operands_ty, rvalue_ty}
-use Rattle.mir_rules.specs.BodyRules.{breaks_v21, breaks_v22, moves_through_destructor, moves_needing_indirectly}
-use Rattle.mir_rules.specs.Formed.{place_formed, operand_formed, shape_formed, rvalue_formed, variant_formed, def_formed, outside_formed, function_formed, is_formed, local_formed, stmt_formed, body_formed}
+use Rattle.mir_rules.specs.BodyRules.{moves_through_destructor, moves_needing_indirectly}
+use Rattle.mir_rules.specs.Formed.{place_formed, operand_formed, shape_formed, variant_formed, def_formed, outside_formed, function_formed, is_formed, stmt_formed, body_formed}
 use Rattle.mir_rules.specs.Valid.{Valid}
 use Rattle.mir_rules.proofs.Destructors.{shape_is}
-use Rattle.mir_rules.proofs.Lists.{and_true-left, and_true-right, or_false-left, or_false-right, list_all_true-at, then_some_is}
+use Rattle.mir_rules.proofs.Lists.{and_true-left, and_true-right, or_false-right, list_all_true-at, then_some_is}
 use Rattle.mir_rules.proofs.Same.{same_tree_is}
-use Rattle.mir_rules.proofs.Statements.{MovesKept, StmtTyped, Assigns, Sets}
-use Rattle.std.proofs.lemmas.Option.{slice_get_within}
-use Rattle.sroa_pass.specs.Split.{parts_of, gives_fields, First, Fields, split_place, split_rvalue, split_operand, used_place, copies, puts, spread, by_fields, renamed, storages, split_storage, split_stmt, field_at, fields_at, field_types}
-use Rattle.sroa_pass.proofs.Fields.{parts_at}
-use Rattle.sroa_pass.proofs.Planned.{val, s, ts2, chosen, chosen_fields, behind, Fits, AllFit}
-use Rattle.sroa_pass.proofs.Ways.{Known, Whole, field_fits, field_typed, Filled, Handed, Stays, Way, way}
-use Rattle.sroa_pass.proofs.Uses.{whole_ty, used_ty, used_whole, built_fit, const_typed, Parts, parts, no_const}
+use Rattle.mir_rules.proofs.Statements.{MovesKept, StmtTyped, Assigns}
+use Rattle.sroa_pass.specs.Split.{copies, puts, renamed, field_at}
+use Rattle.sroa_pass.proofs.Planned.{val, s, ts2, Fits, AllFit}
+use Rattle.sroa_pass.proofs.Ways.{Whole, field_fits, field_typed}
+use Rattle.sroa_pass.proofs.Uses.{parts}
 use Rattle.sroa_pass.proofs.valid.Types.{place_same, rvalue_same, moves_same, split_operands, operands_fit, place_there, rvalue_there, operands_kept, shape_kept}
 
 both : (x y : Bool) → x ≡ true → y ≡ true → (x && y) ≡ true
@@ -105,11 +102,10 @@ module _ (C : Crate) (valid : Valid C) (b b2 : TypedBody) (formed : body_formed 
       let ops = list_all operand_formed (rvalue_operands r) in
       let places = list_all (place_formed b) (rvalue_places r) in
       let f = and_true-right place (shape && (ops && places)) h.form in
-      let f2 = and_true-right shape (ops && places) f in
-      (
+      let f2 = and_true-right shape (ops && places) f in (
         both _ _ (place_there D b C b2 same many p h.fits (and_true-left place (shape && (ops && places)) h.form))
-        (both _ _ (shape_kept D b C b2 same many r ∙ and_true-left shape (ops && places) f)
-        (both _ _ (ap (list_all operand_formed) (split_operands D b r) ∙ operands_kept D b C b2 same many (rvalue_operands r) ∙ and_true-left ops places f2) (rvalue_there D b C b2 same many r h.all (and_true-right ops places f2)))),
+            (both _ _ (shape_kept D b C b2 same many r ∙ and_true-left shape (ops && places) f)
+            (both _ _ (ap (list_all operand_formed) (split_operands D b r) ∙ operands_kept D b C b2 same many (rvalue_operands r) ∙ and_true-left ops places f2) (rvalue_there D b C b2 same many r h.all (and_true-right ops places f2)))),
         record {
           ty = h.typed.ty;
           place = place_same D b p h.fits ∙ h.typed.place;

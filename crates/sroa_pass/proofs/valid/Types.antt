@@ -1,10 +1,8 @@
 -- The places of a split body have the types, and the text the form, that those of the body have.
-use Rattle.std.proofs.Common.{◌≡◌, ◌⊎◌, inl, inr, refl, sym, ap, ap₂, ◌∙◌, subst, ℕ, zero, suc, ◌+◌, ◌<◌, ◌≤◌, Bool, true, false, not, nat_lt, ◌&&◌, ◌||◌, ◌==◌, List, [], ◌∷◌, ◌++◌, map, length, Option, Some, None, is_some, slice_get, arith, ltb-true, lt-ltb}
+use Rattle.std.proofs.Common.{◌≡◌, inl, inr, refl, sym, ap, ap₂, ◌∙◌, subst, ℕ, zero, suc, ◌<◌, Bool, true, not, nat_lt, ◌&&◌, ◌||◌, ◌==◌, List, [], ◌∷◌, map, length, Option, Some, None, is_some, slice_get, arith, lt-ltb}
 use Rattle.std.specs.List.{list_all, list_any, flat_map}
-use Rattle.std.proofs.lemmas.List.{length-append}
 use Rattle.std.proofs.lemmas.Option.{slice_get_within}
-use Rattle.mir_syntax.specs.declared.body.Proj.{Proj}
-use Rattle.mir_syntax.specs.declared.body.Proj.TheVariants.{Field, Downcast, Deref}
+use Rattle.mir_syntax.specs.declared.body.Proj.TheVariants.{Field}
 use Rattle.mir_syntax.specs.declared.body.Place.{Place}
 use Rattle.mir_syntax.specs.declared.body.Operand.{Operand}
 use Rattle.mir_syntax.specs.declared.body.Operand.TheVariants as operand
@@ -14,18 +12,18 @@ use Rattle.mir_syntax.specs.Tree.{Tree, more}
 use Rattle.mir_syntax.specs.Tree as tree
 use Rattle.mir_syntax.specs.Crate.{TypedRvalue, «use», binary, overflow, unary, cast, discriminant, tuple, build, TypedBody, Crate}
 use Rattle.mir_syntax.specs.Crate as rvalue
-use Rattle.mir_syntax.specs.Shapes.{◌>>=◌, Shape, path_ty, place_ty, proj_ty, destructor_of, path_through, goes_through_destructor}
+use Rattle.mir_syntax.specs.Shapes.{◌>>=◌, Shape, place_ty, proj_ty, destructor_of, path_through, goes_through_destructor}
 use Rattle.mir_syntax.specs.Parts.{is_direct, path_formed, operand_places, rvalue_operands, rvalue_places, term_operands, term_places, targets}
 use Rattle.mir_syntax.proofs.Binds.{bind_some, some_bind}
 use Rattle.mir_rules.specs.Typing.{binary_ty, overflow_ty, unary_ty, cast_ty, discriminant_ty, build_ty, operand_ty, operands_ty, rvalue_ty}
 use Rattle.mir_rules.specs.BodyRules.{breaks_v21, breaks_v22, moves_through_destructor, some_needs_drop, moves_needing_indirectly}
-use Rattle.mir_rules.specs.Formed.{place_formed, operand_formed, shape_formed, call_formed, block_there, stmt_formed, term_formed}
+use Rattle.mir_rules.specs.Formed.{place_formed, operand_formed, shape_formed, call_formed, block_there, term_formed}
 use Rattle.mir_rules.proofs.Lists.{and_true-left, and_true-right}
 use Rattle.mir_rules.proofs.Statements.{MovesKept}
 use Rattle.mir_rules.proofs.Terminators.{OwnTyped, TermTyped}
 use Rattle.sroa_pass.specs.Split.{First, split_place, split_operand, split_rvalue, split_term}
-use Rattle.sroa_pass.proofs.Plans.{Has, PartAs, PlaceTo, place_types}
-use Rattle.sroa_pass.proofs.Planned.{val, s, ts2, plan, Chosen, chosen, split_back, Fits, place_to, place_local, AllFit}
+use Rattle.sroa_pass.proofs.Plans.{PartAs, PlaceTo, place_types}
+use Rattle.sroa_pass.proofs.Planned.{val, s, ts2, plan, chosen, split_back, Fits, place_to, AllFit}
 
 local_within : (D : List Shape) (ts : List Tree) (p : Place) (t : Tree) → place_ty D ts p ≡ Some t → p.local < length ts
 unfolding place_ty
