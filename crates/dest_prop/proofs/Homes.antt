@@ -57,7 +57,7 @@ none_at t p a (suc n) h y l l' e = go (p a) refl (same_or_not y a) h (λ h ne. n
     go false q (inl s) h ih = absurd (let z : true ≡ false = sym e ∙ ap p s.1 ∙ q in grind arith)
     go false q (inr s) h ih = ih h s.1
 
-not_true : (a : Bool) → not a ≡ true → a ≡ false
+pub not_true : (a : Bool) → not a ≡ true → a ≡ false
 not_true true e = absurd (grind arith)
 not_true false e = refl
 
