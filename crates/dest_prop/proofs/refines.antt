@@ -1,0 +1,3 @@
+-- A crate with a merged body refines the crate.
+pub mod Opens
+pub mod Conflicts
