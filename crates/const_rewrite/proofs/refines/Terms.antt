@@ -201,7 +201,7 @@ module _ {X : Change} {xs : List Reached} {V : Valids X} {Inv : State → Type 0
     waits = λ m2 m1 q am.
         let (gs, e, later) = after_call p g os u is d1 m1 ed am in
         (refl, record { stand = st; locals = holds_linked j f2 f1 (moment.pl now) m2 m1 q.near.linked; facts = gs; reached = e; start = refl; dests = dr; later = λ d e v. subst (λ (d : Dest). moment.Known now (write m1 d.addr v) gs) (some_val e) (later v) });
-    gets = λ m2 m1 m1' v q am hv h.
+    gets = λ m2 m1 m1' v q am hv wh h.
         let (gs, e, later) = after_call p g os u is d1 m1 ed am in
         let (m2', g1, l', lv) = near.store_near D ts ts f1 f2 j K (moment.low now) G (moment.bok now) (moment.lok now) V.needs f2 f1 s2.memory s1.memory (moment.nears now) (moment.onces now) m2 m1 m1' d1 d2 t v v q.near dr at hv h in
         let (old, eo, same) = store_split D m1 m1' d1 v h in

@@ -221,7 +221,7 @@ module _ {X : Change} {xs : List Reached} {V : Valids X} {Inv : State → Type 0
         let (gs, e, later) = after_call p g os u is d1 m1 ed am in
         let says : Paused X xs (Some d1) (to_block u s2.top) (to_block u s1.top) m1 = record { block = refl; start2 = refl; start1 = refl; facts = gs; reached = e; later = λ d e v. subst (λ (d : Dest). Holds (write m1 d.addr v) gs) (some_val e) (later v) } in
         (refl, record { stand = stands u u; locals = holds_linked j f2 f1 (moment.pl now) m2 m1 q.near.linked; dests = dr; says = says });
-    gets = λ m2 m1 m1' v q am hv h.
+    gets = λ m2 m1 m1' v q am hv wh h.
         let (gs, e, later) = after_call p g os u is d1 m1 ed am in
         let (m2', g1, l', lv) = near.store_near D ts ts f1 f2 j K (moment.low now) G (moment.bok now) (moment.lok now) V.needs f2 f1 s2.memory s1.memory (moment.nears now) (moment.onces now) m2 m1 m1' d1 d2 t v v q.near dr at hv h in
         let (old, eo, same) = store_split D m1 m1' d1 v h in
