@@ -1,4 +1,6 @@
 -- A crate with a merged body refines the crate.
-pub mod Opens
+pub mod Fills
 pub mod Conflicts
 pub mod Housed
+pub mod Frames
+pub mod Starts

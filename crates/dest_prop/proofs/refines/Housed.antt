@@ -186,7 +186,7 @@ module _ (j : Renaming) (f2 f1 : ℕ) (home : ℕ → ℕ) (p : Placed j f2 f1) 
               (o2, other_home y ne.1 (λ q. absurd (nq.1 q)) ∙ e2, r)
 
       -- of the source alone
-      pub gone_housed : (b : ℕ → Bool) (m2 m1 : Memory) (v : Value) → ((y : ℕ) → b y ≡ true → (y ≡ x → ⊥) → a y ≡ true) → (b x ≡ true → (o : Value) → local_at m1 f1 x ≡ Some o → SomeRel j (put ps v o) (local_at m2 f2 (home x))) → ((v0 w0 : Value) → local_at m2 f2 (home x) ≡ Some w0 → R x v0 w0 → R x (put ps v v0) w0) → H a m2 m1 → H b m2 (write m1 at1 v)
+      pub gone_housed : (b : ℕ → Bool) (m2 m1 : Memory) (v : Value) → ((y : ℕ) → b y ≡ true → (y ≡ x → ⊥) → a y ≡ true) → (b x ≡ true → (o : Value) → local_at m1 f1 x ≡ Some o → SomeRel j (put ps v o) (local_at m2 f2 (home x))) → ((v0 w0 : Value) → local_at m1 f1 x ≡ Some v0 → local_at m2 f2 (home x) ≡ Some w0 → R x v0 w0 → R x (put ps v v0) w0) → H a m2 m1 → H b m2 (write m1 at1 v)
       gone_housed b m2 m1 v old now first h = record {
         at = λ y u free by k. at y u free by k (same_or_not y x);
         room = λ y u free k. room y u free k (same_or_not y x);
@@ -206,4 +206,4 @@ module _ (j : Renaming) (f2 f1 : ℕ) (home : ℕ → ℕ) (p : Placed j f2 f1) 
           room y u free k (inl s) =
               let (o, e) = write_back m1 (record { frame = f1; local = x; path = ps }) v f1 y u k in
               let (o2, e2, r) = h.room y o free e in
-              (o2, e2, subst (λ u. R y u o2) (is_put y o u s.1 e k) (subst (λ z. R z (put ps v o) o2) (sym s.1) (first o o2 (ap (λ z. local_at m2 f2 (home z)) (sym s.1) ∙ e2) (subst (λ z. R z o o2) s.1 r))))
+              (o2, e2, subst (λ u. R y u o2) (is_put y o u s.1 e k) (subst (λ z. R z (put ps v o) o2) (sym s.1) (first o o2 (ap (local_at m1 f1) (sym s.1) ∙ e) (ap (λ z. local_at m2 f2 (home z)) (sym s.1) ∙ e2) (subst (λ z. R z o o2) s.1 r))))
