@@ -4,3 +4,4 @@ pub mod Conflicts
 pub mod Housed
 pub mod Frames
 pub mod Starts
+pub mod Moment

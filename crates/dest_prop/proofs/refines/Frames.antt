@@ -85,7 +85,7 @@ Filled x v w = Fills v w
 
 -- once the home's type is known
 abbrev pub Later : List Shape → List Tree → Beside
-Later D ts x v w = (G : TypeMap) (t : Tree) → slice_get ts x ≡ Some t → HasTy D G t w → Fills v w
+Later D ts x v w = (G : TypeMap) → ((t : Tree) → slice_get ts x ≡ Some t → HasTy D G t w) → Fills v w
 
 module _ (X : Change) (once : X.body2 ≡ merged_by (is_shared X.body1 (home_of X.source.shapes X.body1)) (home_of X.source.shapes X.body1) X.body1) where
   abbrev D : List Shape
@@ -187,7 +187,7 @@ module _ (X : Change) (once : X.body2 ≡ merged_by (is_shared X.body1 (home_of 
       away x e false l = st.none (home x) (place_none (home x) l)
 
   pub later : (j : Renaming) (c2 c1 : Control) (m2 m1 : Memory) → Lives Filled j c2 c1 m2 m1 → Lives (Later D X.body1.locals) j c2 c1 m2 m1
-  later j c2 c1 m2 m1 h = record { set = h.set; covers = h.covers; holds = housed_more j c2.frame c1.frame home Filled (Later D X.body1.locals) h.set m2 m1 (λ x v w e g r. λ G t et ty. r) h.holds }
+  later j c2 c1 m2 m1 h = record { set = h.set; covers = h.covers; holds = housed_more j c2.frame c1.frame home Filled (Later D X.body1.locals) h.set m2 m1 (λ x v w e g r. λ G ty. r) h.holds }
 
   -- ---- frames that wait
 

@@ -152,11 +152,11 @@ module _ (X : Change) (once : X.body2 ≡ merged_by (is_shared X.body1 (home_of 
         go : ((nat_eq (home_of X.source.shapes X.body1 x) x ≡ true) × (home_of X.source.shapes X.body1 x ≡ x)) ⊎ ((nat_eq (home_of X.source.shapes X.body1 x) x ≡ false) × (home_of X.source.shapes X.body1 x ≡ x → ⊥)) → (w : Value) × (slice_get (new_slots X.source.shapes X.body1.locals ws) (home_of X.source.shapes X.body1 x) ≡ Some w) × Later X.source.shapes X.body1.locals x v w
         go (inl s) =
             let (w, g, r) = slots_same X.source.shapes X.body1.locals X.body1.locals refl j vs ws hv x v e in
-            (w, ap (slice_get (new_slots X.source.shapes X.body1.locals ws)) s.1 ∙ g, λ G t et ty. rel_fills j v w r)
+            (w, ap (slice_get (new_slots X.source.shapes X.body1.locals ws)) s.1 ∙ g, λ G ty. rel_fills j v w r)
         go (inr s) =
             let (t, et, is) = moved x v s.1 e in
             let (w, g) = room t (types X.source.shapes X.body1 x ∙ et) (cases_lt (length ws) (home_of X.source.shapes X.body1 x)) in
-            (w, g, λ G u eu ty. subst (λ v. Fills v w) is (rel_fills j (blank X.source.shapes t) w (blank_fits X.source.shapes G j t w (subst (λ u. HasTy X.source.shapes G u w) (some_val (sym eu ∙ et)) ty))))
+            (w, g, λ G ty. subst (λ v. Fills v w) is (rel_fills j (blank X.source.shapes t) w (blank_fits X.source.shapes G j t w (ty t et))))
 
   begins : (j : Renaming) (k2 k1 : ℕ) (d2 d1 : Option Dest) (m2 m1 : Memory) (vs ws : List Value) → ValuesRel j vs ws → length vs ≤ X.body1.args → ((x : ℕ) → j k1 x ≡ None) → ((h x g y : ℕ) → j h x ≡ Some (g, y) → g < k2) → (n : ℕ) × Standing X once n (opened j k2 k1 (frames.place X once)) (new_control X.f k2 d2) (new_control X.f k1 d1) × Lives X once (Later D ts) (opened j k2 k1 (frames.place X once)) (new_control X.f k2 d2) (new_control X.f k1 d1) (open_frame m2 k2 (new_slots D X.body2.locals ws)) (open_frame m1 k1 (new_slots D X.body1.locals vs))
   begins j k2 k1 d2 d1 m2 m1 vs ws hv few fresh1 fresh2 =
