@@ -5,3 +5,4 @@ pub mod Housed
 pub mod Frames
 pub mod Starts
 pub mod Moment
+pub mod Reads

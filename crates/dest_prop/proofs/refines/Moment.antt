@@ -190,7 +190,7 @@ module _ {X : Change} {once : X.body2 ≡ merged_by (is_shared X.body1 (home_of 
         leaves = leaves_then D G j j j f2 f1 s2.memory s1.memory m2 m1 (write m2 b2 w) (write m1 b1 v) q.leaves (leaves_write D G j m2 m1 b1 b2 v w q.linked.mem ab t at (tight_agree D v w t hv.1) (λ h x u k z. q.linked.apart h x b1.frame b1.local (b2.frame, b2.local) u o k ab.root z eo) f2 f1);
       }
 
-  alone_lent : (m2 m1 : Memory) (b1 b2 : Addr) (t : Tree) (v w old : Value) → Q m2 m1 → AddrRel j b1 b2 → AddrTy D G b1 t → needs_drop D t ≡ false → value_at m1 b1 ≡ Some old → value_at m2 b2 ≡ Some w → HasTy D G t v → ValueRel j v w → Q m2 (write m1 b1 v)
+  pub alone_lent : (m2 m1 : Memory) (b1 b2 : Addr) (t : Tree) (v w old : Value) → Q m2 m1 → AddrRel j b1 b2 → AddrTy D G b1 t → needs_drop D t ≡ false → value_at m1 b1 ≡ Some old → value_at m2 b2 ≡ Some w → HasTy D G t v → ValueRel j v w → Q m2 (write m1 b1 v)
   alone_lent m2 m1 b1 b2 t v w old q ab at nd e1 e2 ty rel =
       let (o, eo) = root_of m1 b1 old e1 in
       let l' = write_linked j j m2 m1 b1 b2 v w old q.linked ab rel e1 in
@@ -208,7 +208,7 @@ module _ {X : Change} {once : X.body2 ≡ merged_by (is_shared X.body1 (home_of 
   own2 x ps = record { frame = f2; local = home x; path = ps }
 
   -- a move out of a local that isn't shared
-  both_own : (m2 m1 : Memory) (x : ℕ) (ps : List Proj) (t : Tree) (v w : Value) → lent x ≡ false → shared x ≡ false → Q m2 m1 → AddrTy D G (own1 x ps) t → HasTy D G t v → ValueRel j v w → Q (write m2 (own2 x ps) w) (write m1 (own1 x ps) v)
+  pub both_own : (m2 m1 : Memory) (x : ℕ) (ps : List Proj) (t : Tree) (v w : Value) → lent x ≡ false → shared x ≡ false → Q m2 m1 → AddrTy D G (own1 x ps) t → HasTy D G t v → ValueRel j v w → Q (write m2 (own2 x ps) w) (write m1 (own1 x ps) v)
   both_own m2 m1 x ps t v w nl ns q at ty rel = record {
     linked = own_linked j f2 f1 home pl hs Filled a x (unlent_at x nl) ps m2 m1 v w q.linked;
     typed = write_ty D G m1 (own1 x ps) t v q.typed at ty;
@@ -217,7 +217,7 @@ module _ {X : Change} {once : X.body2 ≡ merged_by (is_shared X.body1 (home_of 
   }
 
   -- a move out of a shared one, by the source alone
-  alone_own : (m2 m1 : Memory) (x : ℕ) (ps : List Proj) (t : Tree) (old : Value) → lent x ≡ false → a x ≡ true → Q m2 m1 → AddrTy D G (own1 x ps) t → value_at m1 (own1 x ps) ≡ Some old → Q m2 (write m1 (own1 x ps) (blank D t))
+  pub alone_own : (m2 m1 : Memory) (x : ℕ) (ps : List Proj) (t : Tree) (old : Value) → lent x ≡ false → a x ≡ true → Q m2 m1 → AddrTy D G (own1 x ps) t → value_at m1 (own1 x ps) ≡ Some old → Q m2 (write m1 (own1 x ps) (blank D t))
   unfolding value_at
   alone_own m2 m1 x ps t old nl ax q at e = record {
     linked = source_linked j f2 f1 home pl hs Filled a x (unlent_at x nl) ps m2 m1 (blank D t) q.linked;
@@ -239,26 +239,26 @@ module _ {X : Change} {once : X.body2 ≡ merged_by (is_shared X.body1 (home_of 
   abbrev pub PlaceAs : Place → Type 0
   PlaceAs p = text.PlaceRel D ts1 ts2 f1 f2 j L low L p (place_home home p)
 
-  place_as : (p : Place) → A p.local → PlaceAs p
+  pub place_as : (p : Place) → A p.local → PlaceAs p
   place_as p h = record { root = h; proj = refl; ty = types_home p.local }
 
-  resolved : (m2 m1 : Memory) (p : Place) (b1 : Addr) → A p.local → Q m2 m1 → resolve H1 m1 p ≡ Some b1 → AddrThere L b1 (resolve H2 m2 (place_home home p))
+  pub resolved : (m2 m1 : Memory) (p : Place) (b1 : Addr) → A p.local → Q m2 m1 → resolve H1 m1 p ≡ Some b1 → AddrThere L b1 (resolve H2 m2 (place_home home p))
   resolved m2 m1 p b1 h q e = text.resolve_rel D ts1 ts2 f1 f2 j L low L low (λ f x r e. e) m2 m1 p (place_home home p) b1 (place_as p h) (mem m2 m1 q) e
 
   pub shows : (p : Place) → A p.local → Shows S Q p (place_home home p)
   shows p h = record { shows = λ m2 m1 b1 v q e ev. (let (b, g, ab) = resolved m2 m1 p b1 h q e in (b, g, value_at_rel j L m2 m1 (mem m2 m1 q) b1 b ab v ev)) }
 
   -- what is behind a reference is lent
-  behind : (m2 m1 : Memory) (p : Place) (b1 : Addr) → A p.local → has_deref p.proj ≡ true → Q m2 m1 → resolve H1 m1 p ≡ Some b1 → AddrThere j b1 (resolve H2 m2 (place_home home p))
+  pub behind : (m2 m1 : Memory) (p : Place) (b1 : Addr) → A p.local → has_deref p.proj ≡ true → Q m2 m1 → resolve H1 m1 p ≡ Some b1 → AddrThere j b1 (resolve H2 m2 (place_home home p))
   unfolding resolve local_addr
   behind m2 m1 p b1 h d q e = walk_deref_rel j L low m2 m1 (mem m2 m1 q) p.proj _ _ b1 d (record { root = h; path = refl }) e
 
   -- a place that isn't is the frame's own
-  plain : (m1 : Memory) (p : Place) (b1 : Addr) → has_deref p.proj ≡ false → resolve H1 m1 p ≡ Some b1 → b1 ≡ own1 p.local p.proj
+  pub plain : (m1 : Memory) (p : Place) (b1 : Addr) → has_deref p.proj ≡ false → resolve H1 m1 p ≡ Some b1 → b1 ≡ own1 p.local p.proj
   unfolding resolve local_addr
   plain m1 p b1 d e = (let (x, y, z) = walk_plain p.proj m1 (record { frame = f1; local = p.local; path = [] }) b1 d e in addr_is b1 (own1 p.local p.proj) x y z)
 
-  plain2 : (m2 : Memory) (p : Place) (b2 : Addr) → has_deref p.proj ≡ false → resolve H2 m2 (place_home home p) ≡ Some b2 → b2 ≡ own2 p.local p.proj
+  pub plain2 : (m2 : Memory) (p : Place) (b2 : Addr) → has_deref p.proj ≡ false → resolve H2 m2 (place_home home p) ≡ Some b2 → b2 ≡ own2 p.local p.proj
   unfolding resolve local_addr
   plain2 m2 p b2 d e = (let (x, y, z) = walk_plain p.proj m2 (record { frame = f2; local = home p.local; path = [] }) b2 d e in addr_is b2 (own2 p.local p.proj) x y z)
 
@@ -266,7 +266,7 @@ module _ {X : Change} {once : X.body2 ≡ merged_by (is_shared X.body1 (home_of 
   abbrev pub Far : Place → Type 0
   Far p = (lent p.local ≡ true) ⊎ (has_deref p.proj ≡ true) × A p.local
 
-  far_resolved : (m2 m1 : Memory) (p : Place) (b1 : Addr) → Far p → Q m2 m1 → resolve H1 m1 p ≡ Some b1 → AddrThere j b1 (resolve H2 m2 (place_home home p))
+  pub far_resolved : (m2 m1 : Memory) (p : Place) (b1 : Addr) → Far p → Q m2 m1 → resolve H1 m1 p ≡ Some b1 → AddrThere j b1 (resolve H2 m2 (place_home home p))
   far_resolved m2 m1 p b1 (inl l) q e = text.resolve_rel D ts1 ts2 f1 f2 j L low j (λ f x r e. e) low m2 m1 p (place_home home p) b1 (record { root = lent_at p.local l; proj = refl; ty = types_home p.local }) (mem m2 m1 q) e
   far_resolved m2 m1 p b1 (inr (d, h)) q e = behind m2 m1 p b1 h d q e
 
@@ -274,7 +274,7 @@ module _ {X : Change} {once : X.body2 ≡ merged_by (is_shared X.body1 (home_of 
   refers p h = record { refers = λ m2 m1 b1 q e. far_resolved m2 m1 p b1 h q e }
 
   -- far, or in a local that isn't lent
-  far_or_own : (p : Place) → A p.local → Far p ⊎ ((lent p.local ≡ false) × (has_deref p.proj ≡ false))
+  pub far_or_own : (p : Place) → A p.local → Far p ⊎ ((lent p.local ≡ false) × (has_deref p.proj ≡ false))
   far_or_own p h = go (lent p.local) (has_deref p.proj) refl refl
     where
       go : (b c : Bool) → borrowed X.source.shapes X.body1 p.local ≡ b → has_deref p.proj ≡ c → Far p ⊎ ((borrowed X.source.shapes X.body1 p.local ≡ false) × (has_deref p.proj ≡ false))
