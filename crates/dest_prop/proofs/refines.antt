@@ -6,3 +6,8 @@ pub mod Frames
 pub mod Starts
 pub mod Moment
 pub mod Reads
+pub mod Walks
+pub mod Places
+pub mod Results
+pub mod Terms
+pub mod Writes

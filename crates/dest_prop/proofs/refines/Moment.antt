@@ -89,6 +89,9 @@ module _ {X : Change} {once : X.body2 ≡ merged_by (is_shared X.body1 (home_of 
   pub lok : (x : ℕ) (t : Tree) → slice_get ts1 x ≡ Some t → G f1 x ≡ Some t
   lok = running.locals_ok r st.function1 st.function2
 
+  pub lok2 : (x : ℕ) (t : Tree) → slice_get ts2 x ≡ Some t → r.typed2.types f2 x ≡ Some t
+  lok2 = r.typed2.top.locals X.body2 (running.body2_at r st.function1 st.function2)
+
   pub pl : Placed j f2 f1
   pl = frames.placed X once n j s2.top s1.top st
 
@@ -114,6 +117,7 @@ module _ {X : Change} {once : X.body2 ≡ merged_by (is_shared X.body1 (home_of 
   pub record Known (m2 m1 : Memory) : Type 0 where
     pub linked : Linked j j m2 m1
     pub typed : MemTy D G m1
+    pub typed2 : MemTy D r.typed2.types m2
     pub holds : Housed j f2 f1 home Filled lives.set m2 m1
     pub leaves : Leaves D G j j f2 f1 m2 m1 s2.memory s1.memory
 
@@ -121,7 +125,7 @@ module _ {X : Change} {once : X.body2 ≡ merged_by (is_shared X.body1 (home_of 
   Q m2 m1 = Known m2 m1
 
   pub first : Q s2.memory s1.memory
-  first = record { linked = r.core.linked; typed = r.typed1.mem; holds = first_holds; leaves = leaves_none D G j f2 f1 s2.memory s1.memory }
+  first = record { linked = r.core.linked; typed = r.typed1.mem; typed2 = r.typed2.mem; holds = first_holds; leaves = leaves_none D G j f2 f1 s2.memory s1.memory }
 
   pub mem : (m2 m1 : Memory) → Q m2 m1 → MemRel j L m2 m1
   mem m2 m1 q = homed_mem j f2 f1 home pl hs a Filled m2 m1 q.linked.mem q.holds
@@ -180,12 +184,13 @@ module _ {X : Change} {once : X.body2 ≡ merged_by (is_shared X.body1 (home_of 
 
   -- ---- writes
 
-  pub both_lent : (m2 m1 : Memory) (b1 b2 : Addr) (t : Tree) (v w old : Value) → Q m2 m1 → AddrRel j b1 b2 → AddrTy D G b1 t → value_at m1 b1 ≡ Some old → HasTy D G t v → Same j v w → Q (write m2 b2 w) (write m1 b1 v)
-  both_lent m2 m1 b1 b2 t v w old q ab at e ty hv =
+  pub both_lent : (m2 m1 : Memory) (b1 b2 : Addr) (t : Tree) (v w old : Value) → Q m2 m1 → AddrRel j b1 b2 → AddrTy D G b1 t → value_at m1 b1 ≡ Some old → HasTy D G t v → AddrTy D r.typed2.types b2 t → HasTy D r.typed2.types t w → Same j v w → Q (write m2 b2 w) (write m1 b1 v)
+  both_lent m2 m1 b1 b2 t v w old q ab at e ty at2 ty2 hv =
       let (o, eo) = root_of m1 b1 old e in
       record {
         linked = write_linked j j m2 m1 b1 b2 v w old q.linked ab hv.0 e;
         typed = write_ty D G m1 b1 t v q.typed at ty;
+        typed2 = write_ty D r.typed2.types m2 b2 t w q.typed2 at2 ty2;
         holds = lent_housed j f2 f1 home pl hs Filled a m2 m1 b1 b2 v w ab q.holds;
         leaves = leaves_then D G j j j f2 f1 s2.memory s1.memory m2 m1 (write m2 b2 w) (write m1 b1 v) q.leaves (leaves_write D G j m2 m1 b1 b2 v w q.linked.mem ab t at (tight_agree D v w t hv.1) (λ h x u k z. q.linked.apart h x b1.frame b1.local (b2.frame, b2.local) u o k ab.root z eo) f2 f1);
       }
@@ -197,6 +202,7 @@ module _ {X : Change} {once : X.body2 ≡ merged_by (is_shared X.body1 (home_of 
       record {
         linked = record { apart = l'.apart; mem = record { at = λ f x g y ll u' e. (let (z, g2, r2) = l'.mem.at f x g y ll u' e in (z, sym (write_again m2 b2 w g y e2) ∙ g2, r2)) } };
         typed = write_ty D G m1 b1 t v q.typed at ty;
+        typed2 = q.typed2;
         holds = alone_housed j f2 f1 home pl hs Filled a m2 m1 b1 b2 v ab q.holds;
         leaves = leaves_then D G j j j f2 f1 s2.memory s1.memory m2 m1 m2 (write m1 b1 v) q.leaves (leaves_alone D G V.needs j m2 m1 b1 b2 v w t f2 f1 q.linked.mem ab at nd e2 (λ h x u k z. q.linked.apart h x b1.frame b1.local (b2.frame, b2.local) u o k ab.root z eo));
       }
@@ -208,10 +214,11 @@ module _ {X : Change} {once : X.body2 ≡ merged_by (is_shared X.body1 (home_of 
   own2 x ps = record { frame = f2; local = home x; path = ps }
 
   -- a move out of a local that isn't shared
-  pub both_own : (m2 m1 : Memory) (x : ℕ) (ps : List Proj) (t : Tree) (v w : Value) → lent x ≡ false → shared x ≡ false → Q m2 m1 → AddrTy D G (own1 x ps) t → HasTy D G t v → ValueRel j v w → Q (write m2 (own2 x ps) w) (write m1 (own1 x ps) v)
-  both_own m2 m1 x ps t v w nl ns q at ty rel = record {
+  pub both_own : (m2 m1 : Memory) (x : ℕ) (ps : List Proj) (t : Tree) (v w : Value) → lent x ≡ false → shared x ≡ false → Q m2 m1 → AddrTy D G (own1 x ps) t → HasTy D G t v → AddrTy D r.typed2.types (own2 x ps) t → HasTy D r.typed2.types t w → ValueRel j v w → Q (write m2 (own2 x ps) w) (write m1 (own1 x ps) v)
+  both_own m2 m1 x ps t v w nl ns q at ty at2 ty2 rel = record {
     linked = own_linked j f2 f1 home pl hs Filled a x (unlent_at x nl) ps m2 m1 v w q.linked;
     typed = write_ty D G m1 (own1 x ps) t v q.typed at ty;
+    typed2 = write_ty D r.typed2.types m2 (own2 x ps) t w q.typed2 at2 ty2;
     holds = own_housed j f2 f1 home pl hs Filled a x (unlent_at x nl) ps a m2 m1 v w (λ y by. inl (by, λ e. sole D X.body1 x y ns e)) rel (λ v0 w0 h. put_both ps v w (rel_fills j v w rel) v0 w0 h) (λ y u w0 e ne k g h. absurd (ne (sole D X.body1 x y ns e))) q.holds;
     leaves = leaves_then D G j j j f2 f1 s2.memory s1.memory m2 m1 (write m2 (own2 x ps) w) (write m1 (own1 x ps) v) q.leaves (own_leaves j f2 f1 home pl hs Filled a x (unlent_at x nl) ps D G m2 m1 v w);
   }
@@ -222,6 +229,7 @@ module _ {X : Change} {once : X.body2 ≡ merged_by (is_shared X.body1 (home_of 
   alone_own m2 m1 x ps t old nl ax q at e = record {
     linked = source_linked j f2 f1 home pl hs Filled a x (unlent_at x nl) ps m2 m1 (blank D t) q.linked;
     typed = write_ty D G m1 (own1 x ps) t (blank D t) q.typed at (bok t);
+    typed2 = q.typed2;
     holds = gone_housed j f2 f1 home pl hs Filled a x (unlent_at x nl) ps a m2 m1 (blank D t) (λ y by ne. by) (λ ay o k. (let (w0, g, rel) = q.holds.at x o (unlent_at x nl) ax k in (w0, g, related o k w0 rel))) (λ v0 w0 k g h. (let (w1, g1, rel) = q.holds.at x v0 (unlent_at x nl) ax k in rel_fills j (put ps (blank D t) v0) w0 (subst (λ w. ValueRel j (put ps (blank D t) v0) w) (some_val (sym g1 ∙ g)) (related v0 k w1 rel)))) q.holds;
     leaves = leaves_then D G j j j f2 f1 s2.memory s1.memory m2 m1 m2 (write m1 (own1 x ps) (blank D t)) q.leaves (leaves_source D G j m2 m1 (own1 x ps) (blank D t) f2 f1 (omega arith));
   }

@@ -68,6 +68,9 @@ module _ {X : Change} {once : X.body2 ≡ merged_by (is_shared X.body1 (home_of 
   pub addr_ty : (m2 m1 : Memory) (p : Place) (b1 : Addr) (t : Tree) → Q m2 m1 → type_of H1 p ≡ Some t → resolve H1 m1 p ≡ Some b1 → AddrTy D G b1 t
   addr_ty m2 m1 p b1 t q et e = resolve_ty D G bok ts1 f1 (moment.lok now) m1 p b1 t q.typed et e
 
+  pub addr_ty2 : (m2 m1 : Memory) (p : Place) (b2 : Addr) (t : Tree) → Q m2 m1 → type_of H1 p ≡ Some t → resolve H2 m2 (place_home home p) ≡ Some b2 → AddrTy D r.typed2.types b2 t
+  addr_ty2 m2 m1 p b2 t q et e = resolve_ty D r.typed2.types (V.valid2.blank_ok r.typed2.types) ts2 f2 (moment.lok2 now) m2 (place_home home p) b2 t q.typed2 (moment.ty_home now p ∙ et) e
+
   -- ---- moves
 
   -- out of a place, by the source alone
@@ -97,12 +100,12 @@ module _ {X : Change} {once : X.body2 ≡ merged_by (is_shared X.body1 (home_of 
       go (inl far) =
           let (c, g, ab) = moment.far_resolved now m2 m1 p b1 far q e1 in
           let same : c ≡ b2 = some_val (sym g ∙ e2) in
-          moment.both_lent now m2 m1 b1 b2 t (blank X.source.shapes t) (blank X.source.shapes t) v q (subst (λ c. AddrRel r.core.lent b1 c) same ab) (addr_ty m2 m1 p b1 t q et e1) ev (V.valid1.blank_ok r.typed1.types t) (blank_rel r.core.lent X.source.shapes t, tight_self (blank X.source.shapes t))
+          moment.both_lent now m2 m1 b1 b2 t (blank X.source.shapes t) (blank X.source.shapes t) v q (subst (λ c. AddrRel r.core.lent b1 c) same ab) (addr_ty m2 m1 p b1 t q et e1) ev (V.valid1.blank_ok r.typed1.types t) (addr_ty2 m2 m1 p b2 t q et e2) (V.valid2.blank_ok r.typed2.types t) (blank_rel r.core.lent X.source.shapes t, tight_self (blank X.source.shapes t))
       go (inr (nl, d)) =
           let is1 = moment.plain now m1 p b1 d e1 in
           let is2 = moment.plain2 now m2 p b2 d e2 in
           let ty = subst (λ b. AddrTy X.source.shapes r.typed1.types b t) is1 (addr_ty m2 m1 p b1 t q et e1) in
-          subst (λ b. Q (write m2 b2 (blank X.source.shapes t)) (write m1 b (blank X.source.shapes t))) (sym is1) (subst (λ b. Q (write m2 b (blank X.source.shapes t)) (write m1 (moment.own1 now p.local p.proj) (blank X.source.shapes t))) (sym is2) (moment.both_own now m2 m1 p.local p.proj t (blank X.source.shapes t) (blank X.source.shapes t) nl ns q ty (V.valid1.blank_ok r.typed1.types t) (blank_rel r.core.lent X.source.shapes t)))
+          subst (λ b. Q (write m2 b2 (blank X.source.shapes t)) (write m1 b (blank X.source.shapes t))) (sym is1) (subst (λ b. Q (write m2 b (blank X.source.shapes t)) (write m1 (moment.own1 now p.local p.proj) (blank X.source.shapes t))) (sym is2) (moment.both_own now m2 m1 p.local p.proj t (blank X.source.shapes t) (blank X.source.shapes t) nl ns q ty (V.valid1.blank_ok r.typed1.types t) (subst (λ b. AddrTy X.source.shapes r.typed2.types b t) is2 (addr_ty2 m2 m1 p b2 t q et e2)) (V.valid2.blank_ok r.typed2.types t) (blank_rel r.core.lent X.source.shapes t)))
 
   move_read : (p : Place) → moment.Alive now p.local → shared p.local ≡ false → (m2 m1 : Memory) (x : Value × Memory) → Q m2 m1 → read H1 m1 (operand.Move p) ≡ Some x → Got (Same j) Q x (read H2 m2 (operand.Move (place_home home p)))
   unfolding read
