@@ -11,3 +11,4 @@ pub mod Places
 pub mod Results
 pub mod Terms
 pub mod Writes
+pub mod Statements

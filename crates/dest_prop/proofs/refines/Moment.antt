@@ -223,24 +223,27 @@ module _ {X : Change} {once : X.body2 ≡ merged_by (is_shared X.body1 (home_of 
     leaves = leaves_then D G j j j f2 f1 s2.memory s1.memory m2 m1 (write m2 (own2 x ps) w) (write m1 (own1 x ps) v) q.leaves (own_leaves j f2 f1 home pl hs Filled a x (unlent_at x nl) ps D G m2 m1 v w);
   }
 
-  -- a move out of a shared one, by the source alone
-  pub alone_own : (m2 m1 : Memory) (x : ℕ) (ps : List Proj) (t : Tree) (old : Value) → lent x ≡ false → a x ≡ true → Q m2 m1 → AddrTy D G (own1 x ps) t → value_at m1 (own1 x ps) ≡ Some old → Q m2 (write m1 (own1 x ps) (blank D t))
+  -- the source alone writes into a local that lives, where its home has such a value already
+  pub alone_own_as : (m2 m1 : Memory) (x : ℕ) (ps : List Proj) (t : Tree) (old v : Value) → lent x ≡ false → a x ≡ true → Q m2 m1 → AddrTy D G (own1 x ps) t → value_at m1 (own1 x ps) ≡ Some old → HasTy D G t v → ((w : Value) → value_at m2 (own2 x ps) ≡ Some w → ValueRel j v w) → Q m2 (write m1 (own1 x ps) v)
   unfolding value_at
-  alone_own m2 m1 x ps t old nl ax q at e = record {
-    linked = source_linked j f2 f1 home pl hs Filled a x (unlent_at x nl) ps m2 m1 (blank D t) q.linked;
-    typed = write_ty D G m1 (own1 x ps) t (blank D t) q.typed at (bok t);
+  alone_own_as m2 m1 x ps t old v nl ax q at e ty fits = record {
+    linked = source_linked j f2 f1 home pl hs Filled a x (unlent_at x nl) ps m2 m1 v q.linked;
+    typed = write_ty D G m1 (own1 x ps) t v q.typed at ty;
     typed2 = q.typed2;
-    holds = gone_housed j f2 f1 home pl hs Filled a x (unlent_at x nl) ps a m2 m1 (blank D t) (λ y by ne. by) (λ ay o k. (let (w0, g, rel) = q.holds.at x o (unlent_at x nl) ax k in (w0, g, related o k w0 rel))) (λ v0 w0 k g h. (let (w1, g1, rel) = q.holds.at x v0 (unlent_at x nl) ax k in rel_fills j (put ps (blank D t) v0) w0 (subst (λ w. ValueRel j (put ps (blank D t) v0) w) (some_val (sym g1 ∙ g)) (related v0 k w1 rel)))) q.holds;
-    leaves = leaves_then D G j j j f2 f1 s2.memory s1.memory m2 m1 m2 (write m1 (own1 x ps) (blank D t)) q.leaves (leaves_source D G j m2 m1 (own1 x ps) (blank D t) f2 f1 (omega arith));
+    holds = gone_housed j f2 f1 home pl hs Filled a x (unlent_at x nl) ps a m2 m1 v (λ y by ne. by) (λ ay o k. (let (w0, g, rel) = q.holds.at x o (unlent_at x nl) ax k in (w0, g, related o k w0 g rel))) (λ v0 w0 k g h. (let (w1, g1, rel) = q.holds.at x v0 (unlent_at x nl) ax k in rel_fills j (put ps v v0) w0 (subst (λ w. ValueRel j (put ps v v0) w) (some_val (sym g1 ∙ g)) (related v0 k w1 g1 rel)))) q.holds;
+    leaves = leaves_then D G j j j f2 f1 s2.memory s1.memory m2 m1 m2 (write m1 (own1 x ps) v) q.leaves (leaves_source D G j m2 m1 (own1 x ps) v f2 f1 (omega arith));
   }
     where
-      related : (o : Value) → local_at m1 f1 x ≡ Some o → (w0 : Value) → ValueRel j o w0 → ValueRel j (put ps (blank X.source.shapes t) o) w0
-      related o k w0 rel =
+      related : (o : Value) → local_at m1 f1 x ≡ Some o → (w0 : Value) → local_at m2 f2 (home x) ≡ Some w0 → ValueRel j o w0 → ValueRel j (put ps v o) w0
+      related o k w0 g rel =
           let (o', e1, e2) = bind_some e in
           let here : at_path ps o ≡ Some old = ap (at_path ps) (some_val (sym k ∙ e1)) ∙ e2 in
-          let (w', g, rel') = at_path_rel j ps o w0 old rel here in
-          let fits : ValueRel j (blank X.source.shapes t) w' = blank_any X.source.shapes G j t old w' (value_at_ty X.source.shapes G m1 (record { frame = f1; local = x; path = ps }) t old q.typed at e) rel' in
-          subst (λ w. ValueRel j (put ps (blank X.source.shapes t) o) w) (put_same ps w' w0 g) (put_rel j ps (blank X.source.shapes t) w' fits o w0 rel)
+          let (w', g', rel') = at_path_rel j ps o w0 old rel here in
+          subst (λ w. ValueRel j (put ps v o) w) (put_same ps w' w0 g') (put_rel j ps v w' (fits w' (some_bind _ g g')) o w0 rel)
+
+  -- a move out of a shared one, by the source alone
+  pub alone_own : (m2 m1 : Memory) (x : ℕ) (ps : List Proj) (t : Tree) (old : Value) → lent x ≡ false → a x ≡ true → Q m2 m1 → AddrTy D G (own1 x ps) t → value_at m1 (own1 x ps) ≡ Some old → Q m2 (write m1 (own1 x ps) (blank D t))
+  alone_own m2 m1 x ps t old nl ax q at e = alone_own_as m2 m1 x ps t old (blank D t) nl ax q at e (bok t) (λ w g. let (w1, g1, rel) = value_at_rel j L m2 m1 (mem m2 m1 q) (own1 x ps) (own2 x ps) (record { root = homed_at j f2 f1 home pl hs a x ax; path = refl }) old e in blank_any D G j t old w (value_at_ty D G m1 (own1 x ps) t old q.typed at e) (subst (λ w. ValueRel j old w) (some_val (sym g1 ∙ g)) rel))
 
   -- ---- what both read
 
