@@ -61,7 +61,7 @@ pub not_true : (a : Bool) → not a ≡ true → a ≡ false
 not_true true e = absurd (grind arith)
 not_true false e = refl
 
-not_false : (a : Bool) → not a ≡ false → a ≡ true
+pub not_false : (a : Bool) → not a ≡ false → a ≡ true
 not_false true e = refl
 not_false false e = absurd (grind arith)
 

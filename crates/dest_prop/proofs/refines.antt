@@ -12,3 +12,6 @@ pub mod Results
 pub mod Terms
 pub mod Writes
 pub mod Statements
+pub mod Gone
+pub mod Steps
+pub mod Refined

@@ -67,14 +67,14 @@ module _ {X : Change} {once : X.body2 ≡ merged_by (is_shared X.body1 (home_of 
   )
 
   -- the source alone writes a local as a whole, where its home has such a value
-  pub gone_write : (m1 : Memory) (x : ℕ) (v w : Value) → moment.lent now x ≡ false → local_at s2.memory f2 (home x) ≡ Some w → ValueRel j v w → Q s2.memory m1 → Left s2.memory (write m1 (moment.own1 now x []) v) × Holds (with x a) s2.memory (write m1 (moment.own1 now x []) v)
-  gone_write m1 x v w nl g hv q = (
+  pub gone_write : (m1 : Memory) (x : ℕ) (v : Value) → moment.lent now x ≡ false → ((o : Value) → local_at m1 f1 x ≡ Some o → SomeRel j v (local_at s2.memory f2 (home x))) → Q s2.memory m1 → Left s2.memory (write m1 (moment.own1 now x []) v) × Holds (with x a) s2.memory (write m1 (moment.own1 now x []) v)
+  gone_write m1 x v nl has q = (
     (source_linked j f2 f1 home (moment.pl now) (moment.hs now) Filled a x (moment.unlent_at now x nl) [] s2.memory m1 v q.linked, leaves_then D G j j j f2 f1 s2.memory s1.memory s2.memory m1 s2.memory (write m1 (moment.own1 now x []) v) q.leaves (leaves_source D G j s2.memory m1 (moment.own1 now x []) v f2 f1 (omega arith))),
-    gone_housed j f2 f1 home (moment.pl now) (moment.hs now) Filled a x (moment.unlent_at now x nl) [] (with x a) s2.memory m1 v (with_new x a) (λ b o k. (w, g, hv)) (λ v0 w0 k g0 h. subst (λ w. Fills v w) (same w0 g0) (rel_fills j v w hv)) q.holds,
+    gone_housed j f2 f1 home (moment.pl now) (moment.hs now) Filled a x (moment.unlent_at now x nl) [] (with x a) s2.memory m1 v (with_new x a) (λ b o k. has o k) (λ v0 w0 k g h. fills w0 g (has v0 k)) q.holds,
   )
     where
-      same : (w0 : Value) → local_at s2.memory s2.top.frame (home_of X.source.shapes X.body1 x) ≡ Some w0 → w ≡ w0
-      same w0 g0 = (let z : Some w ≡ Some w0 = sym g ∙ g0 in grind arith)
+      fills : (w0 : Value) → local_at s2.memory s2.top.frame (home_of X.source.shapes X.body1 x) ≡ Some w0 → SomeRel r.core.lent v (local_at s2.memory s2.top.frame (home_of X.source.shapes X.body1 x)) → Fills v w0
+      fills w0 g (w, g1, rel) = subst (λ w. Fills v w) (let z : Some w ≡ Some w0 = sym g1 ∙ g in let k : w ≡ w0 = grind arith in k) (rel_fills r.core.lent v w rel)
 
   -- both store at a far place
   pub far_write : (m2 m1 m1' : Memory) (d c : Dest) (t : Tree) (v w : Value) → Q m2 m1 → DestRel j d c → AddrTy D G d.addr t → Same j v w → store D m1 d v ≡ Some m1' → (m2' : Memory) × (store D m2 c w ≡ Some m2') × Left m2' m1' × Holds a m2' m1'
