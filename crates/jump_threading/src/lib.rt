@@ -10,5 +10,6 @@
 #![tactic(auto)]
 
 mod laws;
+mod thread;
 
 pub use laws::{threaded_refines, threaded_stays_valid};

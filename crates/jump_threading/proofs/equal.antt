@@ -1,0 +1,3 @@
+-- The code makes the body of the definition.
+pub mod Redirects
+pub mod InOrder
