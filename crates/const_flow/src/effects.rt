@@ -55,7 +55,7 @@ fn way_under<'a>(place: &Place, tracked: &'a Place) -> &'a [Proj]
 }
 
 /// The block of the first arm with the value, else the other one.
-fn taken_arm(number: u128, arms: &[Arm], other: u32) -> u32
+pub fn taken_arm(number: u128, arms: &[Arm], other: u32) -> u32
     ensures { result ≡ take_arm number arms.now other }
 {
     for arm in arms {

@@ -21,5 +21,6 @@ mod rows;
 mod sight;
 
 pub use cell::{Cell, Known};
+pub use effects::taken_arm;
 pub use facts::Facts;
 pub use rows::{ConstRows, consts};
