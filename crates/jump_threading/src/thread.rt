@@ -1,8 +1,18 @@
+//! The body in which edges go through copies.
 ghost use Rattle.std.specs.Prelude.{◌≡◌, ◌<◌, ◌^◌, ◌+◌, ◌++◌, map, length, IfOk};
 ghost use Rattle.std.specs.List.{All};
+ghost use Rattle.mir_syntax.specs.Drops.{KnowsDrops};
+ghost use Rattle.mir_syntax.specs.Ids.{IdsInTable, BodyInTable};
+ghost use Rattle.mir_syntax.specs.Tree.{trees_of};
+ghost use Rattle.mir_syntax.specs.Crate.{crate_of, body_of};
+ghost use Rattle.mir_syntax.specs.Shapes.{shapes_of};
+ghost use Rattle.mir_cfg.specs.Paths.{terms_of, Closed};
 ghost use Rattle.jump_threading.specs.Code.{bare_copy, bare_link, bare_redirected};
+ghost use Rattle.jump_threading.specs.Threaded as definition;
 
-use mir_syntax::{Block, Body, Copied, List, OutOfMemory, Term};
+use crate::edges::edges;
+use const_flow::consts;
+use mir_syntax::{Block, Body, Copied, List, OutOfMemory, Program, Term};
 use std::alloc::Global;
 
 /// An edge that is threaded: the block that it leaves, the one that is copied for it, and where the copy goes on.
@@ -72,4 +82,22 @@ pub(crate) fn with_copies(alloc: Global, body: Body, edges: &[Edge]) -> Result<B
     redirect(body.blocks.as_mut_slice(), edges, first);
     body.blocks.append(copies)?;
     Ok(body)
+}
+
+/// The body in which a jump to a block whose switch is known goes to a copy of that block, and the copy on to the switch's target. `Err` is for
+/// want of memory alone, and the body is spent then.
+pub fn threaded(alloc: Global, program: &Program, body: Body) -> Result<Body, OutOfMemory>
+    requires knows { KnowsDrops program.now }
+    requires ids { IdsInTable program.now }
+    requires body_ids { BodyInTable program.now.types body }
+    requires closed { Closed (terms_of body) }
+    requires some_block { 0 < length body.blocks }
+    requires few_blocks { length body.blocks < 2 ^ 30 }
+    requires few_locals { length body.locals < 2 ^ 30 }
+    ensures threaded { IfOk result (λ left. body_of (trees_of program.now.types) left ≡ definition.threaded (shapes_of (crate_of program.now)) (body_of (trees_of program.now.types) body)) }
+    ensures in_table { IfOk result (λ left. BodyInTable program.now.types left) }
+{
+    let rows = consts(alloc, program, &body)?;
+    let edges = edges(alloc, program, &body, &rows)?;
+    with_copies(alloc, body, edges.as_slice())
 }
