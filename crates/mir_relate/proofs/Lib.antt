@@ -32,3 +32,5 @@ pub mod Rules
 pub mod Replaced
 pub mod Rest
 pub mod Renumbered
+pub mod EachLocal
+pub mod Moment

@@ -36,10 +36,10 @@ use Rattle.const_flow.proofs.sound.Related.{RefsOk, StmtRefsOk, exec_holds}
 use Rattle.const_flow.proofs.sound.Lent.{refs_ok}
 use Rattle.jump_threading.specs.Threaded.{taken}
 use Rattle.jump_threading.proofs.Blocks.{Redirected}
-use Rattle.jump_threading.proofs.refines.Frames as frames
-use Rattle.jump_threading.proofs.refines.Frames.{Runs, holds_linked}
-use Rattle.jump_threading.proofs.refines.Moment as moment
-use Rattle.jump_threading.proofs.refines.Moment.{Moment}
+use Rattle.mir_relate.proofs.EachLocal as frames
+use Rattle.mir_relate.proofs.EachLocal.{Runs, holds_linked}
+use Rattle.mir_relate.proofs.Moment as moment
+use Rattle.mir_relate.proofs.Moment.{Moment}
 use Rattle.jump_threading.proofs.refines.Where.{Threads, InCopy, At, Known, KnownAt, words, lasting}
 use Rattle.jump_threading.proofs.refines.Ends.{same_end, redirects, copy_goes}
 
@@ -164,9 +164,11 @@ module _ {X : Change} {xs : List Reached} {V : Valids X} {Inv : State → Type 0
     says_after : (s : TypedStmt) (m1' : Memory) → slice_get k.stmts s1.top.at ≡ Some s → exec S.source s1.memory s ≡ Some m1' → At X xs (next_stmt s2.top) (next_stmt s1.top) m1'
     says_after s m1' at e = record {
       at = ap suc runs.says.at;
-      facts = runs.says.facts;
-      reached = runs.says.reached;
-      known = λ k' e'. subst (λ k. KnownAt X xs (next_stmt s1.top) m1' k runs.says.facts) (some_val (sym ek ∙ e')) (known_after s m1' runs.says.facts at e (runs.says.known k ek));
+      point = record {
+        facts = runs.says.point.facts;
+        reached = runs.says.point.reached;
+        known = λ k' e'. subst (λ k. KnownAt X xs (next_stmt s1.top) m1' k runs.says.point.facts) (some_val (sym ek ∙ e')) (known_after s m1' runs.says.point.facts at e (runs.says.point.known k ek));
+      };
       place = go runs.says.place;
     }
       where

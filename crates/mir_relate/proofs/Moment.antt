@@ -1,4 +1,4 @@
--- A frame at work of a body in which each local is kept: what is related, and what both frames read. This names nothing of threading.
+-- A frame at work of a body in which each local is kept: what is related, and what both frames read.
 use Rattle.std.proofs.Common.{◌≡◌, ◌⊎◌, refl, sym, ap, ◌∙◌, subst, ℕ, ◌≤◌, true, false, List, [], Some, None, slice_get, arith}
 use Rattle.mir_syntax.specs.declared.body.Place.{Place}
 use Rattle.mir_syntax.specs.declared.body.Operand.{Operand}
@@ -23,8 +23,8 @@ use Rattle.mir_relate.proofs.Near as near
 use Rattle.mir_relate.proofs.Others.{read_at_whole}
 use Rattle.mir_relate.proofs.Own as own
 use Rattle.mir_relate.proofs.Single.{stand_moved}
-use Rattle.jump_threading.proofs.refines.Frames as frames
-use Rattle.jump_threading.proofs.refines.Frames.{Words, Lasting, Standing, Runs, all}
+use Rattle.mir_relate.proofs.EachLocal as frames
+use Rattle.mir_relate.proofs.EachLocal.{Words, Lasting, Standing, Runs, all}
 
 -- two states whose top frames are of the changed body
 pub record Moment (X : Change) (W : Words) (V : Valids X) (Inv : State → Type 0) : Type 1 where

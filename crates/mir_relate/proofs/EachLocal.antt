@@ -1,20 +1,20 @@
 -- Passes that keep each local, and say more of a frame: how two frames are related, frames that wait, and returns to them. Locals that are
--- lent are so from the start. This names nothing of threading.
+-- lent are so from the start.
 use Rattle.std.proofs.Common.{◌≡◌, ◌⊎◌, inl, inr, refl, sym, ap, ◌∙◌, subst, ℕ, ◌<◌, ◌≤◌, Bool, true, false, nat_eq, ◌&&◌, if◌then◌else◌, List, [], ◌∷◌, ◌++◌, length, Option, Some, None, slice_get, arith}
 use Rattle.mir_syntax.specs.Tree.{Tree}
 use Rattle.mir_syntax.specs.Shapes.{Shape}
 use Rattle.mir_semantics.specs.Values.{Value}
-use Rattle.mir_semantics.specs.Memory.{Memory, local_at, write, open_frame, close_frame}
+use Rattle.mir_semantics.specs.Memory.{Memory, local_at, write, open_frame}
 use Rattle.mir_semantics.specs.Step.{Dest, Dropping, Control, State, Next, new_slots, destroyed, go_on, return_to}
 use Rattle.mir_syntax.proofs.Binds.{bind_some, some_bind}
 use Rattle.mir_renaming.specs.Renaming.{Renaming, SomeRel, Sub}
-use Rattle.mir_renaming.proofs.Memory.{same_or_not}
-use Rattle.mir_renaming.proofs.Frames.{open_same, close_same, close_other, new_control}
+use Rattle.mir_renaming.proofs.Frames.{open_same, new_control}
 use Rattle.mir_renaming.proofs.Ghosts.{value_mono}
 use Rattle.mir_renaming.proofs.Slots.{slots_rel, value_in}
 use Rattle.mir_renaming.proofs.Statements.{Linked, ValuesRel}
 use Rattle.mir_renaming.proofs.Stores.{pair_parts, store_split}
-use Rattle.mir_renaming.proofs.Types.{TypeMap, AddrTy, HasTy, MemTy}
+use Rattle.mir_renaming.proofs.Typed.{close_ty}
+use Rattle.mir_renaming.proofs.Types.{TypeMap, AddrTy, MemTy}
 use Rattle.mir_relate.specs.Alike.{Same}
 use Rattle.mir_relate.specs.Leaves.{Leaves}
 use Rattle.mir_relate.specs.Frames.{Change, Pass, lowest, DestsRel, opened, Below}
@@ -59,13 +59,6 @@ holds_linked j f2 f1 p m2 m1 l = record {
   at = λ x v none a e. l.mem.at f1 x f2 x (living_at j f2 f1 p all x refl) v e;
   room = λ x v none e. (let (w, g, r) = l.mem.at f1 x f2 x (living_at j f2 f1 p all x refl) v e in (w, g));
 }
-
-closed_ty : (D : List Shape) (G : TypeMap) (m : Memory) (n : ℕ) → MemTy D G m → MemTy D G (close_frame m n)
-closed_ty D G m n k = record { at = λ f x t v g e. go f x t v g e (same_or_not f n) }
-  where
-    go : (f x : ℕ) (t : Tree) (v : Value) → G f x ≡ Some t → local_at (close_frame m n) f x ≡ Some v → ((nat_eq f n ≡ true) × (f ≡ n)) ⊎ ((nat_eq f n ≡ false) × (f ≡ n → ⊥)) → HasTy D G t v
-    go f x t v g e (inl p) = absurd (let z : local_at (close_frame m n) f x ≡ None = ap (λ i. local_at (close_frame m n) i x) p.1 ∙ close_same m n x in grind arith)
-    go f x t v g e (inr p) = k.at f x t v g (sym (close_other m n f x p.1) ∙ e)
 
 module _ (X : Change) (W : Words) where
   abbrev D : List Shape
@@ -222,5 +215,5 @@ module _ (X : Change) (W : Words) where
         once = λ x x' y e e'. (let (a, b) = place_some x y e in let (a', b') = place_some x' y e' in b ∙ sym b');
         slots = λ j vs ws hv few x y e v k. (let (a, b) = place_some x y e in subst (λ y. SomeRel j v (slice_get (new_slots D X.body2.locals ws) y)) b (slots_same j vs ws hv.0 x v k));
         begins = λ j k2 k1 d2 d1 m2 m1 vs ws hv few f1 f2 l. (0, (refl, begins j k2 k1 d2 d1 m2 m1 vs ws hv.0 few f1 f2));
-        resumes = λ n s2 s1 r m2 m1 c2 c1 gs ds cs2 v w x q q2 p2 p1 l wt be l1 l2 lo dt hv k ge. resumed n s2 s1 r m2 m1 c2 c1 gs ds cs2 v w x q (subst (MemTy D r.typed1.types) (sym p1) (closed_ty D r.typed1.types s1.memory s1.top.frame r.typed1.mem)) l wt be l1 l2 dt hv k ge;
+        resumes = λ n s2 s1 r m2 m1 c2 c1 gs ds cs2 v w x q q2 p2 p1 l wt be l1 l2 lo dt hv k ge. resumed n s2 s1 r m2 m1 c2 c1 gs ds cs2 v w x q (subst (MemTy D r.typed1.types) (sym p1) (close_ty X.source V.valid1 r.typed1.types s1.memory s1.top.frame r.typed1.mem)) l wt be l1 l2 dt hv k ge;
       }
