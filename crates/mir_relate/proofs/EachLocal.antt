@@ -23,7 +23,9 @@ use Rattle.mir_relate.proofs.Leaves.{some_val}
 use Rattle.mir_relate.proofs.Living.{Holds, Placed, living, living_at, living_low, living_near, living_once, living_linked, living_lent, holds_kept}
 use Rattle.mir_relate.proofs.Mild.{gentle_on}
 use Rattle.mir_relate.proofs.Near as near
-use Rattle.mir_relate.proofs.Opens.{opened_up}
+use Rattle.mir_relate.proofs.OneForOne as one
+use Rattle.mir_relate.proofs.OneForOne.{home, home_none, home_some, home_once, new_holds, Return}
+use Rattle.mir_relate.proofs.SameLocals.{slots_same}
 use Rattle.mir_relate.proofs.Single.{Stand, stand_kept, stand_begins, back_core, knows_waiting}
 use Rattle.mir_relate.proofs.Stacks.{dests_up}
 
@@ -64,22 +66,8 @@ module _ (X : Change) (W : Words) where
   abbrev D : List Shape
   D = X.source.shapes
 
-  -- a lent local stands for itself
   abbrev pub place : ℕ → Option ℕ
-  place x = if W.lent x then Some x else None
-
-  pub place_lent : (x : ℕ) → W.lent x ≡ true → place x ≡ Some x
-  place_lent x e = ap (λ b. if b then Some x else None) e
-
-  pub place_none : (x : ℕ) → W.lent x ≡ false → place x ≡ None
-  place_none x e = ap (λ b. if b then Some x else None) e
-
-  pub place_some : (x y : ℕ) → place x ≡ Some y → (W.lent x ≡ true) × (x ≡ y)
-  place_some x y e = go (W.lent x) refl
-    where
-      go : (b : Bool) → W.lent x ≡ b → (W.lent x ≡ true) × (x ≡ y)
-      go true l = (l, some_val (sym (place_lent x l) ∙ e))
-      go false l = absurd (let z : None ≡ Some y = sym (place_none x l) ∙ e in grind arith)
+  place = home W.lent
 
   -- where they stand in the blocks is among what the pass says
   abbrev pub Anywhere : ℕ → Control → Control → Type 0
@@ -108,11 +96,7 @@ module _ (X : Change) (W : Words) where
   }
 
   pub placed : (j : Renaming) (c2 c1 : Control) → Standing j c2 c1 → Placed j c2.frame c1.frame
-  placed j c2 c1 st = record { self = λ x g y e. self x g y e (W.lent x) refl; only = λ h x y e. (let (p, q) = st.only h x y e in (p, (place_some x y q).1)) }
-    where
-      self : (x g y : ℕ) → j c1.frame x ≡ Some (g, y) → (b : Bool) → W.lent x ≡ b → (g ≡ c2.frame) × (y ≡ x)
-      self x g y e true l = pair_parts c2.frame x g y (sym (st.roots x x (place_lent x l)) ∙ e)
-      self x g y e false l = absurd (let z : None ≡ Some (g, y) = sym (st.none x (place_none x l)) ∙ e in grind arith)
+  placed j c2 c1 st = one.placed W.lent X.f Anywhere 0 j (record c2 { block = c1.block }) c1 st
 
   module _ (lasts : Lasting X W) where
     -- ---- frames that wait
@@ -122,7 +106,7 @@ module _ (X : Change) (W : Words) where
       stand = stand_kept X.f place Anywhere D G j j' 0 (record c2 { block = c1.block }) c1 n2 n1 m2' m1' m2 m1 l1 l2 l w.stand;
       locals = holds_kept j c2.frame c1.frame (placed j c2 c1 w.stand) all D G j' n2 n1 m2' m1' m2 m1 l1 l2 l w.locals;
       dests = dests_up (living j c2.frame c1.frame all) (living j' c2.frame c1.frame all) (living_up j j' c2.frame c1.frame l.up) d1 d2 w.dests;
-      says = lasts.kept d1 c2 c1 m1' m1 (λ x free. l.source c1.frame x l1 (w.stand.none x (place_none x free))) w.says;
+      says = lasts.kept d1 c2 c1 m1' m1 (λ x free. l.source c1.frame x l1 (w.stand.none x (home_none W.lent x free))) w.says;
     }
 
     pub kept_law : KeptLaw X pass
@@ -130,47 +114,17 @@ module _ (X : Change) (W : Words) where
 
     -- ---- a call
 
-    slots_same : (j : Renaming) (vs ws : List Value) → ValuesRel j vs ws → (x : ℕ) (v : Value) → slice_get (new_slots D X.body1.locals vs) x ≡ Some v → SomeRel j v (slice_get (new_slots D X.body2.locals ws) x)
-    slots_same j vs ws h x v e = subst (λ ts. SomeRel j v (slice_get (new_slots D ts ws) x)) (sym lasts.same_locals) (value_in j (new_slots D X.body1.locals vs) (new_slots D X.body1.locals ws) x v (slots_rel j D X.body1.locals vs ws h) e)
-
     begins : (j : Renaming) (k2 k1 : ℕ) (d2 d1 : Option Dest) (m2 m1 : Memory) (vs ws : List Value) → ValuesRel j vs ws → length vs ≤ X.body1.args → ((x : ℕ) → j k1 x ≡ None) → ((h x g y : ℕ) → j h x ≡ Some (g, y) → g < k2) → Runs (opened j k2 k1 place) (new_control X.f k2 d2) (new_control X.f k1 d1) (open_frame m2 k2 (new_slots D X.body2.locals ws)) (open_frame m1 k1 (new_slots D X.body1.locals vs))
     begins j k2 k1 d2 d1 m2 m1 vs ws hv few fresh1 fresh2 = record {
       stand = stand_begins X.f place Anywhere j k2 k1 d2 d1 0 fresh1 fresh2 tt;
-      locals = record { at = λ x v none a e. here x v e; room = λ x v none e. (let (w, g, r) = here x v e in (w, g)) };
+      locals = new_holds D X.body2.locals X.body1.locals lasts.same_locals place j k2 k1 m2 m1 vs ws all hv fresh1 fresh2;
       says = lasts.begins k2 k1 d2 d1 m1 vs few;
     }
-      where
-        here : (x : ℕ) (v : Value) → local_at (open_frame m1 k1 (new_slots D X.body1.locals vs)) k1 x ≡ Some v → SomeRel (opened j k2 k1 place) v (local_at (open_frame m2 k2 (new_slots D X.body2.locals ws)) k2 x)
-        here x v e =
-            let (w, g, r) = slots_same j vs ws hv x v (sym (open_same m1 k1 (new_slots D X.body1.locals vs) x) ∙ e) in
-            (w, open_same m2 k2 (new_slots D X.body2.locals ws) x ∙ g, value_mono j (opened j k2 k1 place) (opened_up j k2 k1 place fresh1 fresh2) v w r)
 
     -- ---- another function returns
 
     module _ (V : Valids X) (Inv : State → Type 0) where
-      -- a frame of another function gives back values to a frame that waits
-      record Return : Type 1 where
-        pub n : ℕ
-        pub s2 : State
-        pub s1 : State
-        pub r : Related X pass V Inv n s2 s1
-        pub m2 : Memory
-        pub m1 : Memory
-        pub c2 : Control
-        pub c1 : Control
-        pub ds : List Control
-        pub cs2 : List Control
-        pub v : Value
-        pub w : Value
-        pub callers : s1.callers ≡ c1 ∷ ds
-        pub linked : Linked r.core.lent r.core.lent m2 m1
-        pub typed : MemTy X.source.shapes r.typed1.types m1
-        pub below : Below X pass r.core.lent c2.dest c1.dest c2.frame c1.frame cs2 ds m2 m1
-        pub older1 : c1.frame < s1.top.frame
-        pub older2 : c2.frame < s2.top.frame
-        pub same : Same r.core.lent v w
-
-      module _ (now : Return) (x : Next) where
+      module _ (now : Return X pass V Inv) (typed : MemTy X.source.shapes now.r.typed1.types now.m1) (x : Next) where
         open now use {n, s2, s1, r, m2, m1, c2, c1, ds, cs2, v, w, older1 as l1, older2 as l2}
 
         abbrev j : Renaming
@@ -196,7 +150,7 @@ module _ (X : Change) (W : Words) where
             let lok = ks.0 X.body1 (ap (slice_get X.source.bodies) wt.stand.function1 ∙ X.at1) in
             let bok = V.valid1.blank_ok G in
             let ts1 = X.body1.locals in
-            let q = near.near_start D ts1 ts1 f1 f2 j K low G bok lok V.needs f2 f1 m2 m1 nears onces (living_linked j f2 f1 p all m2 m1 now.linked wt.locals) now.typed in
+            let q = near.near_start D ts1 ts1 f1 f2 j K low G bok lok V.needs f2 f1 m2 m1 nears onces (living_linked j f2 f1 p all m2 m1 now.linked wt.locals) typed in
             let (m2', g1, l', lv) = near.store_near D ts1 ts1 f1 f2 j K low G bok lok V.needs f2 f1 m2 m1 nears onces m2 m1 m1' d1 d2 t v w q wt.dests at now.same e1 in
             let (old, eo, same) = store_split D m1 m1' d1 v e1 in
             let runs : Runs j c2 c1 m2' m1' = record { stand = wt.stand; locals = holds_linked j f2 f1 p m2' m1' l'; says = subst (λ m. W.runs c2 c1 m) same (lasts.gets d1 c2 c1 m1 v wt.says) } in
@@ -206,14 +160,14 @@ module _ (X : Change) (W : Words) where
 
       resumed : (n : ℕ) (s2 s1 : State) (r : Related X pass V Inv n s2 s1) (m2 m1 : Memory) (c2 c1 : Control) (gs ds cs2 : List Control) (v w : Value) (x : Next) → s1.callers ≡ c1 ∷ (gs ++ ds) → MemTy D r.typed1.types m1 → Linked r.core.lent r.core.lent m2 m1 → pass.waits r.core.lent s2.top.dest s1.top.dest c2 c1 gs m2 m1 → Below X pass r.core.lent c2.dest (lowest c1 gs).dest c2.frame (lowest c1 gs).frame cs2 ds m2 m1 → c1.frame < s1.top.frame → c2.frame < s2.top.frame → ((d : Dest) → s1.top.dest ≡ Some d → (t : Tree) × AddrTy D r.typed1.types d.addr t) → Same r.core.lent v w → return_to D s1 m1 s1.top.dest (c1 ∷ (gs ++ ds)) v ≡ Some x → GentleTo X r.typed1.types c1.frame m1 x → Goes X pass (return_to D s2 m2 s2.top.dest (c2 ∷ cs2) w) x
       resumed n s2 s1 r m2 m1 c2 c1 [] ds cs2 v w x q ty l (e, wt) be l1 l2 dt hv k ge =
-          goes_back (record { n = n; s2 = s2; s1 = s1; r = r; m2 = m2; m1 = m1; c2 = c2; c1 = c1; ds = ds; cs2 = cs2; v = v; w = w; callers = q; linked = l; typed = ty; below = be; older1 = l1; older2 = l2; same = hv }) x s2.top.dest s1.top.dest wt dt k ge
+          goes_back (record { n = n; s2 = s2; s1 = s1; r = r; m2 = m2; m1 = m1; c2 = c2; c1 = c1; ds = ds; cs2 = cs2; v = v; w = w; callers = q; linked = l; below = be; older1 = l1; older2 = l2; same = hv }) ty x s2.top.dest s1.top.dest wt dt k ge
       resumed n s2 s1 r m2 m1 c2 c1 (g ∷ gs) ds cs2 v w x q ty l (e, wt) be l1 l2 dt hv k ge = absurd (grind arith)
 
       pub frames : FrameLaws X pass V Inv
       frames = record {
         kept = kept_law;
-        once = λ x x' y e e'. (let (a, b) = place_some x y e in let (a', b') = place_some x' y e' in b ∙ sym b');
-        slots = λ j vs ws hv few x y e v k. (let (a, b) = place_some x y e in subst (λ y. SomeRel j v (slice_get (new_slots D X.body2.locals ws) y)) b (slots_same j vs ws hv.0 x v k));
+        once = home_once W.lent;
+        slots = λ j vs ws hv few x y e v k. subst (λ y. SomeRel j v (slice_get (new_slots D X.body2.locals ws) y)) (home_some W.lent x y e).1 (slots_same D X.body2.locals X.body1.locals lasts.same_locals j vs ws hv.0 x v k);
         begins = λ j k2 k1 d2 d1 m2 m1 vs ws hv few f1 f2 l. (0, (refl, begins j k2 k1 d2 d1 m2 m1 vs ws hv.0 few f1 f2));
         resumes = λ n s2 s1 r m2 m1 c2 c1 gs ds cs2 v w x q q2 p2 p1 l wt be l1 l2 lo dt hv k ge. resumed n s2 s1 r m2 m1 c2 c1 gs ds cs2 v w x q (subst (MemTy D r.typed1.types) (sym p1) (close_ty X.source V.valid1 r.typed1.types s1.memory s1.top.frame r.typed1.mem)) l wt be l1 l2 dt hv k ge;
       }

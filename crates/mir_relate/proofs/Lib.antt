@@ -32,5 +32,6 @@ pub mod Rules
 pub mod Replaced
 pub mod Rest
 pub mod Renumbered
+pub mod OneForOne
 pub mod EachLocal
 pub mod Moment

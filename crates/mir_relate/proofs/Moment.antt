@@ -20,6 +20,7 @@ use Rattle.mir_relate.proofs.Kept as kept
 use Rattle.mir_relate.proofs.Leaves.{some_val}
 use Rattle.mir_relate.proofs.Living.{Placed, living, living_at, living_low, living_near, living_once, living_linked, living_lent}
 use Rattle.mir_relate.proofs.Near as near
+use Rattle.mir_relate.proofs.OneForOne.{home_lent, home_none}
 use Rattle.mir_relate.proofs.Others.{read_at_whole}
 use Rattle.mir_relate.proofs.Own as own
 use Rattle.mir_relate.proofs.Single.{stand_moved}
@@ -89,10 +90,10 @@ module _ {X : Change} {W : Words} {V : Valids X} {Inv : State → Type 0} (now :
   itself x = living_at j f2 f1 pl all x refl
 
   pub lent_at : (x : ℕ) → W.lent x ≡ true → j f1 x ≡ Some (f2, x)
-  lent_at x e = runs.stand.roots x x (frames.place_lent X W x e)
+  lent_at x e = runs.stand.roots x x (home_lent W.lent x e)
 
   pub unlent_at : (x : ℕ) → W.lent x ≡ false → j f1 x ≡ None
-  unlent_at x e = runs.stand.none x (frames.place_none X W x e)
+  unlent_at x e = runs.stand.none x (home_none W.lent x e)
 
   abbrev pub Q : Between
   Q = near.Q X.source.shapes X.body1.locals X.body1.locals now.s1.top.frame now.s2.top.frame now.r.core.lent K low now.r.typed1.types bok lok V.needs now.s2.top.frame now.s1.top.frame now.s2.memory now.s1.memory nears onces

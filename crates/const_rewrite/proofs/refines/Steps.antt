@@ -13,7 +13,7 @@ use Rattle.mir_renaming.specs.Renaming.{Renaming}
 use Rattle.mir_renaming.proofs.Ghosts.{Flat}
 use Rattle.mir_renaming.proofs.Items.{step_parts}
 use Rattle.mir_renaming.proofs.Types.{TypeMap, AddrTy, HasTy, StmtTy, resolve_ty, eval_ty}
-use Rattle.mir_relate.specs.Alike.{GotMemory, Sides}
+use Rattle.mir_relate.specs.Alike.{GotMemory, Sides, Evals}
 use Rattle.mir_relate.specs.Frames.{Change, target, Pass, lowest, Below}
 use Rattle.mir_relate.specs.Pass.{GentleTo, Valids, RvalueMoves, StmtMoves, Laws, Answers, Related}
 use Rattle.mir_relate.specs.Simulation.{keep_on}
@@ -22,6 +22,7 @@ use Rattle.mir_relate.proofs.Enter.{goes_by}
 use Rattle.mir_relate.proofs.Kept as kept
 use Rattle.mir_relate.proofs.Leaves.{some_val}
 use Rattle.mir_relate.proofs.Mild.{gentle_on}
+use Rattle.mir_relate.proofs.OneForOne.{StepsAnswered, KeepsRuns, own_laws}
 use Rattle.mir_relate.proofs.Own as own
 use Rattle.mir_relate.proofs.Single.{step_is}
 use Rattle.const_flow.specs.Facts.{Facts, after_all}
@@ -38,13 +39,6 @@ use Rattle.mir_relate.proofs.Moment.{Moment}
 use Rattle.const_rewrite.proofs.refines.Where.{Folds, Known, words, lasting}
 use Rattle.const_rewrite.proofs.refines.Values.{Knows, folded_evals}
 use Rattle.const_rewrite.proofs.refines.Terms.{term_goes}
-
-dest_parts : (h : Here) (m : Memory) (p : Place) (d : Dest) → dest_of h m p ≡ Some d → (a : Addr) × (t : Tree) × (resolve h m p ≡ Some a) × (type_of h p ≡ Some t) × (record { addr = a; guard = guard_of h.shapes p.proj t } ≡ d)
-unfolding dest_of
-dest_parts h m p d e =
-    let (a, e1, k1) = bind_some e in
-    let (t, e2, k2) = bind_some k1 in
-    (a, t, e1, e2, some_val k2)
 
 module _ {X : Change} {xs : List Reached} {V : Valids X} {Inv : State → Type 0} (now : Moment X (words X xs) V Inv) (folds : Folds X xs) (no_drops : NoDrops X.body1) where
   open now use {lasts, n, s2, s1, r, runs}
@@ -95,18 +89,10 @@ module _ {X : Change} {xs : List Reached} {V : Valids X} {Inv : State → Type 0
     same_exec s as' e = kept.exec_as D ts ts f1 f2 j K (moment.low now) G bok (moment.lok now) (moment.Q now) (moment.keeps now) s s as' s2.memory s1.memory m1' (λ u. moment.payloads now) first.near e
 
     assign_execs : (p : Place) (x : TypedRvalue) → RvalueMoves S.source x → RefsOk D X.body1 x → Fits (assign p x) → exec S.source s1.memory (assign p x) ≡ Some m1' → GotMemory (moment.Q now) m1' (exec S.target s2.memory (assign p (folded_rvalue T fs x)))
-    unfolding exec
     assign_execs p x mo ok (t, pt, xt) e =
-        let (v, e1, k1) = bind_some e in
-        let (d, e2, k2) = bind_some k1 in
-        let (vt, mt) = eval_ty D G bok ts f1 (moment.lok now) s1.memory x t v first.near.typed xt e1 in
-        let (w, g1, h1, q1) = (folded_evals now fs x mo ok (t, xt)).evals s2.memory s1.memory v first e1 in
-        let (c, g2, h2) = kept.dest_as D ts ts f1 f2 j K (moment.low now) G bok (moment.lok now) (moment.Q now) (moment.keeps now) w.1 v.1 p p d (moment.place_self now p) q1.near e2 in
-        let (a, u, r1, r2, r3) = dest_parts S.source v.1 p d e2 in
-        let at : AddrTy D G d.addr t = subst (λ (d : Dest). AddrTy D G d.addr t) r3 (resolve_ty D G bok ts f1 (moment.lok now) v.1 p a t mt pt r1) in
-        let fair : (old : Value) → allows D d.guard old ≡ true → kept.Fair D ts ts f1 f2 j K (moment.low now) G bok (moment.lok now) d.addr t old = subst (λ (d : Dest). (old : Value) → allows D d.guard old ≡ true → kept.Fair D ts ts f1 f2 j K (moment.low now) G bok (moment.lok now) d.addr t old) r3 (λ old yes. kept.dest_fair D ts ts f1 f2 j K (moment.low now) G bok (moment.lok now) (moment.Q now) (moment.keeps now) v.1 p a t old r1 (subst (λ u. allows D (guard_of D p.proj u) old ≡ true) (some_val (sym r2 ∙ pt)) yes)) in
-        let (m2', g3, q3) = kept.store_as D ts ts f1 f2 j K (moment.low now) G bok (moment.lok now) (moment.Q now) (moment.keeps now) w.1 v.1 m1' d c t v.0 w.0 fair h2 at vt h1 q1.near k2 in
-        (m2', some_bind _ g1 (some_bind _ g2 g3), q3)
+        let E = folded_evals now fs x mo ok (t, xt) in
+        let near : Evals S (Knows now fs) (moment.Q now) x (folded_rvalue T fs x) = record { evals = λ m2 m1 r q ev. (let (w, g, h, k) = E.evals m2 m1 r q ev in (w, g, h, k.near)) } in
+        kept.assign_as D ts ts f1 f2 j K (moment.low now) G bok (moment.lok now) (moment.Q now) (moment.keeps now) p p x (folded_rvalue T fs x) (Knows now fs) (moment.place_self now p) near (t, pt, xt) s2.memory s1.memory m1' first.near.typed first e
 
     stmt_execs : (s : TypedStmt) → StmtMoves S.source s → StmtRefsOk D X.body1 s → Fits s → exec S.source s1.memory s ≡ Some m1' → GotMemory (moment.Q now) m1' (exec S.target s2.memory (folded_stmt T fs s))
     stmt_execs (assign p x) mo ok ty e = assign_execs p x mo ok ty e
@@ -165,7 +151,7 @@ module _ {X : Change} {xs : List Reached} {V : Valids X} {Inv : State → Type 0
         goes_answer X P n s2 x (goes_by X P _ _ x (target_is ∙ ap (perform (target X) S.target s2 k2.term) none2)
         (term_goes now folds k ek none k.term x refl (no_drops.none s1.top.block k ek) (V.terms f1 g X.body1 s1.top.block k eb ek) (V.valid1.terms f1 g X.body1 s1.top.block k eb ek) (V.calls g X.body1 s1.top.block k eb ek) e fl ge))
 
-  pub one_step : (x : Next) → step X.source s1 ≡ Some x → Flat x → GentleTo X G f1 s1.memory x → Answers X P n s2 x
+  pub one_step : StepsAnswered X P n s2 s1 G
   one_step x e fl ge =
       let (bo, k, ebo, ek, q) = step_parts X.source s1 x e in
       let sb : bo ≡ X.body1 = some_val (sym ebo ∙ moment.eb now) in
@@ -179,11 +165,5 @@ module _ (X : Change) (xs : List Reached) (folds : Folds X xs) (no_drops : NoDro
   abbrev pass : Pass
   pass = frames.pass X (words X xs)
 
-  steps_law : (n : ℕ) (s2 s1 : State) (r : Related X pass V Inv n s2 s1) (gs ds : List Control) (x : Next) → s1.callers ≡ gs ++ ds → pass.own n r.core.lent s2.top s1.top gs s2.memory s1.memory → Below X pass r.core.lent s2.top.dest (lowest s1.top gs).dest s2.top.frame (lowest s1.top gs).frame s2.callers ds s2.memory s1.memory → step X.source s1 ≡ Some x → Flat x → GentleTo X r.typed1.types s1.top.frame s1.memory x → Answers X pass n s2 x
-  steps_law n s2 s1 r [] ds x q (e, runs) be k fl ge =
-      let below = subst (λ cs. Below X pass r.core.lent s2.top.dest s1.top.dest s2.top.frame s1.top.frame s2.callers cs s2.memory s1.memory) (sym q) be in
-      one_step {X = X} {xs = xs} {V = V} {Inv = Inv} (record { lasts = lasting X xs folds; n = n; s2 = s2; s1 = s1; r = r; runs = runs; below = below }) folds no_drops x k fl ge
-  steps_law n s2 s1 r (g ∷ gs) ds x q (e, runs) be k fl ge = absurd (grind arith)
-
-  pub laws : ((s s' : State) → Inv s → step X.source s ≡ Some (on s') → Inv s') → ((s : State) (x : Next) → Inv s → step X.source s ≡ Some x → Flat x) → Laws X pass V Inv
-  laws inv_kept flat = record { inv_kept = inv_kept; flat = flat; frames = frames.frames X (words X xs) (lasting X xs folds) V Inv; steps = λ n s2 s1 r gs ds x q lo o be k fl ge. steps_law n s2 s1 r gs ds x q o be k fl ge }
+  pub laws : KeepsRuns X Inv → Laws X pass V Inv
+  laws = own_laws X pass V Inv (frames.frames X (words X xs) (lasting X xs folds) V Inv) (λ n j c2 c1 gs m2 m1 o. o.0) (λ n s2 s1 r o be. one_step {X = X} {xs = xs} {V = V} {Inv = Inv} (record { lasts = lasting X xs folds; n = n; s2 = s2; s1 = s1; r = r; runs = o.1; below = be }) folds no_drops)

@@ -27,6 +27,7 @@ use Rattle.mir_relate.proofs.Itself as itself
 use Rattle.mir_relate.proofs.Kept as kept
 use Rattle.mir_relate.proofs.Leaves.{some_val}
 use Rattle.mir_relate.proofs.Mild.{gentle_on}
+use Rattle.mir_relate.proofs.OneForOne.{StepsAnswered, KeepsRuns, own_laws}
 use Rattle.mir_relate.proofs.Own as own
 use Rattle.mir_relate.proofs.Single.{step_is}
 use Rattle.const_flow.specs.Facts.{Facts, after_all}
@@ -217,7 +218,7 @@ module _ {X : Change} {xs : List Reached} {V : Valids X} {Inv : State → Type 0
     unfolding perform
     end_step x none e fl ge = goes_answer X P n s2 x (goes_by X P _ _ x (target_is ∙ ap (perform (target X) S.target s2 other.term) none) (end_goes x none e fl ge))
 
-  pub one_step : (x : Next) → step X.source s1 ≡ Some x → Flat x → GentleTo X G f1 s1.memory x → Answers X P n s2 x
+  pub one_step : StepsAnswered X P n s2 s1 G
   one_step x e fl ge =
       let (bo, k, ebo, ek, q) = step_parts X.source s1 x e in
       let sb : bo ≡ X.body1 = some_val (sym ebo ∙ moment.eb now) in
@@ -231,11 +232,5 @@ module _ (X : Change) (xs : List Reached) (threads : Threads X xs) (no_drops : N
   abbrev pub pass : Pass
   pass = frames.pass X (words X xs)
 
-  steps_law : (n : ℕ) (s2 s1 : State) (r : Related X pass V Inv n s2 s1) (gs ds : List Control) (x : Next) → s1.callers ≡ gs ++ ds → pass.own n r.core.lent s2.top s1.top gs s2.memory s1.memory → Below X pass r.core.lent s2.top.dest (lowest s1.top gs).dest s2.top.frame (lowest s1.top gs).frame s2.callers ds s2.memory s1.memory → step X.source s1 ≡ Some x → Flat x → GentleTo X r.typed1.types s1.top.frame s1.memory x → Answers X pass n s2 x
-  steps_law n s2 s1 r [] ds x q (e, runs) be k fl ge =
-      let below = subst (λ cs. Below X pass r.core.lent s2.top.dest s1.top.dest s2.top.frame s1.top.frame s2.callers cs s2.memory s1.memory) (sym q) be in
-      one_step {X = X} {xs = xs} {V = V} {Inv = Inv} (record { lasts = lasting X xs threads; n = n; s2 = s2; s1 = s1; r = r; runs = runs; below = below }) threads no_drops x k fl ge
-  steps_law n s2 s1 r (g ∷ gs) ds x q (e, runs) be k fl ge = absurd (grind arith)
-
-  pub laws : ((s s' : State) → Inv s → step X.source s ≡ Some (on s') → Inv s') → ((s : State) (x : Next) → Inv s → step X.source s ≡ Some x → Flat x) → Laws X pass V Inv
-  laws inv_kept flat = record { inv_kept = inv_kept; flat = flat; frames = frames.frames X (words X xs) (lasting X xs threads) V Inv; steps = λ n s2 s1 r gs ds x q lo o be k fl ge. steps_law n s2 s1 r gs ds x q o be k fl ge }
+  pub laws : KeepsRuns X Inv → Laws X pass V Inv
+  laws = own_laws X pass V Inv (frames.frames X (words X xs) (lasting X xs threads) V Inv) (λ n j c2 c1 gs m2 m1 o. o.0) (λ n s2 s1 r o be. one_step {X = X} {xs = xs} {V = V} {Inv = Inv} (record { lasts = lasting X xs threads; n = n; s2 = s2; s1 = s1; r = r; runs = o.1; below = be }) threads no_drops)
