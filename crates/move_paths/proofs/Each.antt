@@ -1,5 +1,6 @@
 -- Rows in which something is done to the bit of each unit.
-use Rattle.std.proofs.Common.{◌≡◌, refl, sym, ap, ap₂, ◌∙◌, subst, fun_ext, ℕ, ◌<◌, Bool, true, false, List, [], length, get_or, set, Some, slice_get, arith}
+use Rattle.std.proofs.Common.{◌≡◌, refl, sym, ap, ap₂, ◌∙◌, subst, ℕ, ◌<◌, Bool, true, false, List, [], length, get_or, set, Some, slice_get, arith}
+use Rattle.std.proofs.Math.Path.{fun_ext}
 use Rattle.std.proofs.lemmas.List.{length-set, get_or-set_same, set-set, set-get_or, ext_get_or}
 use Rattle.std.proofs.lemmas.Option.{slice_get_within, slice_get-get_or, get_or_from_slice_get}
 use Rattle.std.proofs.lemmas.Simd.{length-zip2, get_or-zip2}
@@ -66,3 +67,7 @@ does_none us r rows e = sym (ap (set rows r) (each_none us (row_at rows r) e) �
 
 pub does_as : (f g : Doing) (us : List Place) (r : ℕ) (rows rows2 : List (List Bool)) → ((u : Place) (b : Bool) → f u b ≡ g u b) → Does f us r rows rows2 → Does g us r rows rows2
 does_as f g us r rows rows2 h d = d ∙ ap (set rows r) (each_same f g us (row_at rows r) h)
+
+-- where nothing is done, nothing changes
+pub does_nothing : (f : Doing) (us : List Place) (r : ℕ) (rows : List (List Bool)) → length (row_at rows r) ≡ length us → ((u : Place) (b : Bool) → b ≡ f u b) → Does f us r rows rows
+does_nothing f us r rows e h = does_as (λ u b. b) f us r rows rows h (does_none us r rows e)

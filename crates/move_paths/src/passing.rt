@@ -22,10 +22,10 @@ pub(crate) struct Passing<'a> {
 
 impl Passing<'_> {
     /// A unit that is moved is no longer initialised.
-    fn pass_operand(self, operand: &Operand, rows: &mut BitRows, row: u32)
+    fn pass_operand(&self, operand: &Operand, rows: &mut BitRows, row: u32)
         requires within { row < length rows.old }
-        requires bits { length (row_at rows.old row) ≡ length self.units.now.places }
-        ensures { rows.new ≡ set rows.old row (each_unit (λ u before. if moved_by_operand operand.now u then not self.status else before) self.units.now.places (row_at rows.old row)) }
+        requires bits { length (row_at rows.old row) ≡ length self.now.units.now.places }
+        ensures { rows.new ≡ set rows.old row (each_unit (λ u before. if moved_by_operand operand.now u then not self.now.status else before) self.now.units.now.places (row_at rows.old row)) }
     {
         if let Operand::Move(place) = operand {
             let path = place.proj.as_slice();
@@ -33,42 +33,44 @@ impl Passing<'_> {
         }
     }
 
-    fn pass_operands(self, operands: &[Operand], rows: &mut BitRows, row: u32)
+    fn pass_operands(&self, operands: &[Operand], rows: &mut BitRows, row: u32)
         requires within { row < length rows.old }
-        requires bits { length (row_at rows.old row) ≡ length self.units.now.places }
-        ensures { rows.new ≡ set rows.old row (each_unit (λ u before. if moved_by operands.now u then not self.status else before) self.units.now.places (row_at rows.old row)) }
+        requires bits { length (row_at rows.old row) ≡ length self.now.units.now.places }
+        ensures { rows.new ≡ set rows.old row (each_unit (λ u before. if moved_by operands.now u then not self.now.status else before) self.now.units.now.places (row_at rows.old row)) }
     {
         for operand in operands {
             self.pass_operand(operand, rows, row);
         }
     }
 
-    fn pass_both(self, a: &Operand, b: &Operand, rows: &mut BitRows, row: u32)
+    fn pass_both(&self, a: &Operand, b: &Operand, rows: &mut BitRows, row: u32)
         requires within { row < length rows.old }
-        requires bits { length (row_at rows.old row) ≡ length self.units.now.places }
-        ensures { rows.new ≡ set rows.old row (each_unit (λ u before. if moved_by (a.now ∷ b.now ∷ []) u then not self.status else before) self.units.now.places (row_at rows.old row)) }
+        requires bits { length (row_at rows.old row) ≡ length self.now.units.now.places }
+        ensures { rows.new ≡ set rows.old row (each_unit (λ u before. if moved_by (a.now ∷ b.now ∷ []) u then not self.now.status else before) self.now.units.now.places (row_at rows.old row)) }
     {
         self.pass_operand(a, rows, row);
         self.pass_operand(b, rows, row);
     }
 
-    fn pass_rvalue(self, rvalue: &Rvalue, rows: &mut BitRows, row: u32)
+    fn pass_rvalue(&self, rvalue: &Rvalue, rows: &mut BitRows, row: u32)
         requires within { row < length rows.old }
-        requires bits { length (row_at rows.old row) ≡ length self.units.now.places }
-        ensures { (trees : List Tree) → rows.new ≡ set rows.old row (each_unit (λ u before. if moved_by (rvalue_operands (rvalue_of trees rvalue.now)) u then not self.status else before) self.units.now.places (row_at rows.old row)) }
+        requires bits { length (row_at rows.old row) ≡ length self.now.units.now.places }
+        ensures { (trees : List Tree) → rows.new ≡ set rows.old row (each_unit (λ u before. if moved_by (rvalue_operands (rvalue_of trees rvalue.now)) u then not self.now.status else before) self.now.units.now.places (row_at rows.old row)) }
     {
         match rvalue {
             Rvalue::Use(a) | Rvalue::Unary(_, a) | Rvalue::Cast(a, _) => self.pass_operand(a, rows, row),
             Rvalue::Binary(_, a, b) | Rvalue::Overflow(_, a, b) => self.pass_both(a, b, rows, row),
-            Rvalue::Ref(_) | Rvalue::RefMut(_) | Rvalue::Discriminant(_) => {}
+            Rvalue::Ref(_) => {}
+            Rvalue::RefMut(_) => {}
+            Rvalue::Discriminant(_) => {}
             Rvalue::Tuple(parts) | Rvalue::Build(_, _, parts) => self.pass_operands(parts.as_slice(), rows, row),
         }
     }
 
-    fn pass_stmt(self, stmt: &Stmt, rows: &mut BitRows, row: u32)
+    fn pass_stmt(&self, stmt: &Stmt, rows: &mut BitRows, row: u32)
         requires within { row < length rows.old }
-        requires bits { length (row_at rows.old row) ≡ length self.units.now.places }
-        ensures { (trees : List Tree) → rows.new ≡ set rows.old row (each_unit (λ u. passed self.status (effect u (stmt_of trees stmt.now))) self.units.now.places (row_at rows.old row)) }
+        requires bits { length (row_at rows.old row) ≡ length self.now.units.now.places }
+        ensures { (trees : List Tree) → rows.new ≡ set rows.old row (each_unit (λ u. passed self.now.status (effect u (stmt_of trees stmt.now))) self.now.units.now.places (row_at rows.old row)) }
     {
         match stmt {
             Stmt::Assign(place, rvalue) => {
@@ -83,20 +85,20 @@ impl Passing<'_> {
         }
     }
 
-    fn pass_stmts(self, stmts: &[Stmt], rows: &mut BitRows, row: u32)
+    fn pass_stmts(&self, stmts: &[Stmt], rows: &mut BitRows, row: u32)
         requires within { row < length rows.old }
-        requires bits { length (row_at rows.old row) ≡ length self.units.now.places }
-        ensures { (trees : List Tree) → rows.new ≡ set rows.old row (each_unit (passed_stmts self.status (map (stmt_of trees) stmts.now)) self.units.now.places (row_at rows.old row)) }
+        requires bits { length (row_at rows.old row) ≡ length self.now.units.now.places }
+        ensures { (trees : List Tree) → rows.new ≡ set rows.old row (each_unit (passed_stmts self.now.status (map (stmt_of trees) stmts.now)) self.now.units.now.places (row_at rows.old row)) }
     {
         for stmt in stmts {
             self.pass_stmt(stmt, rows, row);
         }
     }
 
-    fn pass_term(self, term: &Term, rows: &mut BitRows, row: u32)
+    fn pass_term(&self, term: &Term, rows: &mut BitRows, row: u32)
         requires within { row < length rows.old }
-        requires bits { length (row_at rows.old row) ≡ length self.units.now.places }
-        ensures { rows.new ≡ set rows.old row (each_unit (λ u. passed self.status (term_effect u term.now)) self.units.now.places (row_at rows.old row)) }
+        requires bits { length (row_at rows.old row) ≡ length self.now.units.now.places }
+        ensures { rows.new ≡ set rows.old row (each_unit (λ u. passed self.now.status (term_effect u term.now)) self.now.units.now.places (row_at rows.old row)) }
     {
         match term {
             Term::Switch(operand, _, _) => self.pass_operand(operand, rows, row),
@@ -113,23 +115,25 @@ impl Passing<'_> {
                 self.pass_operand(operand, rows, row);
                 self.pass_operands(values.as_slice(), rows, row);
             }
-            Term::Goto(_) | Term::Return | Term::Unreachable => {}
+            Term::Goto(_) => {}
+            Term::Return => {}
+            Term::Unreachable => {}
         }
     }
 
-    fn pass_block(self, block: &Block, rows: &mut BitRows, row: u32)
+    fn pass_block(&self, block: &Block, rows: &mut BitRows, row: u32)
         requires within { row < length rows.old }
-        requires bits { length (row_at rows.old row) ≡ length self.units.now.places }
-        ensures { (trees : List Tree) → rows.new ≡ set rows.old row (each_unit (passed_block self.status (block_of trees block.now)) self.units.now.places (row_at rows.old row)) }
+        requires bits { length (row_at rows.old row) ≡ length self.now.units.now.places }
+        ensures { (trees : List Tree) → rows.new ≡ set rows.old row (each_unit (passed_block self.now.status (block_of trees block.now)) self.now.units.now.places (row_at rows.old row)) }
     {
         self.pass_stmts(block.stmts.as_slice(), rows, row);
         self.pass_term(&block.term, rows, row);
     }
 
     /// Of each block the units that have the status at its end, though they hadn't at its start.
-    pub fn ends(self, alloc: Global, body: &Body) -> Result<BitRows, OutOfMemory>
+    pub fn ends(&self, alloc: Global, body: &Body) -> Result<BitRows, OutOfMemory>
         requires { length body.now.blocks < 2 ^ 30 }
-        ensures { IfOk result (λ rows. (trees : List Tree) → IsRows (length body.now.blocks) (λ i. end_row self.status self.units.now.places (block_at (body_of trees body.now).blocks i)) rows) }
+        ensures { IfOk result (λ rows. (trees : List Tree) → IsRows (length body.now.blocks) (λ i. end_row self.now.status self.now.units.now.places (block_at (body_of trees body.now).blocks i)) rows) }
     {
         let blocks = body.blocks.as_slice();
         let mut rows = BitRows::new(alloc, blocks.len() as u32, self.units.len())?;
