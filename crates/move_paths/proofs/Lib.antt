@@ -1,3 +1,5 @@
 pub mod Each
 pub mod Writing
 pub mod Moves
+pub mod Onward
+pub mod Fill

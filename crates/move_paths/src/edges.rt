@@ -3,6 +3,7 @@ ghost use Rattle.std.specs.Prelude.{◌≡◌, ◌<◌, ◌^◌, ◌++◌, List,
 ghost use Rattle.mir_syntax.specs.Tree.{Tree};
 ghost use Rattle.mir_syntax.specs.Crate.{block_of, body_of};
 ghost use Rattle.mir_cfg.specs.Paths.{terms_of, Closed, Reached};
+ghost use Rattle.mir_syntax.specs.Parts.{targets};
 ghost use Rattle.bit_rows.specs.Rows.{flag};
 ghost use Rattle.move_paths.specs.Rows.{edge_on, IsOnward};
 
@@ -25,6 +26,19 @@ fn add_edges(edges: &mut List<Edge>, block: u32, targets: &[u32]) -> Result<(), 
     Ok(())
 }
 
+/// Adds the edges that leave a block.
+fn add_block(
+    alloc: Global,
+    edges: &mut List<Edge>,
+    at: u32,
+    block: &Block,
+) -> Result<(), OutOfMemory>
+    ensures { OnOk result (edges.new ≡ edges.old ++ map (edge_on at) (targets block.now.term)) }
+{
+    let targets = succs(alloc, block)?;
+    add_edges(edges, at, targets.as_slice())
+}
+
 /// The edges that leave the blocks that are marked in the one row of `reached`.
 fn edges_of(
     alloc: Global,
@@ -38,8 +52,7 @@ fn edges_of(
     let mut edges = List::new(alloc);
     for (at, block) in blocks.iter().enumerate() {
         if reached.has(0, at as u32) {
-            let targets = succs(alloc, block)?;
-            add_edges(&mut edges, at as u32, targets.as_slice())?;
+            add_block(alloc, &mut edges, at as u32, block)?;
         }
     }
     Ok(edges)

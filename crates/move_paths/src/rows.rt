@@ -10,8 +10,8 @@ ghost use Rattle.mir_syntax.specs.Ids.{IdsInTable, BodyInTable};
 ghost use Rattle.mir_cfg.specs.Paths.{terms_of, Closed, Reached};
 ghost use Rattle.liveness.specs.Rows.{block_at, IsRows};
 ghost use Rattle.move_paths.specs.Effects.{units_of_body};
-ghost use Rattle.move_paths.specs.Inits.{Comes, MaybeAt, SurelyAt};
-ghost use Rattle.move_paths.specs.Rows.{end_row, first_row, IsOnward};
+ghost use Rattle.move_paths.specs.Inits.{is_argument, Comes, MaybeAt, SurelyAt};
+ghost use Rattle.move_paths.specs.Rows.{has, end_row, first_row, IsOnward};
 
 use crate::edges::onward_edges;
 use crate::flow::StatusFlow;
@@ -30,6 +30,18 @@ pub struct InitRows {
     pub sure: BitRows,
 }
 
+fn is_argument(args: u32, unit: &BodyPlace) -> bool
+    ensures { result ≡ is_argument args unit.now }
+{
+    unit.local > 0 && unit.local <= args
+}
+
+fn has(status: bool, now: bool) -> bool
+    ensures { result ≡ has status now }
+{
+    if status { now } else { !now }
+}
+
 /// One row, of the units that have a status where the body begins: those of arguments are initialised, and the others aren't.
 fn first_row(
     alloc: Global,
@@ -41,8 +53,7 @@ fn first_row(
 {
     let mut row = BitRows::new(alloc, 1, units.len())?;
     for (at, unit) in units.places.as_slice().iter().enumerate() {
-        let is_argument = unit.local != 0 && unit.local <= args;
-        row.write(0, at as u32, is_argument == status);
+        row.write(0, at as u32, has(status, is_argument(args, unit)));
     }
     Ok(row)
 }
