@@ -3,3 +3,5 @@ pub mod Writing
 pub mod Moves
 pub mod Onward
 pub mod Fill
+pub mod Gathering
+pub mod Definitions
