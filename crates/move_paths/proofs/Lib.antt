@@ -5,3 +5,7 @@ pub mod Onward
 pub mod Fill
 pub mod Gathering
 pub mod Definitions
+pub mod Listing
+pub mod Statuses
+pub mod Solved
+pub mod Whole
