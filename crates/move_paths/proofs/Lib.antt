@@ -9,3 +9,4 @@ pub mod Listing
 pub mod Statuses
 pub mod Solved
 pub mod Whole
+pub mod Facts

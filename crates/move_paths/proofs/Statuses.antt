@@ -1,5 +1,5 @@
 -- What a block does to a unit's status: it keeps it, or makes it one.
-use Rattle.std.proofs.Common.{◌≡◌, ◌⊎◌, inl, inr, refl, sym, ap, ap₂, ◌∙◌, Bool, true, false, not, ◌&&◌, ◌||◌, List, [], ◌∷◌, Option, Some, None, arith}
+use Rattle.std.proofs.Common.{◌≡◌, ◌⊎◌, inl, inr, refl, sym, ap, ap₂, ◌∙◌, Bool, true, false, not, ◌&&◌, ◌||◌, List, [], ◌∷◌, Option, Some, None, IsTrue, ◌↔◌, arith}
 use Rattle.mir_syntax.specs.declared.body.Place.{Place}
 use Rattle.mir_syntax.specs.Crate.{TypedStmt, TypedBlock}
 use Rattle.move_paths.specs.Effects.{effect, term_effect}
@@ -70,3 +70,8 @@ has_stmts s u (t ∷ ss) was = has_stmts s u ss (after_effect (effect u t) was) 
 
 pub has_block : (s : Bool) (u : Place) (k : TypedBlock) (was : Bool) → has s (after_block u k was) ≡ passed_block s k u (has s was)
 has_block s u k was = has_effect s (term_effect u k.term) (after_stmts u k.stmts was) ∙ ap (passed s (term_effect u k.term)) (has_stmts s u k.stmts was)
+
+-- a bit that is the other of one that says something
+pub other_bit : (a b : Bool) (C : Type 0) → a ≡ not b → (IsTrue b ↔ C) → IsTrue a ↔ (C → ⊥)
+other_bit a true C e (h, k) = ((λ t q. absurd (let z : true ≡ false = sym t ∙ e in grind arith)), (λ n. absurd (n (h refl))))
+other_bit a false C e (h, k) = ((λ t q. absurd (let z : false ≡ true = k q in grind arith)), (λ n. e))
