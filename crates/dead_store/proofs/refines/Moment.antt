@@ -21,6 +21,7 @@ use Rattle.mir_relate.proofs.Itself as itself
 use Rattle.mir_relate.proofs.Kept as kept
 use Rattle.mir_relate.proofs.Living.{Holds, Placed, living, living_at, living_low, living_near, living_once, living_linked, living_lent, holds_near}
 use Rattle.mir_relate.proofs.Near as near
+use Rattle.mir_relate.proofs.OneForOne.{home_lent, home_none}
 use Rattle.mir_relate.proofs.Own as own
 use Rattle.mir_relate.proofs.Running as running
 use Rattle.mir_relate.proofs.Single.{stand_moved}
@@ -128,10 +129,10 @@ module _ {X : Change} {once : X.body2 ≡ pruned_once X.source.shapes X.body1} {
   seen = record { K = K; Q = Q; S = S; H1 = H1; H2 = H2; lent = lent; Alive = Alive; Left = Left }
 
   pub lent_at : (x : ℕ) → lent x ≡ true → j f1 x ≡ Some (f2, x)
-  lent_at x e = st.roots x x (frames.place_lent X once x e)
+  lent_at x e = st.roots x x (home_lent (borrowed X.source.shapes X.body1) x e)
 
   pub unlent_at : (x : ℕ) → lent x ≡ false → j f1 x ≡ None
-  unlent_at x e = st.none x (frames.place_none X once x e)
+  unlent_at x e = st.none x (home_none (borrowed X.source.shapes X.body1) x e)
 
   pub at : (x : ℕ) → Alive x → K f1 x ≡ Some (f2, x)
   at x (inl e) = low f1 x _ (lent_at x e)

@@ -33,7 +33,7 @@ use Rattle.mir_syntax.proofs.Members.{has_first, has_none}
 use Rattle.liveness.specs.Bits.{stands_has, has_stands}
 use Rattle.liveness.proofs.Paths.{live_stmt, live_next}
 use Rattle.dead_store.specs.Pruned.{IsRead, IsUseless, IsUseful, pruned_once}
-use Rattle.dead_store.proofs.refines.Lent.{lends}
+use Rattle.escape_info.proofs.Lends.{lends}
 use Rattle.dead_store.proofs.refines.Reads.{ok_rvalue, only_one, whole_is, is_nil_or, written_deref}
 use Rattle.dead_store.proofs.refines.Frames.{more, more_new, more_old, Lives}
 use Rattle.dead_store.proofs.refines.Frames as frames
