@@ -1,11 +1,14 @@
 #!/usr/bin/env python3
-"""Times `mirpipe check` and `mirpipe seq` on texts of many sizes, and `mirpipe run` for many steps. Run by hand: bench/run.py [PROGRAM [MEGABYTES]].
+"""Times `mirpipe check` and `mirpipe seq` on texts of many sizes, `mirpipe run` for many steps, and `mirpipe dump` of bodies that are wide in blocks and
+places. Run by hand: bench/run.py [PROGRAM [MEGABYTES]].
 
 The inputs are made here: one function whose blocks are all empty gotos (each skipped), or are all joined to one; many small functions; and
 functions of one long block. The last two are made as long as so many megabytes (60 where none is said), and a tenth of it. It prints a line for
 each run: the command, the input's name and its bytes, the seconds, bytes per second, and the greatest memory in kilobytes (never less than
 what this script itself had when it began the run). Runs are of a loop and of a loop with a call, for a tenth of the steps and for all million, which
-ends in the same memory.
+ends in the same memory. Dumps are of the stages `folded`, for a chain of blocks and a ladder of loops that each set one of 1,000 places (of which
+1,000,000 divided by the number of blocks are tracked), and `threaded`, for diamonds one behind the other: so many that a body just has room for all
+copies, and half as many again.
 """
 import os
 import subprocess
@@ -96,6 +99,40 @@ def loops():
     yield "calls", text.replace(f"        {call}\n        _2 = Lt(copy _0, copy _1);\n        switchInt(move _2) -> [0: bb3, otherwise: bb1];\n", f"        {call}\n", 1)
 
 
+def places(count, blocks, is_ladder):
+    """A function whose blocks each set one of so many places. Each goes on or, by its argument, to the last block or the one before it."""
+    text = ["fn f(_1: u8) -> u8 {", "    let mut _0: u8;"] + [f"    let mut _{place + 2}: u8;" for place in range(count)]
+    for number in range(blocks - 1):
+        other = max(1, number - 1) if is_ladder else blocks - 1
+        text += [f"    bb{number}: {{", f"        _{number % count + 2} = const {number % 256}_u8;"]
+        text += [f"        switchInt(copy _1) -> [0: bb{other}, otherwise: bb{number + 1}];", "    }"]
+    return "\n".join(text + [f"    bb{blocks - 1}: {{", "        _0 = copy _2;", "        return;", "    }", "}", ""])
+
+
+def diamonds(count):
+    """A function of so many diamonds, in each of which both ways tell what is asked at their end."""
+    text = ["fn f(_1: bool) -> u8 {", "    let mut _0: u8;", "    let mut _2: bool;"]
+    text += ["    bb0: {", "        switchInt(copy _1) -> [0: bb1, otherwise: bb2];", "    }"]
+    for number in range(count):
+        first = 3 * number + 1
+        for block, value in ((first, "true"), (first + 1, "false")):
+            text += [f"    bb{block}: {{", f"        _2 = const {value};", f"        goto -> bb{first + 2};", "    }"]
+        text += [f"    bb{first + 2}: {{", f"        switchInt(copy _2) -> [0: bb{first + 3}, otherwise: bb{first + 4}];", "    }"]
+    last = 3 * count + 1
+    for block in (last, last + 1):
+        text += [f"    bb{block}: {{", f"        _0 = const {block - last}_u8;", "        return;", "    }"]
+    return "\n".join(text + ["}", ""])
+
+
+def dumps():
+    """Texts with a function `f`, by the stage at which it is dumped and their names."""
+    for blocks in (1_000, 10_000):
+        yield "folded", f"chain {blocks}", places(1_000, blocks, False)
+        yield "folded", f"ladder {blocks}", places(1_000, blocks, True)
+    for count in (1_999, 3_000):
+        yield "threaded", f"diamonds {count}", diamonds(count)
+
+
 def run(program, words, text):
     """The seconds and the greatest memory of the program with these words on a text."""
     with tempfile.TemporaryFile() as stdin:
@@ -121,6 +158,9 @@ def main():
         for steps in (100_000, 1_000_000):
             seconds, memory = run(program, ["run", "count", str(2**64 - 1), "--answers", "-", "--steps", str(steps)], text)
             print(f"run {name}: {steps} steps, {seconds:.3f} s, {steps / seconds:.0f} steps/s, {memory} KB")
+    for stage, name, text in dumps():
+        seconds, memory = run(program, ["dump", stage, "f"], text)
+        print(f"dump {stage} {name}: {len(text)} bytes, {seconds:.3f} s, {memory} KB")
 
 
 if __name__ == "__main__":

@@ -1,4 +1,4 @@
-mod Sums
+pub mod Sums
 mod Once
 mod Reached
 mod Falls

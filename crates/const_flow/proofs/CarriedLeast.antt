@@ -2,21 +2,12 @@
 use Rattle.std.proofs.Common.{◌≡◌, refl, sym, ap, ◌∙◌, subst, ℕ, suc, zero, ◌+◌, ◌<◌, List, [], ◌∷◌, map, Some, slice_get, arith}
 use Rattle.std.proofs.lemmas.List.{length-map}
 use Rattle.std.proofs.lemmas.Option.{slice_get_within}
+use Rattle.mir_syntax.proofs.Lists.{map_back, map_there}
 use Rattle.flow_engine.specs.declared.edges.Edge.{Edge}
 use Rattle.flow_engine.specs.Flow.{Arrow, Solves, AllFacts, Least, Lawful, starts_to, arrows_at, problem}
 use Rattle.flow_engine.proofs.Least.{least_long, least_start, least_edge}
 use Rattle.flow_engine.proofs.Lists.{some_one, length-starts, start_at, arrow_is, arrow_to}
 use Rattle.const_flow.specs.Carried.{IsNaming, BelowAs, joined_as, started_as, sent_as, rank_as, carried_lawful}
-
-get_mapped : {A B : Type 0} (f : A → B) (xs : List A) (b : ℕ) (y : B) → slice_get (map f xs) b ≡ Some y → (x : A) × (slice_get xs b ≡ Some x) × (f x ≡ y)
-get_mapped f [] b y e = absurd (grind arith)
-get_mapped f (x ∷ xs) zero y e = (x, refl, some_one e)
-get_mapped f (x ∷ xs) (suc b) y e = get_mapped f xs b y e
-
-mapped_get : {A B : Type 0} (f : A → B) (xs : List A) (b : ℕ) (x : A) → slice_get xs b ≡ Some x → slice_get (map f xs) b ≡ Some (f x)
-mapped_get f [] b x e = absurd (grind arith)
-mapped_get f (y ∷ xs) zero x e = ap (λ z. Some (f z)) (some_one e)
-mapped_get f (y ∷ xs) (suc b) x e = mapped_get f xs b x e
 
 pub start_get : {A : Type 0} (start : ℕ → A) (k n b : ℕ) → b < n → slice_get (starts_to start k n) b ≡ Some (start (k + b))
 start_get start k zero b l = absurd (omega arith)
@@ -33,12 +24,12 @@ module _ {A B : Type 0} (OkA : A → Type 0) (OkB : B → Type 0) (read : A → 
   -- a solution by the other names
   module _ (ws : List B) (ok : AllFacts OkB ws) (s : Solves Below (problem join start flow n es) ws) where
     named_ok : AllFacts OkA (map written ws)
-    named_ok b x g = let w = get_mapped written ws b x g in subst OkA w.2 (naming.written_ok w.0 (ok b w.0 w.1))
+    named_ok b x g = let w = map_back written ws b x g in subst OkA w.2 (naming.written_ok w.0 (ok b w.0 w.1))
 
     named_start : (b : ℕ) (t x : A) → slice_get (starts_to (started_as written start) 0 n) b ≡ Some t → slice_get (map written ws) b ≡ Some x → BelowAs OkA Below read t x
     unfolding problem
     named_start b t x is g =
-        let w = get_mapped written ws b x g in
+        let w = map_back written ws b x g in
         let t_is : t ≡ written (start (0 + b)) = start_at (started_as written start) 0 n b t is in
         let low : b < n = (let k = slice_get_within (starts_to (started_as written start) 0 n) b t is in omega (arith, length-starts (started_as written start) 0 n)) in
         let below : Below (start (0 + b)) w.0 = s.start b (start (0 + b)) w.0 (start_get start 0 n b low) w.1 in
@@ -48,8 +39,8 @@ module _ {A B : Type 0} (OkA : A → Type 0) (OkB : B → Type 0) (read : A → 
     unfolding problem
     named_edge i e x y is gx gy =
         let a = arrow_is (sent_as read written flow) es i e is in
-        let wx = get_mapped written ws e.from x gx in
-        let wy = get_mapped written ws e.to y gy in
+        let wx = map_back written ws e.from x gx in
+        let wy = map_back written ws e.to y gy in
         let r : Arrow B = record { from = a.edge.from; to = a.edge.to; flow = flow (0 + i) } in
         let first : Below (flow (0 + i) wx.0) wy.0 = s.edge i r wx.0 wy.0 (arrow_to flow 0 es i a.edge a.at) (ap (slice_get ws) (sym a.from) ∙ wx.1) (ap (slice_get ws) (sym a.to) ∙ wy.1) in
         let ox = ok e.from wx.0 wx.1 in
@@ -69,7 +60,7 @@ module _ {A B : Type 0} (OkA : A → Type 0) (OkB : B → Type 0) (read : A → 
   module _ (ys : List A) (m : Least OkA (BelowAs OkA Below read) (problem (joined_as read written join) (started_as written start) (sent_as read written flow) n es) ys) where
     read_start : (b : ℕ) (t y : B) → slice_get (starts_to start 0 n) b ≡ Some t → slice_get (map read ys) b ≡ Some y → Below t y
     read_start b t y is g =
-        let w = get_mapped read ys b y g in
+        let w = map_back read ys b y g in
         let t_is : t ≡ start b = start_at start 0 n b t is ∙ ap start (let z : 0 + b ≡ b = omega arith in z) in
         let below = least_start OkA (BelowAs OkA Below read) (rank_as read rank) height (started_as written start) (joined_as read written join) (sent_as read written flow) law n es ys m b w.0 w.1 in
         subst (Below t) w.2 (subst (λ v. Below v (read w.0)) (naming.read_written (start b) (l.start_ok b) ∙ sym t_is) below.1)
@@ -77,8 +68,8 @@ module _ {A B : Type 0} (OkA : A → Type 0) (OkB : B → Type 0) (read : A → 
     read_edge : (i : ℕ) (e : Arrow B) (x y : B) → slice_get (arrows_at flow 0 es) i ≡ Some e → slice_get (map read ys) e.from ≡ Some x → slice_get (map read ys) e.to ≡ Some y → Below (e.flow x) y
     read_edge i e x y is gx gy =
         let a = arrow_is flow es i e is in
-        let wx = get_mapped read ys e.from x gx in
-        let wy = get_mapped read ys e.to y gy in
+        let wx = map_back read ys e.from x gx in
+        let wy = map_back read ys e.to y gy in
         let below = least_edge OkA (BelowAs OkA Below read) (rank_as read rank) height (started_as written start) (joined_as read written join) (sent_as read written flow) law n es ys m i a.edge wx.0 wy.0 a.at (ap (slice_get ys) (sym a.from) ∙ wx.1) (ap (slice_get ys) (sym a.to) ∙ wy.1) in
         let flown : read (written (flow i (read wx.0))) ≡ e.flow x = naming.read_written (flow i (read wx.0)) (l.flow_ok i (read wx.0) (naming.read_ok wx.0 (m.facts e.from wx.0 wx.1))) ∙ ap (flow i) wx.2 ∙ sym (ap (λ (f : B → B). f x) a.flows) in
         subst (Below (e.flow x)) wy.2 (subst (λ v. Below v (read wy.0)) flown below.1)
@@ -91,9 +82,9 @@ module _ {A B : Type 0} (OkA : A → Type 0) (OkB : B → Type 0) (read : A → 
         start = read_start;
         edge = read_edge;
       };
-      facts = λ b y g. (let w = get_mapped read ys b y g in subst OkB w.2 (naming.read_ok w.0 (m.facts b w.0 w.1)));
+      facts = λ b y g. (let w = map_back read ys b y g in subst OkB w.2 (naming.read_ok w.0 (m.facts b w.0 w.1)));
       least = λ ws ok s b y z gy gz.
-          let w = get_mapped read ys b y gy in
-          let below = m.least (map written ws) (named_ok ws ok s) (named_solves ws ok s) b w.0 (written z) w.1 (mapped_get written ws b z gz) in
+          let w = map_back read ys b y gy in
+          let below = m.least (map written ws) (named_ok ws ok s) (named_solves ws ok s) b w.0 (written z) w.1 (map_there written ws b z gz) in
           subst (Below y) (naming.read_written z (ok b z gz)) (subst (λ v. Below v (read (written z))) w.2 below.1);
     }

@@ -5,6 +5,7 @@ use Rattle.std.proofs.lemmas.Option.{slice_get-get_or}
 use Rattle.std.proofs.lemmas.List.{length-append, length-take-le}
 use Rattle.flow_engine.specs.Flow.{Arrow, Flow, Solves, AllFacts, Least}
 use Rattle.flow_engine.proofs.Laws.{Laws}
+use Rattle.mir_syntax.proofs.Trees.{slice_get-front}
 
 some_one : {A : Type 0} {x y : A} → Some x ≡ Some y → x ≡ y
 some_one e = grind arith
@@ -16,11 +17,6 @@ get_taken zero xs b x e = absurd (grind arith)
 get_taken (suc n) [] b x e = absurd (grind arith)
 get_taken (suc n) (y ∷ xs) zero x e = (e, omega arith)
 get_taken (suc n) (y ∷ xs) (suc b) x e = let p = get_taken n xs b x e in (p.0, omega arith)
-
-get_front : {A : Type 0} (xs ys : List A) (b : ℕ) (x : A) → slice_get xs b ≡ Some x → slice_get (xs ++ ys) b ≡ Some x
-get_front [] ys b x e = absurd (grind arith)
-get_front (z ∷ xs) ys zero x e = e
-get_front (z ∷ xs) ys (suc b) x e = get_front xs ys b x e
 
 get_behind : {A : Type 0} (xs ys : List A) (n b : ℕ) (x : A) → length xs ≡ n → slice_get (xs ++ ys) (n + b) ≡ Some x → slice_get ys b ≡ Some x
 get_behind [] ys zero b x l e = subst (λ i. slice_get ys i ≡ Some x) (let z : 0 + b ≡ b = omega arith in z) e
@@ -166,7 +162,7 @@ module _ {A : Type 0} (Ok : A → Type 0) (Below : A → A → Type 0) (n : ℕ)
       edge = edge;
     };
     facts = λ b x e. l.facts b x (get_taken n ys b x e).0;
-    least = λ zs ok s b x z ix iz. l.least (zs ++ ends_of half 0 zs) (whole_ok zs ok s) (whole_solves zs ok s) b x z (get_taken n ys b x ix).0 (get_front zs (ends_of half 0 zs) b z iz);
+    least = λ zs ok s b x z ix iz. l.least (zs ++ ends_of half 0 zs) (whole_ok zs ok s) (whole_solves zs ok s) b x z (get_taken n ys b x ix).0 (slice_get-front zs (ends_of half 0 zs) b z iz);
   }
     where
       long : length ys ≡ n + n

@@ -2,6 +2,7 @@
 use Rattle.std.proofs.Common.{◌≡◌, ◌⊎◌, inl, inr, refl, sym, ap, ◌∙◌, subst, ℕ, zero, suc, ◌+◌, ◌-◌, ◌<◌, true, false, nat_eq, nat_lt, if◌then◌else◌, List, [], ◌∷◌, ◌++◌, map, take, length, Option, Some, None, slice_get, arith}
 use Rattle.std.specs.List.{Contains}
 use Rattle.std.proofs.lemmas.Option.{slice_get_within, slice_get-get_or, get_or_from_slice_get}
+use Rattle.mir_syntax.proofs.Lists.{map_back, map_there}
 use Rattle.mir_syntax.proofs.Trees.{slice_get-front}
 use Rattle.mir_syntax.specs.declared.body.Place.{Place}
 use Rattle.mir_syntax.specs.declared.body.Term.{Term}
@@ -37,11 +38,6 @@ get_later : {A : Type 0} (xs ys : List A) (i : ℕ) (x : A) → slice_get ys i �
 get_later [] ys i x e = subst (λ n. slice_get ys n ≡ Some x) (let z : i ≡ 0 + i = omega arith in z) e
 get_later (y ∷ xs) ys i x e = subst (λ n. slice_get (y ∷ (xs ++ ys)) n ≡ Some x) (let z : suc (length xs + i) ≡ suc (length xs) + i = omega arith in z) (get_later xs ys i x e)
 
-mapped_at : {A B : Type 0} (f : A → B) (xs : List A) (i : ℕ) (x : A) → slice_get xs i ≡ Some x → slice_get (map f xs) i ≡ Some (f x)
-mapped_at f [] i x e = absurd (grind arith)
-mapped_at f (y ∷ xs) zero x e = ap (λ z. Some (f z)) (some_one e)
-mapped_at f (y ∷ xs) (suc i) x e = mapped_at f xs i x e
-
 -- each target has its arrow
 arrow_get : (h : Here) (a : ℕ) (ks : List TypedBlock) (b : ℕ) (k : TypedBlock) (t : ℕ) → slice_get ks b ≡ Some k → Contains (targets k.term) t → (i : ℕ) × (slice_get (arrows_from h a ks) i ≡ Some (arrow h (a + b) k t))
 arrow_get h a [] b k t e c = absurd (grind arith)
@@ -50,7 +46,7 @@ arrow_get h a (l ∷ ks) zero k t e c =
     let same : l ≡ k = some_one e in (
       i,
       slice_get-front (map (arrow h a l) (targets l.term)) (arrows_from h (suc a) ks) i (arrow h (a + 0) k t)
-          (subst (λ (m : TypedBlock). slice_get (map (arrow h a m) (targets m.term)) i ≡ Some (arrow h (a + 0) k t)) (sym same) (subst (λ n. slice_get (map (arrow h a k) (targets k.term)) i ≡ Some (arrow h n k t)) (let z : a ≡ a + 0 = omega arith in z) (mapped_at (arrow h a k) (targets k.term) i t q))),
+          (subst (λ (m : TypedBlock). slice_get (map (arrow h a m) (targets m.term)) i ≡ Some (arrow h (a + 0) k t)) (sym same) (subst (λ n. slice_get (map (arrow h a k) (targets k.term)) i ≡ Some (arrow h n k t)) (let z : a ≡ a + 0 = omega arith in z) (map_there (arrow h a k) (targets k.term) i t q))),
     )
 arrow_get h a (l ∷ ks) (suc b) k t e c =
     let (i, q) = arrow_get h (suc a) ks b k t e c in
@@ -70,15 +66,10 @@ get_parts [] ys i x e = inr (i, e)
 get_parts (a ∷ xs) ys zero x e = inl e
 get_parts (a ∷ xs) ys (suc i) x e = get_parts xs ys i x e
 
-unmapped_at : {A B : Type 0} (f : A → B) (xs : List A) (i : ℕ) (y : B) → slice_get (map f xs) i ≡ Some y → (x : A) × (slice_get xs i ≡ Some x) × (f x ≡ y)
-unmapped_at f [] i y e = absurd (grind arith)
-unmapped_at f (x ∷ xs) zero y e = (x, refl, some_one e)
-unmapped_at f (x ∷ xs) (suc i) y e = unmapped_at f xs i y e
-
 arrow_of : (h : Here) (a : ℕ) (ks : List TypedBlock) (i : ℕ) (e : Arrow Reached) → slice_get (arrows_from h a ks) i ≡ Some e → IsArrowOf h a ks e
 arrow_of h a [] i e q = absurd (grind arith)
 arrow_of h a (k ∷ ks) i e q = elim (get_parts (map (arrow h a k) (targets k.term)) (arrows_from h (suc a) ks) i e q) [
-  | inl g ↦ (let (t, u, s) = unmapped_at (arrow h a k) (targets k.term) i e g in
+  | inl g ↦ (let (t, u, s) = map_back (arrow h a k) (targets k.term) i e g in
       record { at = 0; block = k; to = t; there = refl; target = contains_at (targets k.term) i t u; same = ap (λ n. arrow h n k t) (let z : a + 0 ≡ a = omega arith in z) ∙ s })
   | inr (n, g) ↦ (let r = arrow_of h (suc a) ks n e g in
       record { at = suc r.at; block = r.block; to = r.to; there = r.there; target = r.target; same = ap (λ n. arrow h n r.block r.to) (let z : a + suc r.at ≡ suc a + r.at = omega arith in z) ∙ r.same })

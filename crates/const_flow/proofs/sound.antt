@@ -8,3 +8,4 @@ pub mod Along
 pub mod Seals
 pub mod Related
 pub mod Lent
+pub mod Stands

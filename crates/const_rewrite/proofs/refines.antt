@@ -1,6 +1,5 @@
 -- A crate with a folded body refines the crate.
-pub mod Frames
-pub mod Moment
+pub mod Where
 pub mod Values
 pub mod Terms
 pub mod Steps

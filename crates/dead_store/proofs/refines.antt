@@ -1,5 +1,4 @@
 -- A crate with a pruned body refines the crate.
-pub mod Lent
 pub mod Reads
 pub mod Frames
 pub mod Moment

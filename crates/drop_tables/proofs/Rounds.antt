@@ -10,6 +10,7 @@ use Rattle.mir_rules.proofs.Depth.{one_mono, one_one}
 use Rattle.drop_tables.specs.Marks.{is_marked, spread}
 use Rattle.drop_tables.specs.Holders.{holders_at, AreHolders, Finds, Round}
 use Rattle.drop_tables.proofs.Spreading.{stable}
+use Rattle.mir_syntax.proofs.Bools.{same_tests}
 
 pub none_in_empty : (x : ℕ) → Contains {X = ℕ} [] x → ⊥
 none_in_empty x p = absurd (omega (arith, p.1))
@@ -111,12 +112,6 @@ round_more holders marks now marks2 front found found2 i d l r f = record {
 
 -- ---- round after round
 
-same_marks : (a b : Bool) → (a ≡ true → b ≡ true) → (b ≡ true → a ≡ true) → a ≡ b
-same_marks true true f g = refl
-same_marks true false f g = sym (f refl)
-same_marks false true f g = g refl
-same_marks false false f g = refl
-
 -- the marks are those of so many rounds; those that hold a marked one are marked, but for those that hold one of `front`
 pub record IsSpread (D : List Shape) (holders : List (List ℕ)) (own : ℕ → Bool) (marks : List Bool) (front : List ℕ) (n : ℕ) : Type 0 where
   pub long : length marks ≡ length holders
@@ -165,7 +160,7 @@ module _ (D : List Shape) (holders : List (List ℕ)) (own : ℕ → Bool) (are 
     pub spread_round : IsSpread D holders own marks2 found (suc n)
     spread_round = record {
       long = r.long ∙ s.long;
-      marks_are = λ d. same_marks (is_marked marks2 d) (spread D own own (suc n) d) (to d) (back d);
+      marks_are = λ d. same_tests (is_marked marks2 d) (spread D own own (suc n) d) (to d) (back d);
       front_marked = λ d c. (let p = r.from d c in r.marked p.0 d p.1 p.2);
       closed = λ e h. elim (r.only e h) [ inl q ↦ inr (λ d c. held_marked e d q c) | inr q ↦ inl q ];
     }

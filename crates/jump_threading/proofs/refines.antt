@@ -1,6 +1,4 @@
 -- A crate with a threaded body refines the crate.
-pub mod Frames
-pub mod Moment
 pub mod Where
 pub mod Ends
 pub mod Steps

@@ -1,6 +1,5 @@
 -- The same text on both sides, for memories in a relation that writes at related addresses keep.
-use Rattle.std.proofs.Common.{◌≡◌, ◌⊎◌, inl, inr, refl, sym, ap, ◌∙◌, subst, ℕ, Bool, true, false, nat_eq, ◌&&◌, if◌then◌else◌, List, [], ◌∷◌, Some, None, slice_get, arith}
-use Rattle.std.proofs.lemmas.Bool.{eqb-true}
+use Rattle.std.proofs.Common.{◌≡◌, ◌⊎◌, inl, inr, refl, sym, ap, ◌∙◌, subst, ℕ, Bool, true, false, ◌&&◌, if◌then◌else◌, List, [], ◌∷◌, Some, None, slice_get, arith}
 use Rattle.mir_syntax.specs.declared.body.Place.{Place}
 use Rattle.mir_syntax.specs.declared.body.Operand.{Operand}
 use Rattle.mir_syntax.specs.declared.body.Operand.TheVariants as operand
@@ -16,7 +15,7 @@ use Rattle.mir_renaming.specs.Renaming.{Renaming, AddrRel, ValueRel, Sub, MemRel
 use Rattle.mir_syntax.proofs.Binds.{bind_some, some_bind}
 use Rattle.mir_renaming.proofs.Memory.{value_at_rel}
 use Rattle.mir_renaming.proofs.Statements as text
-use Rattle.mir_renaming.proofs.Statements.{only_true, true_only, blank_rel, const_rel, allows_rel, DestRel}
+use Rattle.mir_renaming.proofs.Statements.{only_true, true_only, blank_rel, variant_is, variants_same, const_rel, allows_rel, DestRel}
 use Rattle.mir_renaming.proofs.Types.{TypeMap, AddrTy, HasTy, MemTy, resolve_ty, eval_ty, RvalueTy}
 use Rattle.mir_renaming.proofs.Agree.{whole_tight, tight_self}
 use Rattle.mir_relate.specs.Pass.{MoveOk}
@@ -220,33 +219,25 @@ module _ (D : List Shape) (ts1 ts2 : List Tree) (f1 f2 : ℕ) (j K : Renaming) (
         fresh : HasTy D G t (variant i (blank D us))
         fresh = (us, ut, blank_ok us)
 
-        is_it : (w : Value) → is_variant i w ≡ true → (u : Value) × (w ≡ variant i u)
-        is_it (variant n u) q = (u, ap (λ n. variant n u) (eqb-true n i q))
-        is_it w q = absurd (grind arith)
-
-        both_are : (v w : Value) → ValueRel j v w → is_variant i v ≡ true → is_variant i w ≡ false → ⊥
-        both_are (variant n v) (variant n' w) r p q = let z : nat_eq n i ≡ nat_eq n' i = ap (λ x. nat_eq x i) r.0 in grind arith
-        both_are v w r p q = grind arith
-
         stay : is_variant i w ≡ true → Q m2 (write m1 a (variant i (blank D us)))
         stay q =
-            let (u, same) = is_it w q in
+            let (u, same) = variant_is i w q in
             let rel : ValueRel j (variant i (blank D us)) w = subst (λ w. ValueRel j (variant i (blank D us)) w) (sym same) (let z : ValueRel j (variant i (blank D us)) (variant i u) = (refl, hp u same) in z) in
             k.alone m2 m1 a b t (variant i (blank D us)) w v l h at nd e1 e2 fresh rel
 
         go : (p q : Bool) → is_variant i v ≡ p → is_variant i w ≡ q → Q (write_unless q m2 b (variant i (blank D us))) (write_unless p m1 a (variant i (blank D us)))
         go true true p q = l
-        go true false p q = absurd (both_are v w hv p q)
+        go true false p q = absurd (variants_same j i v w hv p q)
         go false true p q = stay q
         go false false p q = k.both m2 m1 a b t (variant i (blank D us)) (variant i (blank D us)) v l h at e1 (inr (inl nd)) fresh ((refl, blank_rel j D us), tight_self (blank D us))
 
-    -- an assignment, where the target's rvalue gives what the source's gives
-    pub assign_as : (p q : Place) (x y : TypedRvalue) → PlaceAs K p q → Evals sides Q Q x y → (t : Tree) × (type_of sides.source p ≡ Some t) × RvalueTy D G blank_ok ts1 f1 locals_ok x t → (m2 m1 m1' : Memory) → Q m2 m1 → exec sides.source m1 (assign p x) ≡ Some m1' → GotMemory Q m1' (exec sides.target m2 (assign q y))
+    -- an assignment, where the target's rvalue gives what the source's gives, perhaps by more than Q
+    pub assign_as : (p q : Place) (x y : TypedRvalue) (Q0 : Between) → PlaceAs K p q → Evals sides Q0 Q x y → (t : Tree) × (type_of sides.source p ≡ Some t) × RvalueTy D G blank_ok ts1 f1 locals_ok x t → (m2 m1 m1' : Memory) → MemTy D G m1 → Q0 m2 m1 → exec sides.source m1 (assign p x) ≡ Some m1' → GotMemory Q m1' (exec sides.target m2 (assign q y))
     unfolding exec
-    assign_as p q x y hp hx (t, pt, xt) m2 m1 m1' l e =
+    assign_as p q x y Q0 hp hx (t, pt, xt) m2 m1 m1' typed l e =
         let (v, e1, k1) = bind_some e in
         let (d, e2, k2) = bind_some k1 in
-        let (vt, mt) = eval_ty D G blank_ok ts1 f1 locals_ok m1 x t v (k.typed m2 m1 l) xt e1 in
+        let (vt, mt) = eval_ty D G blank_ok ts1 f1 locals_ok m1 x t v typed xt e1 in
         let (w, g1, h1, l1) = hx.evals m2 m1 v l e1 in
         let (c, g2, h2) = dest_as w.1 v.1 p q d hp l1 e2 in
         let (a, u, r1, r2, r3) = dest_parts v.1 p d e2 in
@@ -258,7 +249,7 @@ module _ (D : List Shape) (ts1 ts2 : List Tree) (f1 f2 : ℕ) (j K : Renaming) (
 
     pub exec_as : (s s' : TypedStmt) → StmtAs s s' → (m2 m1 m1' : Memory) → (text.IsSet D ts1 ts2 f1 f2 j K low s → text.PayloadsOk D ts1 ts2 f1 f2 j K low m2) → Q m2 m1 → exec sides.source m1 s ≡ Some m1' → GotMemory Q m1' (exec sides.target m2 s')
     unfolding exec
-    exec_as (assign p x) (assign q y) (hp, hx, ty) m2 m1 m1' ok l e = assign_as p q x y hp (evals_as x y hx) ty m2 m1 m1' l e
+    exec_as (assign p x) (assign q y) (hp, hx, ty) m2 m1 m1' ok l e = assign_as p q x y Q hp (evals_as x y hx) ty m2 m1 m1' (k.typed m2 m1 l) l e
     exec_as (storage_live x) (storage_live y) h m2 m1 m1' ok l e = blank_as x y h m2 m1 m1' l e
     exec_as (storage_dead x) (storage_dead y) h m2 m1 m1' ok l e = blank_as x y h m2 m1 m1' l e
     exec_as (set_discriminant p i) (set_discriminant q i') (hp, hi, calm) m2 m1 m1' ok l e =

@@ -32,3 +32,7 @@ pub mod Rules
 pub mod Replaced
 pub mod Rest
 pub mod Renumbered
+pub mod Formed
+pub mod OneForOne
+pub mod EachLocal
+pub mod Moment

@@ -14,7 +14,7 @@ use Rattle.mir_renaming.proofs.Types.{TypeMap}
 use Rattle.mir_renaming.proofs.Stores.{pair_parts, write_there}
 use Rattle.mir_relate.specs.Leaves.{Leaves}
 use Rattle.mir_relate.proofs.Leaves.{some_val, leaves_source, leaves_target, leaves_then}
-use Rattle.mir_relate.proofs.Near.{Near}
+use Rattle.mir_relate.proofs.Near.{Near, Nears}
 
 -- the locals of frame f1 that live stand for those of f2
 abbrev pub living : Renaming → ℕ → ℕ → (ℕ → Bool) → Renaming
@@ -29,6 +29,10 @@ pub record Holds (j : Renaming) (f2 f1 : ℕ) (a : ℕ → Bool) (m2 m1 : Memory
 pub record Placed (j : Renaming) (f2 f1 : ℕ) : Type 0 where
   pub self : (x g y : ℕ) → j f1 x ≡ Some (g, y) → (g ≡ f2) × (y ≡ x)
   pub only : (h x y : ℕ) → j h x ≡ Some (f2, y) → (h ≡ f1) × (x ≡ y)
+
+-- a write of the source at a local that isn't lent
+pub unlent_linked : (j : Renaming) (m2 m1 : Memory) (a : Addr) (v : Value) → j a.frame a.local ≡ None → Linked j j m2 m1 → Linked j j m2 (write m1 a v)
+unlent_linked j m2 m1 a v none l = record { mem = write_source j j m2 m1 a v l.mem none; apart = λ h y h' y' r u u' e e' k k'. (let (o, q) = write_back m1 a v h y u k in let (o', q') = write_back m1 a v h' y' u' k' in l.apart h y h' y' r o o' e e' q q') }
 
 module _ (j : Renaming) (f2 f1 : ℕ) (p : Placed j f2 f1) where
   -- nothing stands for a local that isn't lent
@@ -78,7 +82,7 @@ module _ (j : Renaming) (f2 f1 : ℕ) (p : Placed j f2 f1) where
         go (Some r) e = inl (r, e)
 
     -- as `Near` asks it
-    pub living_near : (h x g y : ℕ) → living j f2 f1 a h x ≡ Some (g, y) → (j h x ≡ Some (g, y)) ⊎ ((j h x ≡ None) × (f1 ≤ h) × (f2 ≤ g) × ((h' x' : ℕ) → j h' x' ≡ Some (g, y) → ⊥))
+    pub living_near : Nears j (living j f2 f1 a) f2 f1
     living_near h x g y e = go (living_parts h x g y e) (lent_or_not h x)
       where
         go : ((a x ≡ true) × (h ≡ f1) × (g ≡ f2) × (y ≡ x)) ⊎ (j h x ≡ Some (g, y)) → ((r : ℕ × ℕ) × (j h x ≡ Some r)) ⊎ (j h x ≡ None) → (j h x ≡ Some (g, y)) ⊎ ((j h x ≡ None) × (f1 ≤ h) × (f2 ≤ g) × ((h' x' : ℕ) → j h' x' ≡ Some (g, y) → ⊥))
@@ -166,15 +170,12 @@ module _ (j : Renaming) (f2 f1 : ℕ) (p : Placed j f2 f1) where
       abbrev pub at2 : Addr
       at2 = record { frame = f2; local = x; path = ps }
 
-      linked_source : (m2 m1 : Memory) (v : Value) → Linked j j m2 m1 → Linked j j m2 (write m1 at1 v)
-      linked_source m2 m1 v l = record { mem = write_source j j m2 m1 at1 v l.mem none; apart = λ h y h' y' r u u' e e' k k'. (let (o, q) = write_back m1 at1 v h y u k in let (o', q') = write_back m1 at1 v h' y' u' k' in l.apart h y h' y' r o o' e e' q q') }
-
       linked_target : (m2 m1 : Memory) (w : Value) → Linked j j m2 m1 → Linked j j (write m2 at2 w) m1
       linked_target m2 m1 w l = record { mem = write_target j j m2 m1 at2 w l.mem (λ h y u e k. nobody x none h y e); apart = l.apart }
 
       -- of both: related values; the local may live then where it lived, or where it is written as a whole
       pub own_linked : (m2 m1 : Memory) (v w : Value) → Linked j j m2 m1 → Linked j j (write m2 at2 w) (write m1 at1 v)
-      own_linked m2 m1 v w l = linked_target m2 (write m1 at1 v) w (linked_source m2 m1 v l)
+      own_linked m2 m1 v w l = linked_target m2 (write m1 at1 v) w (unlent_linked j m2 m1 at1 v none l)
 
       pub own_leaves : (D : List Shape) (G : TypeMap) (m2 m1 : Memory) (v w : Value) → Leaves D G j j f2 f1 (write m2 at2 w) (write m1 at1 v) m2 m1
       own_leaves D G m2 m1 v w = leaves_then D G j j j f2 f1 m2 m1 m2 (write m1 at1 v) (write m2 at2 w) (write m1 at1 v) (leaves_source D G j m2 m1 at1 v f2 f1 (omega arith)) (leaves_target D G j m2 (write m1 at1 v) at2 w f2 f1 (nobody x none) (omega arith))
@@ -207,6 +208,3 @@ module _ (j : Renaming) (f2 f1 : ℕ) (p : Placed j f2 f1) where
         at = λ y u free by k. (let (ay, ne) = less y by in h.at y u free ay (sym (write_other m1 at1 v f1 y (λ p q. ne q)) ∙ k));
         room = λ y u free k. (let (o, e) = write_back m1 at1 v f1 y u k in h.room y o free e);
       }
-
-      pub gone_linked : (m2 m1 : Memory) (v : Value) → Linked j j m2 m1 → Linked j j m2 (write m1 at1 v)
-      gone_linked = linked_source

@@ -149,7 +149,7 @@ module _ {X : Change} {B : ℕ → Option ℕ} {At : Positions} (same : Mirrors 
     goal : (d2 d1 : Dest) (u2 u1 : ℕ) (t : Tree) → To At u2 u1 → DestRel j d1 d2 → AddrTy D G d1.addr t → own.Goal X P V Inv frames n s2 s1 r [] s1.callers refl lo be S Q left refl first d2 d1 u2 u1
     goal d2 d1 u2 u1 t e dr at = record {
       waits = λ m2 m1 q. (let (n', (z, h, agr)) = edge m2 m1 u2 u1 e (agreed m2 m1 q.leaves) in (z, (n', h), dr, agr));
-      gets = λ m2 m1 m1' v q hv k. (let (m2', g, l, lv) = near.store_leaves D G j (suc f2) (suc f1) s2.memory s1.memory m2 m1 m1' d1 d2 t v v q.linked q.leaves dr at hv k in (m2', g, (l, less m2' m1' lv), edge m2' m1' u2 u1 e (agreed m2' m1' lv)));
+      gets = λ m2 m1 m1' v q hv wh k. (let (m2', g, l, lv) = near.store_leaves D G j (suc f2) (suc f1) s2.memory s1.memory m2 m1 m1' d1 d2 t v v q.linked q.leaves dr at hv k in (m2', g, (l, less m2' m1' lv), edge m2' m1' u2 u1 e (agreed m2' m1' lv)));
     }
 
     reads : (os ps : List Operand) → OperandsSame (Homes B) os ps → AllMoves H1 os → AllRead S Q os ps

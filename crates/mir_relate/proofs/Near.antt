@@ -37,6 +37,10 @@ store_leaves D G j n2 n1 m2s m1s m2 m1 m1' d c t v w l lv r at hv e =
     let lw = leaves_write D G j m2 m1 d.addr c.addr v w l.mem r.addr t at (tight_agree D v w t hv.1) (λ h x u k z. l.apart h x d.addr.frame d.addr.local (c.addr.frame, c.addr.local) u o k r.addr.root z eo) n2 n1 in
     (m2', g, l', leaves_then D G j j j n2 n1 m2s m1s m2 m1 m2' m1' lv (subst (λ m. Leaves D G j j n2 n1 m2' m m2 m1) same (subst (λ m. Leaves D G j j n2 n1 m (write m1 d.addr v) m2 m1) same2 lw)))
 
+-- what K relates beyond j is of no earlier frames, and nothing stands in j for it
+abbrev pub Nears : Renaming → Renaming → ℕ → ℕ → Type 0
+Nears j K n2 n1 = (h x g y : ℕ) → K h x ≡ Some (g, y) → (j h x ≡ Some (g, y)) ⊎ ((j h x ≡ None) × (n1 ≤ h) × (n2 ≤ g) × ((h' x' : ℕ) → j h' x' ≡ Some (g, y) → ⊥))
+
 -- the memories, and what is left of those that the frame found
 pub record Near (D : List Shape) (G : TypeMap) (j K : Renaming) (n2 n1 : ℕ) (m2s m1s m2 m1 : Memory) : Type 0 where
   pub linked : Linked j K m2 m1
@@ -45,7 +49,7 @@ pub record Near (D : List Shape) (G : TypeMap) (j K : Renaming) (n2 n1 : ℕ) (m
   pub still : (g y : ℕ) → ((h x : ℕ) → K h x ≡ Some (g, y) → ⊥) → local_at m2 g y ≡ local_at m2s g y
   pub back : (h x : ℕ) (v : Value) → local_at m1 h x ≡ Some v → (u : Value) × (local_at m1s h x ≡ Some u)
 
-module _ (D : List Shape) (ts1 ts2 : List Tree) (f1 f2 : ℕ) (j K : Renaming) (low : Sub j K) (G : TypeMap) (blank_ok : (t : Tree) → HasTy D G t (blank D t)) (locals_ok : (x : ℕ) (t : Tree) → slice_get ts1 x ≡ Some t → G f1 x ≡ Some t) (needs : NeedsOk D) (n2 n1 : ℕ) (m2s m1s : Memory) (near : (h x g y : ℕ) → K h x ≡ Some (g, y) → (j h x ≡ Some (g, y)) ⊎ ((j h x ≡ None) × (n1 ≤ h) × (n2 ≤ g) × ((h' x' : ℕ) → j h' x' ≡ Some (g, y) → ⊥))) (once : (x y h x' : ℕ) (v : Value) → K f1 x ≡ Some (f2, y) → K h x' ≡ Some (f2, y) → local_at m1s h x' ≡ Some v → (h ≡ f1) × (x' ≡ x)) where
+module _ (D : List Shape) (ts1 ts2 : List Tree) (f1 f2 : ℕ) (j K : Renaming) (low : Sub j K) (G : TypeMap) (blank_ok : (t : Tree) → HasTy D G t (blank D t)) (locals_ok : (x : ℕ) (t : Tree) → slice_get ts1 x ≡ Some t → G f1 x ≡ Some t) (needs : NeedsOk D) (n2 n1 : ℕ) (m2s m1s : Memory) (near : Nears j K n2 n1) (once : (x y h x' : ℕ) (v : Value) → K f1 x ≡ Some (f2, y) → K h x' ≡ Some (f2, y) → local_at m1s h x' ≡ Some v → (h ≡ f1) × (x' ≡ x)) where
   abbrev pub Q : Between
   Q = Near D G j K n2 n1 m2s m1s
 

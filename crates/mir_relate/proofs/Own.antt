@@ -9,7 +9,7 @@ use Rattle.mir_syntax.specs.Tree.{Tree, scalar}
 use Rattle.mir_syntax.specs.Crate.{TypedBody}
 use Rattle.mir_syntax.specs.Shapes.{Shape}
 use Rattle.mir_num.specs.Numbers.{wrap, flag}
-use Rattle.mir_semantics.specs.Values.{Value, number, nil}
+use Rattle.mir_semantics.specs.Values.{Value, number, nil, whole}
 use Rattle.mir_semantics.specs.Memory.{Memory, local_at, close_frame}
 use Rattle.mir_semantics.specs.Step.{Dest, Control, Called, State, aborted, no_answer, Next, stop, fail, local_addr, dest_of, store, read_at, read_number, read_all, go_on, to_block, take_arm, calling, answered, ask, call, return_to, check, finish}
 use Rattle.mir_renaming.specs.Renaming.{Renaming}
@@ -28,6 +28,7 @@ use Rattle.mir_relate.proofs.Enter.{goes_at, goes_by, enter_goes, enter_gentle}
 use Rattle.mir_relate.proofs.Mild.{gentle_less, gentle_on}
 use Rattle.mir_relate.proofs.Returns.{return_goes, closed1, closed2}
 use Rattle.mir_relate.proofs.Others.{read_long, numbers_same}
+use Rattle.mir_relate.proofs.Wholes.{read_at_whole}
 
 -- the lowest control of a group, whatever the place of the highest
 low_frame : (c c' : Control) (gs : List Control) → c'.frame ≡ c.frame → (lowest c' gs).frame ≡ (lowest c gs).frame
@@ -86,7 +87,7 @@ module _ (X : Change) (P : Pass) (V : Valids X) (Inv : State → Type 0) (laws :
     -- destinations of a call: the frame waits for what comes to them, or gets it at once
     pub record Goal (d2 d1 : Dest) (u2 u1 : ℕ) : Type 0 where
       pub waits : (m2 m1 : Memory) → Q m2 m1 → P.waits j (Some d2) (Some d1) (to_block u2 s2.top) (to_block u1 s1.top) gs m2 m1
-      pub gets : (m2 m1 m1' : Memory) (v : Value) → Q m2 m1 → Same j v v → store D m1 d1 v ≡ Some m1' → (m2' : Memory) × (store D m2 d2 v ≡ Some m2') × Left m2' m1' × To m2' m1' u2 u1
+      pub gets : (m2 m1 m1' : Memory) (v : Value) → Q m2 m1 → Same j v v → whole v ≡ true → store D m1 d1 v ≡ Some m1' → (m2' : Memory) × (store D m2 d2 v ≡ Some m2') × Left m2' m1' × To m2' m1' u2 u1
 
     -- the same, where something is known of the source's memory
     abbrev pub EdgeIf : (Memory → Type 0) → ℕ → ℕ → Type 0
@@ -94,7 +95,7 @@ module _ (X : Change) (P : Pass) (V : Valids X) (Inv : State → Type 0) (laws :
 
     pub record GoalIf (A : Memory → Type 0) (d2 d1 : Dest) (u2 u1 : ℕ) : Type 0 where
       pub waits : (m2 m1 : Memory) → Q m2 m1 → A m1 → P.waits j (Some d2) (Some d1) (to_block u2 s2.top) (to_block u1 s1.top) gs m2 m1
-      pub gets : (m2 m1 m1' : Memory) (v : Value) → Q m2 m1 → A m1 → Same j v v → store D m1 d1 v ≡ Some m1' → (m2' : Memory) × (store D m2 d2 v ≡ Some m2') × Left m2' m1' × To m2' m1' u2 u1
+      pub gets : (m2 m1 m1' : Memory) (v : Value) → Q m2 m1 → A m1 → Same j v v → whole v ≡ true → store D m1 d1 v ≡ Some m1' → (m2' : Memory) × (store D m2 d2 v ≡ Some m2') × Left m2' m1' × To m2' m1' u2 u1
 
     -- the source's operands leave this memory; its operand is this number
     abbrev pub Spent : List Operand → Memory → Type 0
@@ -124,7 +125,7 @@ module _ (X : Change) (P : Pass) (V : Valids X) (Inv : State → Type 0) (laws :
     SameStep t u = ⊥
 
     goal_if : (A : Memory → Type 0) (d2 d1 : Dest) (u2 u1 : ℕ) → Goal d2 d1 u2 u1 → GoalIf A d2 d1 u2 u1
-    goal_if A d2 d1 u2 u1 g = record { waits = λ m2 m1 q a. g.waits m2 m1 q; gets = λ m2 m1 m1' v q a hv k. g.gets m2 m1 m1' v q hv k }
+    goal_if A d2 d1 u2 u1 g = record { waits = λ m2 m1 q a. g.waits m2 m1 q; gets = λ m2 m1 m1' v q a hv wh k. g.gets m2 m1 m1' v q hv wh k }
 
     same_step_if : (t u : Term) → SameStep t u → SameStepIf t u
     same_step_if (Goto u1) (Goto u2) h = h
@@ -154,9 +155,9 @@ module _ (X : Change) (P : Pass) (V : Valids X) (Inv : State → Type 0) (laws :
     unfolding ask
     ask_goes A m2 m1 am u2 u1 d2 d1 o ns (scalar t) [] x ge q gl e = goes_at X P _ x (stop no_answer) e refl
     ask_goes A m2 m1 am u2 u1 d2 d1 o ns (scalar t) (a ∷ rest) x ge q gl e =
-        answered_goes _ _ rest rest u2 u1 _ _ x ge (ap (λ t'. record { outside = o; args = ns; answer = Some (wrap t a) } ∷ t') r.core.base.trace) refl (λ m1' k. gl.gets m2 m1 m1' (number (wrap t a)) q am (refl, tt) k) e
+        answered_goes _ _ rest rest u2 u1 _ _ x ge (ap (λ t'. record { outside = o; args = ns; answer = Some (wrap t a) } ∷ t') r.core.base.trace) refl (λ m1' k. gl.gets m2 m1 m1' (number (wrap t a)) q am (refl, tt) refl k) e
     ask_goes A m2 m1 am u2 u1 d2 d1 o ns t answers x ge q gl e =
-        answered_goes _ _ answers answers u2 u1 _ _ x ge (ap (λ t'. record { outside = o; args = ns; answer = None } ∷ t') r.core.base.trace) refl (λ m1' k. gl.gets m2 m1 m1' nil q am (tt, tt) k) e
+        answered_goes _ _ answers answers u2 u1 _ _ x ge (ap (λ t'. record { outside = o; args = ns; answer = None } ∷ t') r.core.base.trace) refl (λ m1' k. gl.gets m2 m1 m1' nil q am (tt, tt) refl k) e
 
     below_this : (A : Memory → Type 0) (m2 m1 : Memory) → A m1 → (u2 u1 : ℕ) (d2 d1 : Dest) → Q m2 m1 → GoalIf A d2 d1 u2 u1 → Gentle D G s1.top.frame m1 s1.memory → Below X P j (Some d2) (Some d1) s2.next s1.next (to_block u2 s2.top ∷ s2.callers) (to_block u1 s1.top ∷ s1.callers) m2 m1
     below_this A m2 m1 am u2 u1 d2 d1 q gl ge = inr (to_block u1 s1.top, gs, ds, ap (λ cs. to_block u1 s1.top ∷ cs) split, r.core.base.top1, r.core.base.top2, low_at (to_block u1 s1.top) refl, gl.waits m2 m1 q am, below_at m2 m1 (to_block u2 s2.top) (to_block u1 s1.top) refl refl refl refl (left m2 m1 q) ge)
@@ -199,7 +200,7 @@ module _ (X : Change) (P : Pass) (V : Valids X) (Inv : State → Type 0) (laws :
           let (v, e1, k1) = bind_some e in
           let (w, g1, hv) = h.1 v e1 in
           goes_by X P _ _ x (some_bind _ g1 (ap (λ i. return_to D s2 (close_frame s2.memory i) s2.top.dest s2.callers w) frame2))
-          (return_goes X P V Inv laws n s2 s1 r only none (alone h.0) bo eb v w x hv (ap (λ i. return_to D s1 (close_frame s1.memory i) s1.top.dest s1.callers v) (sym frame1) ∙ k1) fl ge)
+          (return_goes X P V Inv laws n s2 s1 r only none (alone h.0) bo eb v w x hv (read_at_whole s1.memory (local_addr S.source.frame 0) v e1) (ap (λ i. return_to D s1 (close_frame s1.memory i) s1.top.dest s1.callers v) (sym frame1) ∙ k1) fl ge)
       step_if_goes Unreachable u x few h e fl ge = absurd (grind arith)
       step_if_goes (Call p g os u1) (Call p' g' ps u2) x few (hg, ho, hd) e fl ge =
           let (d1, e1, k1) = bind_some e in

@@ -22,7 +22,12 @@
 //! Where the new body does what the old one did, at places that stand for each other, a pass shows no more than the record `Mirrors`
 //! (`proofs/Mirror.antt`): the home of each local that is kept, which place stands for which, and that both have the same text there, or the
 //! source has a goto or storage that goes. `pass` of that file and `laws` of `proofs/MirrorSteps.antt` are then its `Pass` and its `Laws`.
-//! `cfg_simplify` and `trim_locals` are such passes. Any other one takes the steps by which these two files show it:
+//! `cfg_simplify` and `trim_locals` are such passes.
+//!
+//! Where the new body keeps each local, and lends the same ones from the start, a pass says the rest in two records (`proofs/EachLocal.antt`): `Words`,
+//! what it knows of a frame that runs and of one that waits, and `Lasting`, that this begins, lasts and comes back. `pass` and `frames` of that file are
+//! its `Pass` and its `FrameLaws`, and `Moment` (`proofs/Moment.antt`) is what both frames at work have, so only steps 1 and 6 are left.
+//! `const_rewrite` and `jump_threading` are such passes. Any other one takes the steps by which these files show it:
 //!
 //! 1. **Say what a running frame is**, `own n j c2 c1 gs m2 m1`, with memories `m2`, `m1` of target and source: where both controls stand, and what
 //!    is known of values *beside* what `lent` (here `j`) relates. There `Stand` says: both in `f`, at places that stand for each other; `j` maps
@@ -54,7 +59,8 @@
 //! - Memories: `specs/Leaves.antt`, `proofs/Leaves.antt`, `proofs/Opens.antt` (what steps leave), `proofs/Near.antt` (a ready `Q`),
 //!   `proofs/Living.antt` (frames of which some locals live), `specs/Mild.antt`, `proofs/Mild.antt` (what steps may do to units of drop below them).
 //! - Frames: `specs/Frames.antt`, `proofs/Single.antt` (one frame for one), `proofs/SameLocals.antt`, `proofs/Own.antt`, `proofs/Visits.antt` (drops of
-//!   any frame), `proofs/Running.antt` (the frames at work), `proofs/Mirror.antt` and `proofs/MirrorSteps.antt` (a body that mirrors another one).
+//!   any frame), `proofs/Running.antt` (the frames at work), `proofs/Mirror.antt` and `proofs/MirrorSteps.antt` (a body that mirrors another one),
+//!   `proofs/EachLocal.antt` and `proofs/Moment.antt` (a body that keeps each local).
 //! - Runs: `specs/Pass.antt`, `proofs/Stacks.antt`, `proofs/Enter.antt`, `proofs/Drops.antt`, `proofs/Returns.antt`, `proofs/Others.antt` (steps of
 //!   all other functions), `proofs/BodyLaw.antt`; valid crates: `proofs/Rules.antt`, `proofs/Needs.antt`, `proofs/Replaced.antt`.
 #![tactic(auto)]

@@ -203,6 +203,14 @@ pub write_other : (m : Memory) (a : Addr) (v : Value) (f x : ℕ) → (f ≡ a.f
 unfolding write
 write_other m a v f x ne = change_local_other m a.frame a.local f x (put a.path v) ne
 
+-- the same write to memories that agree at a local
+pub write_alike : (m m' : Memory) (a : Addr) (v : Value) (f x : ℕ) → local_at m' f x ≡ local_at m f x → local_at (write m' a v) f x ≡ local_at (write m a v) f x
+write_alike m m' a v f x e = go (root_or_not a f x)
+  where
+    go : RootOf a f x ⊎ (f ≡ a.frame → x ≡ a.local → ⊥) → local_at (write m' a v) f x ≡ local_at (write m a v) f x
+    go (inl r) = write_same m' a v f x r ∙ ap (option_map (put a.path v)) e ∙ sym (write_same m a v f x r)
+    go (inr n) = write_other m' a v f x n ∙ e ∙ sym (write_other m a v f x n)
+
 -- what stands after a write stood before it
 pub write_back : (m : Memory) (a : Addr) (v : Value) (f x : ℕ) (u : Value) → local_at (write m a v) f x ≡ Some u → (o : Value) × (local_at m f x ≡ Some o)
 write_back m a v f x u e = go (root_or_not a f x)

@@ -17,7 +17,7 @@ blanks_self : (j : Renaming) (D : List Shape) (ts : List Tree) → ValuesRel j (
 blanks_self j D [] = tt
 blanks_self j D (t ∷ ts) = (blank_rel j D t, blanks_self j D ts)
 
-same_length : (j : Renaming) (vs ws : List Value) → ValuesRel j vs ws → length vs ≡ length ws
+pub same_length : (j : Renaming) (vs ws : List Value) → ValuesRel j vs ws → length vs ≡ length ws
 same_length j [] [] h = refl
 same_length j (v ∷ vs) (w ∷ ws) h = ap suc (same_length j vs ws h.1)
 same_length j [] (w ∷ ws) h = absurd h

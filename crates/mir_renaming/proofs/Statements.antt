@@ -43,6 +43,15 @@ pub blank_rel : (j : Renaming) (D : List Shape) (t : Tree) → ValueRel j (blank
 unfolding blank
 blank_rel j D t = blank_by_rel j (blank_def D (length D)) (blank_def_rel j D (length D)) t
 
+-- a value that is of a variant, and one related to it, which is of the same
+pub variant_is : (i : ℕ) (w : Value) → is_variant i w ≡ true → (u : Value) × (w ≡ variant i u)
+variant_is i (variant n u) q = (u, ap (λ n. variant n u) (eqb-true n i q))
+variant_is i w q = absurd (grind arith)
+
+pub variants_same : (j : Renaming) (i : ℕ) (v w : Value) → ValueRel j v w → is_variant i v ≡ true → is_variant i w ≡ false → ⊥
+variants_same j i (variant n v) (variant n' w) r p q = let z : nat_eq n i ≡ nat_eq n' i = ap (λ x. nat_eq x i) r.0 in grind arith
+variants_same j i v w r p q = grind arith
+
 abbrev FullRel : Renaming → (ℕ → Value → Bool) → Type 0
 FullRel j of_def = (d : ℕ) (v w : Value) → ValueRel j v w → of_def d v ≡ true → of_def d w ≡ true
 
@@ -385,28 +394,17 @@ module _ (D : List Shape) (ts1 ts2 : List Tree) (f1 f2 : ℕ) (j L : Renaming) (
   unfolding write_unless
   set_rel m2 m1 a b v w k fresh h hv l e1 e2 hf hp = go (is_variant k v) (is_variant k w) refl refl
     where
-      both : is_variant k v ≡ true → is_variant k w ≡ false → ⊥
-      both p q = same v w hv p q
-        where
-          same : (v w : Value) → ValueRel j v w → is_variant k v ≡ true → is_variant k w ≡ false → ⊥
-          same (variant i v) (variant i' w) r p q = let z : nat_eq i k ≡ nat_eq i' k = ap (λ n. nat_eq n k) r.0 in grind arith
-          same v w r p q = grind arith
-
-      is_it : (w : Value) → is_variant k w ≡ true → (u : Value) × (w ≡ variant k u)
-      is_it (variant i u) q = (u, ap (λ n. variant n u) (eqb-true i k q))
-      is_it w q = absurd (grind arith)
-
       -- the target's value stays where the source's is written
       stay : is_variant k w ≡ true → Linked j L m2 (write m1 a (variant k fresh))
       stay q =
-          let (u, same) = is_it w q in
+          let (u, same) = variant_is k w q in
           let rel : ValueRel j (variant k fresh) w = subst (λ w. ValueRel j (variant k fresh) w) (sym same) (let z : ValueRel j (variant k fresh) (variant k u) = (refl, hp u same) in z) in
           let l' = write_linked j L m2 m1 a b (variant k fresh) w v l h rel e1 in
           record { apart = l'.apart; mem = record { at = λ f x g y ll u' e. (let (z, f2, r2) = l'.mem.at f x g y ll u' e in (z, sym (write_again m2 b w g y e2) ∙ f2, r2)) } }
 
       go : (p q : Bool) → is_variant k v ≡ p → is_variant k w ≡ q → Linked j L (write_unless q m2 b (variant k fresh)) (write_unless p m1 a (variant k fresh))
       go true true p q = l
-      go true false p q = absurd (both p q)
+      go true false p q = absurd (variants_same j k v w hv p q)
       go false true p q = stay q
       go false false p q = write_linked j L m2 m1 a b (variant k fresh) (variant k fresh) v l h (refl, hf) e1
 

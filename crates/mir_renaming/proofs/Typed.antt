@@ -189,7 +189,7 @@ module _ (C : Code) (valid : ValidCode C) where
       go f x t v g e (inl p) = tys_at E (with_locals G n ts) ts vs x t v h (sym (ap (λ b. if b then slice_get ts x else G f x) p.0) ∙ g) (sym (open_same m n vs x) ∙ ap (λ i. local_at (open_frame m n vs) i x) p.1 ∙ e)
       go f x t v g e (inr p) = has_more E G (with_locals G n ts) (with_up G n ts none) v t (k.at f x t v (sym (ap (λ b. if b then slice_get ts x else G f x) p.0) ∙ g) (sym (open_other m n vs f x p.1) ∙ e))
 
-  close_ty : (G : TypeMap) (m : Memory) (n : ℕ) → MemTy E G m → MemTy E G (close_frame m n)
+  pub close_ty : (G : TypeMap) (m : Memory) (n : ℕ) → MemTy E G m → MemTy E G (close_frame m n)
   close_ty G m n k = record { at = λ f x t v g e. go f x t v g e (same_or_not f n) }
     where
       go : (f x : ℕ) (t : Tree) (v : Value) → G f x ≡ Some t → local_at (close_frame m n) f x ≡ Some v → ((nat_eq f n ≡ true) × (f ≡ n)) ⊎ ((nat_eq f n ≡ false) × (f ≡ n → ⊥)) → HasTy E G t v

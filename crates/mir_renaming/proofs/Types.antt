@@ -25,6 +25,10 @@ use Rattle.mir_renaming.proofs.Memory.{root_or_not, write_same, write_other}
 abbrev pub TypeMap : Type 0
 TypeMap = ℕ → ℕ → Option Tree
 
+-- the map has the types of a frame's locals
+abbrev pub LocalsTy : TypeMap → List Tree → ℕ → Type 0
+LocalsTy G ts f = (x : ℕ) (t : Tree) → slice_get ts x ≡ Some t → G f x ≡ Some t
+
 abbrev pub is_scalar : Tree → Bool
 is_scalar (scalar s) = true
 is_scalar _ = false

@@ -87,6 +87,14 @@ not_and : (a b : Bool) → (not a && b) ≡ true → (a ≡ false) × (b ≡ tru
 not_and true b e = absurd (grind arith)
 not_and false b e = (refl, e)
 
+pub at_path_end : (ps : List Proj) (p : Proj) (v u w : Value) → at_path ps v ≡ Some u → inner p u ≡ Some w → at_path (ps ++ p ∷ []) v ≡ Some w
+at_path_end [] p v u w e f = some_bind _ (subst (λ y. inner p y ≡ Some w) (let k : u ≡ v = grind arith in k) f) refl
+at_path_end (q ∷ ps) p v u w e f = let (x, e1, e2) = bind_some e in some_bind _ e1 (at_path_end ps p x u w e2 f)
+
+pub value_at_further : (m : Memory) (a : Addr) (p : Proj) (u w : Value) → value_at m a ≡ Some u → inner p u ≡ Some w → value_at m (further a p) ≡ Some w
+unfolding value_at
+value_at_further m a p u w e f = let (o, e1, e2) = bind_some e in some_bind _ e1 (at_path_end a.path p o u w e2 f)
+
 module _ (D : List Shape) (G : TypeMap) where
   field_there : (i : ℕ) (us u : Tree) (v : Value) → HasTy D G us v → field_ty us i ≡ Some u → (a b : Tree) → us ≡ more a b → (w : Value) × (part i v ≡ Some w)
   field_there zero us u (cons v vs) h f a b q = (v, refl)
@@ -174,14 +182,6 @@ module _ (D : List Shape) (G : TypeMap) where
       (z, some_bind _ p q)
   at_path_solid (Downcast k ∷ ps) t u v s e h = absurd (grind arith)
   at_path_solid (Deref ∷ ps) t u v s e h = absurd (grind arith)
-
-  at_path_end : (ps : List Proj) (p : Proj) (v u w : Value) → at_path ps v ≡ Some u → inner p u ≡ Some w → at_path (ps ++ p ∷ []) v ≡ Some w
-  at_path_end [] p v u w e f = some_bind _ (subst (λ y. inner p y ≡ Some w) (let k : u ≡ v = grind arith in k) f) refl
-  at_path_end (q ∷ ps) p v u w e f = let (x, e1, e2) = bind_some e in some_bind _ e1 (at_path_end ps p x u w e2 f)
-
-  value_at_further : (m : Memory) (a : Addr) (p : Proj) (u w : Value) → value_at m a ≡ Some u → inner p u ≡ Some w → value_at m (further a p) ≡ Some w
-  unfolding value_at
-  value_at_further m a p u w e f = let (o, e1, e2) = bind_some e in some_bind _ e1 (at_path_end a.path p o u w e2 f)
 
   pub walk_solid : (ps : List Proj) (m : Memory) (a : Addr) (t u : Tree) (v : Value) → solid D (Some t) ps ≡ true → path_ty D t ps ≡ Some u → HasTy D G t v → value_at m a ≡ Some v → (c : Addr) × (walk m a ps ≡ Some c)
   unfolding walk project

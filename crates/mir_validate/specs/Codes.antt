@@ -1,20 +1,17 @@
 -- Forms of the rules in the shape of the code. No public promise rests on these.
 use Rattle.std.specs.Prelude.{ℕ, Bool, true, false, ◌&&◌, ◌||◌, List, [], ◌∷◌, ◌++◌, length, Option, Some, None, is_none}
-use Rattle.std.specs.List.{list_any, list_all}
+use Rattle.std.specs.List.{list_any}
 use Rattle.mir_syntax.specs.declared.body.Place.{Place}
 use Rattle.mir_syntax.specs.declared.body.Operand.{Operand}
-use Rattle.mir_syntax.specs.declared.body.Operand.TheVariants as operand
 use Rattle.mir_syntax.specs.declared.body.BinOp.{BinOp}
 use Rattle.mir_syntax.specs.declared.body.UnOp.{UnOp}
 use Rattle.mir_syntax.specs.declared.body.Rvalue.{Rvalue}
 use Rattle.mir_syntax.specs.declared.body.Rvalue.TheVariants as rvalue
-use Rattle.mir_syntax.specs.declared.body.Stmt.{Stmt}
-use Rattle.mir_syntax.specs.declared.body.Stmt.TheVariants as stmt
 use Rattle.mir_syntax.specs.declared.types.Field.{Field}
 use Rattle.mir_syntax.specs.Tree.{Tree, ref, ref_mut, at_id}
 use Rattle.mir_syntax.specs.Crate.{TypedRvalue, tuple}
-use Rattle.mir_syntax.specs.Shapes.{Shape, place_ty, variant_ty, field_ty, ◌>>=◌}
-use Rattle.mir_syntax.specs.Parts.{rvalue_places, path_formed}
+use Rattle.mir_syntax.specs.Shapes.{Shape, place_ty, ◌>>=◌}
+use Rattle.mir_syntax.specs.Parts.{rvalue_places}
 use Rattle.mir_rules.specs.Same.{same_tree}
 use Rattle.mir_rules.specs.BodyRules.{differ}
 use Rattle.mir_rules.specs.Broken.{if_broken, rvalue_broken}

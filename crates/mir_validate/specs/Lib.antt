@@ -3,3 +3,4 @@ pub mod Codes
 pub mod Terms
 pub mod Walk
 pub mod Complete
+pub mod Checked

@@ -7,7 +7,7 @@ ghost use Rattle.mir_syntax.specs.Crate.{crate_of};
 ghost use Rattle.mir_syntax.specs.Drops.{KnowsDrops};
 ghost use Rattle.mir_rules.specs.Formed.{is_formed};
 ghost use Rattle.mir_rules.specs.Faults.{lines_fit, first_rule, first_limit};
-ghost use Rattle.mir_rules.specs.Valid as rules;
+ghost use Rattle.mir_validate.specs.Checked.{IsChecked};
 ghost use Rattle.mir_validate.specs.Complete.{Grown, Has, mutable};
 ghost use Rattle.mir_validate.specs.declared.verdict.Fault.TheVariants as fault;
 
@@ -15,11 +15,41 @@ use crate::judge::judge;
 use mir_limits::limit_fault;
 use mir_syntax::{Lines, OutOfMemory, Program};
 use std::alloc::Global;
+use std::marker::Model;
 
-/// A program that breaks no rule and passes no limit. Its table has all types that are asked for later, and it knows its drops.
+/// A program that breaks no rule and passes no limit, and knows its drops. Only `validate` makes one.
 #[derive(Drop)]
 pub struct Valid {
-    pub program: Program,
+    program: Program,
+}
+
+impl Model for Valid {
+    ghost use Rattle.mir_syntax.specs.declared.program.Program.{Program};
+    ghost use Rattle.mir_validate.specs.Checked.{IsChecked};
+
+    ghost Value = { Program };
+
+    ghost view = { λ valid. valid.program };
+
+    ghost invariant = { λ valid. IsChecked valid.program };
+}
+
+impl Valid {
+    /// The program.
+    pub fn program(&self) -> &Program
+        ensures same { result.now ≡ self.now }
+        ensures checked { IsChecked result.now }
+    {
+        &self.program
+    }
+
+    /// The program, from now on by itself.
+    pub fn into_program(self) -> Program
+        ensures same { result ≡ self }
+        ensures checked { IsChecked result }
+    {
+        self.program
+    }
 }
 
 /// A program that is refused, and why.
@@ -91,28 +121,25 @@ fn find_fault(alloc: Global, program: &mut Program, lines: &Lines) -> Result<(),
 }
 
 /// Tests all rules and limits. The program that is handed back names the same crate, and its earlier ids keep their types; a valid one has in its
-/// table `bool`, `isize`, `()` and `&mut` of each type that it had, and knows its drops.
+/// table `bool`, `isize`, `()` and `&mut` of each type that it had.
 pub fn validate(alloc: Global, mut program: Program, lines: &Lines) -> Result<Valid, Refused>
     requires ids { IdsInTable program }
     requires formed { IsTrue (is_formed (crate_of program)) }
     requires fit { IsTrue (lines_fit lines.now (crate_of program)) }
-    ensures same_ok { IfOk result (λ valid. crate_of valid.program ≡ crate_of program) }
+    ensures same_ok { IfOk result (λ valid. crate_of valid ≡ crate_of program) }
     ensures same_err { IfErr result (λ refused. crate_of refused.program ≡ crate_of program) }
-    ensures kept_ok { IfOk result (λ valid. Grown program valid.program) }
+    ensures kept_ok { IfOk result (λ valid. Grown program valid) }
     ensures kept_err { IfErr result (λ refused. Grown program refused.program) }
-    ensures valid { IfOk result (λ valid. rules.Valid (crate_of valid.program)) }
-    ensures within { IfOk result (λ valid. rules.Within (crate_of valid.program)) }
+    ensures checked { IfOk result IsChecked }
     ensures no_rule { IfOk result (λ _. first_rule lines.now (crate_of program) ≡ None) }
     ensures no_limit { IfOk result (λ _. first_limit lines.now (crate_of program) ≡ None) }
     ensures rule { IfErr result (λ refused. (code line : ℕ) → refused.fault ≡ fault.Rule code line → first_rule lines.now (crate_of program) ≡ Some (line, code)) }
     ensures limit { IfErr result (λ refused. (code line : ℕ) → refused.fault ≡ fault.Limit code line → (first_rule lines.now (crate_of program) ≡ None) × (first_limit lines.now (crate_of program) ≡ Some (code, line))) }
-    ensures few { IfOk result (λ valid. length valid.program.types ≤ 2 * length program.types + 6) }
-    ensures drops { IfOk result (λ valid. KnowsDrops valid.program) }
-    ensures bool { IfOk result (λ valid. Has valid.program.types (ty.Scalar scalar_ty.Bool)) }
-    ensures isize { IfOk result (λ valid. Has valid.program.types (ty.Scalar (scalar_ty.Int int_ty.Isize))) }
-    ensures unit { IfOk result (λ valid. Has valid.program.types (ty.Tuple [])) }
-    ensures references { IfOk result (λ valid. (k : ℕ) → k < length program.types → Has valid.program.types (mutable k)) }
-    ensures ids_ok { IfOk result (λ valid. IdsInTable valid.program) }
+    ensures few { IfOk result (λ valid. length valid.types ≤ 2 * length program.types + 6) }
+    ensures bool { IfOk result (λ valid. Has valid.types (ty.Scalar scalar_ty.Bool)) }
+    ensures isize { IfOk result (λ valid. Has valid.types (ty.Scalar (scalar_ty.Int int_ty.Isize))) }
+    ensures unit { IfOk result (λ valid. Has valid.types (ty.Tuple [])) }
+    ensures references { IfOk result (λ valid. (k : ℕ) → k < length program.types → Has valid.types (mutable k)) }
     ensures ids_err { IfErr result (λ refused. IdsInTable refused.program) }
 {
     match find_fault(alloc, &mut program, lines) {

@@ -51,12 +51,12 @@ step_there at.Built word e = (0, refl)
 step_there at.Promoted word e = (1, refl)
 step_there at.Elaborated word e = absurd cc
 step_there at.Spliced word e = absurd cc
-step_there at.Split word e = absurd cc
-step_there at.Folded word e = (2, refl)
-step_there at.Threaded word e = absurd cc
-step_there at.Merged word e = absurd cc
-step_there at.Pruned word e = (4, refl)
-step_there at.Optimised word e = (6, refl)
+step_there at.Split word e = (2, refl)
+step_there at.Folded word e = (3, refl)
+step_there at.Threaded word e = (5, refl)
+step_there at.Merged word e = (7, refl)
+step_there at.Pruned word e = (8, refl)
+step_there at.Optimised word e = (10, refl)
 
 pub asks_steps : (words : List (List ℕ)) (command : Command) → Says words command → AsksSteps command
 asks_steps words Check says = tt

@@ -67,7 +67,7 @@ fn judged(alloc: Global, read: Read) -> Result<Accepted, Refusal>
     let lines = read.lines;
     match validate(alloc, read.program, &lines) {
         Ok(valid) => Ok(Accepted {
-            program: valid.program,
+            program: valid.into_program(),
             lines,
         }),
         Err(refused) => match refused.fault {

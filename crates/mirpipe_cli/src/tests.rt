@@ -112,7 +112,7 @@ fn answers_by_words_and_input(rt: HostRuntime) -> Result<(), Fail> {
             none,
             b"S16 line 21\n".as_slice(),
         ),
-        ("dump split g", SKIPS, 2, none, b"word 2\n".as_slice()),
+        ("dump halved g", SKIPS, 2, none, b"word 2\n".as_slice()),
     ] {
         let words = words(&rt, asked)?;
         let mut source = PlainSource::new(list(&rt, input)?);

@@ -13,6 +13,7 @@ use Rattle.mir_syntax.specs.declared.body.Block.{Block}
 use Rattle.mir_syntax.specs.declared.body.Body.{Body}
 use Rattle.mir_syntax.specs.Tree.{Tree, at_id}
 use Rattle.mir_syntax.specs.Crate.{TypedBody, TypedFunction, Crate, rvalue_of, stmt_of, block_of, body_of}
+use Rattle.mir_syntax.specs.Shapes.{Shape, shapes_of}
 use Rattle.mir_syntax.specs.Ids.{BodyInTable}
 use Rattle.mir_syntax.proofs.Lists.{map_there}
 use Rattle.mir_syntax.specs.Parts.{path_formed}
@@ -25,8 +26,10 @@ use Rattle.mir_cfg.specs.Paths.{terms_of, Closed}
 use Rattle.cfg_simplify.specs.Simple.{term_of}
 use Rattle.cfg_simplify.proofs.valid.Kept as simple
 use Rattle.dead_store.specs.Rounds.{set_locals, BlockSetsBelow, IsReady}
+use Rattle.sroa_pass.specs.Code.{IsTyped}
+use Rattle.sroa_pass.proofs.equal.Ready as split
 use Rattle.pass_order.specs.Fits.{FitsAt}
-use Rattle.pass_order.proofs.Fits.{as_valid}
+use Rattle.pass_order.proofs.Fits.{as_valid, shapes_fit}
 
 module _ (C : Crate) (f : ℕ) (g : TypedFunction) (trees : List Tree) (body : Body) (h : FitsAt C f g (body_of trees body)) where
   abbrev typed : TypedBody
@@ -53,6 +56,12 @@ module _ (C : Crate) (f : ℕ) (g : TypedFunction) (trees : List Tree) (body : B
   -- each edge leads to a block
   pub closed : Closed (terms_of body)
   closed = subst Closed (map-map term_of (block_of trees) body.blocks) (simple.closed typed (simple.leads C2 typed formed kept))
+
+  -- each place has a type, and a local with fields gets no more values than these
+  pub is_typed : IsTyped (shapes_of C) typed
+  is_typed =
+      subst (λ (D : List Shape). IsTyped D typed) (shapes_fit C f g typed h)
+      (split.is_typed C2 h.valid f (with_body g typed) (holds_body C f typed (as_valid C f g typed h)))
 
   -- ---- locals that are written
 

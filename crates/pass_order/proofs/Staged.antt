@@ -1,5 +1,5 @@
 -- A crate with a body as it is at a stage.
-use Rattle.std.proofs.Common.{◌≡◌, refl, sym, ap, ◌∙◌, subst, ℕ, ◌<◌, List, [], ◌∷◌, map, take, length, get_or, Option, Some, None, Result, Ok, Err, option_map, slice_get}
+use Rattle.std.proofs.Common.{◌≡◌, refl, sym, ap, ◌∙◌, subst, ℕ, ◌<◌, List, map, take, length, get_or, Option, Some, None, Result, Ok, Err, option_map, slice_get}
 use Rattle.std.specs.Prelude.{IfOk}
 use Rattle.std.proofs.lemmas.Option.{slice_get-get_or}
 use Rattle.mir_syntax.specs.declared.body.Body.{Body}
@@ -13,11 +13,10 @@ use Rattle.mir_semantics.specs.Refines.{Refines}
 use Rattle.mir_rules.specs.Drops.{NoDrops}
 use Rattle.mir_rules.specs.Valid.{Valid, Within, at_function}
 use Rattle.pass_order.specs.Passes.{passes, after, after_passes}
-use Rattle.pass_order.specs.declared.passes.Pass.TheVariants.{Clean, Fold, Prune, Trim}
 use Rattle.pass_order.specs.Steps.{pass_of}
 use Rattle.pass_order.specs.Stages.{passes_behind, at_stage}
 use Rattle.pass_order.specs.Fits.{FitsAt}
-use Rattle.pass_order.proofs.Order.{front_keeps}
+use Rattle.pass_order.proofs.Order.{entries, front_keeps}
 use Rattle.pass_order.proofs.Running.{fronts}
 use Rattle.pass_order.proofs.Fits.{as_valid, shapes_fit, fits_after}
 use Rattle.pass_order.proofs.Alone.{blocks_within, locals_within}
@@ -47,8 +46,8 @@ last_stage D b = refl
 
 -- a body that was given by the first entries of the code's list is that at the stage
 pub stage_given : {E : Type 0} (trees : List Tree) (stage : Stage) (n : ℕ) (D : List Shape) (b : TypedBody) (r : Result Body E) → passes_behind stage ≡ Some n
-    → IfOk r (λ left. body_of trees left ≡ after (map pass_of (take n (Clean ∷ Fold ∷ Clean ∷ Prune ∷ Clean ∷ Trim ∷ []))) D b) → IfOk r (λ left. at_stage stage D b ≡ Some (body_of trees left))
-stage_given trees stage n D b (Ok left) e h = stage_reached stage n D b (body_of trees left) e (h ∙ ap (λ ps. after ps D b) (fronts n (Clean ∷ Fold ∷ Clean ∷ Prune ∷ Clean ∷ Trim ∷ [])))
+    → IfOk r (λ left. body_of trees left ≡ after (map pass_of (take n entries)) D b) → IfOk r (λ left. at_stage stage D b ≡ Some (body_of trees left))
+stage_given trees stage n D b (Ok left) e h = stage_reached stage n D b (body_of trees left) e (h ∙ ap (λ ps. after ps D b) (fronts n entries))
 stage_given trees stage n D b (Err x) e h = h
 
 -- ---- the function that is dumped

@@ -4,7 +4,10 @@ use Rattle.mir_syntax.specs.Crate.{TypedBody, Crate}
 use Rattle.mir_syntax.specs.Shapes.{Shape, shapes_of}
 use Rattle.mir_rules.specs.Valid.{with_body}
 use Rattle.cfg_simplify.specs.Simple.{simple}
+use Rattle.sroa_pass.specs.Split.{split}
 use Rattle.const_rewrite.specs.Folded.{folded}
+use Rattle.jump_threading.specs.Threaded.{threaded}
+use Rattle.dest_prop.specs.Merged.{merged}
 use Rattle.dead_store.specs.Pruned.{pruned}
 use Rattle.trim_locals.specs.Trimmed.{trimmed}
 
@@ -12,10 +15,10 @@ use Rattle.trim_locals.specs.Trimmed.{trimmed}
 abbrev pub BodyPass : Type 0
 BodyPass = List Shape → TypedBody → TypedBody
 
--- what is known is folded and what nobody reads goes, the control flow being cleaned before, between and after; then locals that are left without
--- use go
+-- tuples and structs that stay in the body are split, what is known is folded, jumps to a known switch are threaded, locals that are copied into one another are merged and what nobody reads goes, the
+-- control flow being cleaned before, between and after; then locals that are left without use go
 abbrev pub passes : List BodyPass
-passes = (λ D. simple) ∷ folded ∷ (λ D. simple) ∷ pruned ∷ (λ D. simple) ∷ (λ D. trimmed) ∷ []
+passes = (λ D. simple) ∷ split ∷ folded ∷ (λ D. simple) ∷ threaded ∷ (λ D. simple) ∷ merged ∷ pruned ∷ (λ D. simple) ∷ (λ D. trimmed) ∷ []
 
 -- a body after some passes, one after another
 abbrev pub after : List BodyPass → BodyPass

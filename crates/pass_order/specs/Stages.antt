@@ -12,12 +12,12 @@ passes_behind at.Built = Some 0
 passes_behind at.Promoted = Some 1
 passes_behind at.Elaborated = None
 passes_behind at.Spliced = None
-passes_behind at.Split = None
-passes_behind at.Folded = Some 2
-passes_behind at.Threaded = None
-passes_behind at.Merged = None
-passes_behind at.Pruned = Some 4
-passes_behind at.Optimised = Some 6
+passes_behind at.Split = Some 2
+passes_behind at.Folded = Some 3
+passes_behind at.Threaded = Some 5
+passes_behind at.Merged = Some 7
+passes_behind at.Pruned = Some 8
+passes_behind at.Optimised = Some 10
 
 -- the step of the stage is there
 abbrev pub HasStep : Stage → Type 0

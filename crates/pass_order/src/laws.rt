@@ -1,5 +1,5 @@
 //! The laws of the passes in their order. The function here runs nothing; its contract is the law.
-ghost use Rattle.std.specs.Prelude.{◌≡◌, ◌↔◌, ℕ, List, Some, slice_get};
+ghost use Rattle.std.specs.Prelude.{◌≡◌, ◌↔◌, ℕ, List, take, Some, slice_get};
 ghost use Rattle.mir_syntax.specs.declared.stage.Stage.{Stage};
 ghost use Rattle.mir_syntax.specs.declared.stage.Stage.TheVariants as at;
 ghost use Rattle.mir_syntax.specs.Crate.{TypedBody, TypedFunction, Crate};
@@ -9,10 +9,9 @@ ghost use Rattle.mir_rules.specs.Calls.{AddsNoCall};
 ghost use Rattle.mir_rules.specs.Drops.{NoDrops};
 ghost use Rattle.mir_rules.specs.Valid.{Valid, Within, at_function};
 ghost use Rattle.cfg_simplify.specs.Simple.{simple};
-ghost use Rattle.const_rewrite.specs.Folded.{folded};
 ghost use Rattle.dead_store.specs.Pruned.{IsPruned};
 ghost use Rattle.trim_locals.specs.Trimmed.{trimmed};
-ghost use Rattle.pass_order.specs.Passes.{after_passes, optimised};
+ghost use Rattle.pass_order.specs.Passes.{passes, after, after_passes, optimised};
 ghost use Rattle.pass_order.specs.Stages.{at_stage};
 
 /// A valid crate within the limits stays valid with each of its bodies after the passes, each of which calls only what it called; and where none
@@ -32,7 +31,7 @@ pub fn staged_refines()
     ensures last { (D : List Shape) (b : TypedBody) → at_stage at.Optimised D b ≡ Some (after_passes D b) }
 {}
 
-/// A body has one result: it is cleaned, folded, cleaned, pruned by the definition of paths, cleaned again and trimmed.
+/// A body has one result: after the passes before pruning it is pruned by the definition of paths, cleaned again and trimmed.
 pub fn one_result()
-    ensures { (D : List Shape) (b c : TypedBody) → ((left : TypedBody) × IsPruned D (simple (folded D (simple b))) left × (c ≡ trimmed (simple left))) ↔ c ≡ after_passes D b }
+    ensures { (D : List Shape) (b c : TypedBody) → ((left : TypedBody) × IsPruned D (after (take 7 passes) D b) left × (c ≡ trimmed (simple left))) ↔ c ≡ after_passes D b }
 {}

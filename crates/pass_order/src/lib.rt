@@ -1,8 +1,10 @@
 //! The order of the passes: what the bodies of a crate go through.
 //!
-//! The passes are a list (`passes` of `specs/Passes.antt`): `simple`, `folded`, `simple`, `pruned`, `simple`, `trimmed`. `after_passes` takes a body through them,
-//! and `optimised` each body of a program. Their contracts say that the result is the function of these names in `specs/Passes.antt`, that ids
-//! in the program's table stay there, and that the definitions, the outside functions and the headers stay. Bodies are moved and never copied.
+//! The passes are a list (`passes` of `specs/Passes.antt`): `simple`, `split`, `folded`, `simple`, `threaded`, `simple`, `merged`, `pruned`, `simple`,
+//! `trimmed`.
+//! `after_passes` takes a body through them, and `optimised` each body of a program. Their contracts say that the result is the function of these
+//! names in `specs/Passes.antt`, that ids in the program's table stay there, and that the definitions, the outside functions and the headers stay.
+//! Bodies are moved and never copied.
 //!
 //! `dumped` gives a function with its body at a stage (`at_stage` of `specs/Stages.antt`): after the passes up to the step that the stage is named for.
 //! `passes_behind` tells whether the step is there.

@@ -11,7 +11,10 @@ ghost use Rattle.pass_order.specs.Fits.{FitsAt};
 use cfg_simplify::simple;
 use const_rewrite::folded;
 use dead_store::pruned;
+use dest_prop::merged;
+use jump_threading::threaded;
 use mir_syntax::{Body, OutOfMemory, Program};
+use sroa_pass::split;
 use std::alloc::Global;
 use trim_locals::trimmed;
 
@@ -20,8 +23,14 @@ use trim_locals::trimmed;
 pub(crate) enum Pass {
     /// Its control flow is cleaned.
     Clean,
+    /// Tuples and structs that stay in the body become locals of their own.
+    Split,
     /// What is known becomes constants and jumps.
     Fold,
+    /// Jumps to a known switch go on to its target.
+    Thread,
+    /// Locals that are copied into one another share one.
+    Merge,
     /// What nobody reads goes.
     Prune,
     /// Locals that are left without use go.
@@ -29,10 +38,14 @@ pub(crate) enum Pass {
 }
 
 /// The passes in their order.
-pub(crate) const PASSES: [Pass; 6] = [
+pub(crate) const PASSES: [Pass; 10] = [
     Pass::Clean,
+    Pass::Split,
     Pass::Fold,
     Pass::Clean,
+    Pass::Thread,
+    Pass::Clean,
+    Pass::Merge,
     Pass::Prune,
     Pass::Clean,
     Pass::Trim,
@@ -50,7 +63,10 @@ impl Pass {
     {
         match self {
             Pass::Clean => simple(alloc, program, body),
+            Pass::Split => split(alloc, program, body),
             Pass::Fold => folded(alloc, program, body),
+            Pass::Thread => threaded(alloc, program, body),
+            Pass::Merge => merged(alloc, program, body),
             Pass::Prune => pruned(alloc, program, body),
             Pass::Trim => trimmed(alloc, program, body),
         }

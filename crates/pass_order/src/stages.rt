@@ -20,10 +20,13 @@ pub fn passes_behind(stage: Stage) -> Option<usize>
     match stage {
         Stage::Built => Some(0),
         Stage::Promoted => Some(1),
-        Stage::Folded => Some(2),
-        Stage::Pruned => Some(4),
-        Stage::Optimised => Some(6),
-        Stage::Elaborated | Stage::Spliced | Stage::Split | Stage::Threaded | Stage::Merged => None,
+        Stage::Split => Some(2),
+        Stage::Folded => Some(3),
+        Stage::Threaded => Some(5),
+        Stage::Merged => Some(7),
+        Stage::Pruned => Some(8),
+        Stage::Optimised => Some(10),
+        Stage::Elaborated | Stage::Spliced => None,
     }
 }
 

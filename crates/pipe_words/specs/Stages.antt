@@ -9,10 +9,10 @@ stage_word at.Built = Some (codes "built")
 stage_word at.Promoted = Some (codes "promoted")
 stage_word at.Elaborated = None
 stage_word at.Spliced = None
-stage_word at.Split = None
+stage_word at.Split = Some (codes "split")
 stage_word at.Folded = Some (codes "folded")
-stage_word at.Threaded = None
-stage_word at.Merged = None
+stage_word at.Threaded = Some (codes "threaded")
+stage_word at.Merged = Some (codes "merged")
 stage_word at.Pruned = Some (codes "pruned")
 stage_word at.Optimised = Some (codes "optimised")
 

@@ -20,8 +20,14 @@ pub fn read_stage(word: &[u8]) -> Option<Stage>
         Some(Stage::Built)
     } else if is_text(word, b"promoted") {
         Some(Stage::Promoted)
+    } else if is_text(word, b"split") {
+        Some(Stage::Split)
     } else if is_text(word, b"folded") {
         Some(Stage::Folded)
+    } else if is_text(word, b"threaded") {
+        Some(Stage::Threaded)
+    } else if is_text(word, b"merged") {
+        Some(Stage::Merged)
     } else if is_text(word, b"pruned") {
         Some(Stage::Pruned)
     } else if is_text(word, b"optimised") {

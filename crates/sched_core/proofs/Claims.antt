@@ -5,7 +5,7 @@ use Rattle.sched_core.specs.declared.Status.{Status}
 use Rattle.sched_core.specs.declared.Status.TheVariants.{Claimed, Done, Failed, Stolen}
 use Rattle.sched_core.specs.Plan.{Plan, has, Reads}
 use Rattle.sched_core.specs.State.{State, Entry, upd, queries_of, next_of_top, settled, done, untouched, borrowers, MayClaim, claimed_by}
-use Rattle.sched_core.specs.Good.{Good, IsOnce, Chained, GivenSeen, Borrows}
+use Rattle.sched_core.specs.Good.{Good, IsOnce, Chained, GivenSeen, Borrows, ReadersSettled, StolenFor}
 use Rattle.sched_core.proofs.Upd.{upd_other, upd_tells, upd_at}
 use Rattle.sched_core.proofs.Lists.{bool_tells, next_stands}
 use Rattle.sched_core.proofs.Parts.{borrows_at, waits_else, other_set, nothing_at}
@@ -63,10 +63,10 @@ module _ (p : Plan) (c : State) (w q : ℕ) (g : Good p c) (m : MayClaim p c w q
       (upd_other c.stack w new v (λ e. free s (subst (λ (x : ℕ). Borrows p c x s) e o)))
       o.seen
 
-  readers : (s r : ℕ) → status s ≡ Stolen → Reads p r s → settled (status r) ≡ true
+  readers : ReadersSettled p status
   readers s r h k = grind (arith, upd_tells c.status q (Claimed w) s, upd_tells c.status q (Claimed w) r, λ (e : c.status s ≡ Stolen). g.readers s r e k, m.free)
 
-  stolen_for : (s : ℕ) → status s ≡ Stolen → (r : ℕ) × (p.steals r ≡ Some s) × (untouched (status r) ≡ false)
+  stolen_for : StolenFor p status
   stolen_for s h =
       let old : c.status s ≡ Stolen = grind (arith, upd_tells c.status q (Claimed w) s) in
       let t = g.stolen_for s old in

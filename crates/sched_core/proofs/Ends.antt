@@ -5,7 +5,7 @@ use Rattle.sched_core.specs.declared.Status.{Status}
 use Rattle.sched_core.specs.declared.Status.TheVariants.{Claimed, Done, Failed, Stolen}
 use Rattle.sched_core.specs.Plan.{Plan, IsLawful, has, Reads}
 use Rattle.sched_core.specs.State.{State, Entry, upd, queries_of, settled, done, untouched, borrowers, below_top, MayPublish, MayFail, published_by, failed_by}
-use Rattle.sched_core.specs.Good.{Good, IsOnce, Chained, GivenSeen, Borrows}
+use Rattle.sched_core.specs.Good.{Good, IsOnce, Chained, GivenSeen, Borrows, ReadersSettled, StolenFor}
 use Rattle.sched_core.proofs.Upd.{upd_same, upd_other, upd_tells, upd_at}
 use Rattle.sched_core.proofs.Lists.{borrowers_none}
 use Rattle.sched_core.proofs.Parts.{borrows_at, waits_else, more, more_tells, more_keeps, given_more, other_set, nothing_at}
@@ -108,10 +108,10 @@ module _ (p : Plan) (c : State) (w : ℕ) (e : Entry) (es : List Entry) (st : St
   stolen_less : (t : ℕ) → status t ≡ Stolen → c.status t ≡ Stolen
   stolen_less t h = elim (upd_tells c.status q st t) [ inl k ↦ absurd (unstolen (sym k.1 ∙ h)) | inr k ↦ sym k.1 ∙ h ]
 
-  pub readers : (t r : ℕ) → status t ≡ Stolen → Reads p r t → settled (status r) ≡ true
+  pub readers : ReadersSettled p status
   readers t r h k = settled_more r (g.readers t r (stolen_less t h) k)
 
-  pub stolen_for : (t : ℕ) → status t ≡ Stolen → (r : ℕ) × (p.steals r ≡ Some t) × (untouched (status r) ≡ false)
+  pub stolen_for : StolenFor p status
   stolen_for t h = let o = g.stolen_for t (stolen_less t h) in (o.0, o.1, (let k = o.2 in grind (arith, upd_tells c.status q st o.0)))
 
   pub taken : (settled st ≡ true → (s : ℕ) → p.steals q ≡ Some s → c.status s ≡ Stolen) → (r t : ℕ) → settled (status r) ≡ true → p.steals r ≡ Some t → status t ≡ Stolen

@@ -11,7 +11,7 @@ use Rattle.sched_core.specs.Plan.{Plan, next_need}
 use Rattle.sched_core.specs.State.{State, Entry, is, next, untouched, WaitFits, Legal, all_seen, is_stolen, done}
 use Rattle.sched_core.specs.Table.{or_else, unless, is_root, is_empty, claimed_here, is_free, within, holds_none, taken, why, why_borrow, why_steal, why_publish, why_fail, why_draw}
 use Rattle.sched_core.proofs.Lists.{bool_tells, nat_cases}
-use Rattle.sched_core.proofs.Turns.{is_tells, is_here, untouched_tells, stolen_tells, all_seen_tells, all_seen_from}
+use Rattle.sched_core.proofs.Turns.{and_tells, is_tells, is_here, untouched_tells, stolen_tells, all_seen_tells, all_seen_from}
 use Rattle.std.proofs.lemmas.Bool.Decides.{nat_tests}
 
 or_none : (a b : Option Why) → or_else a b ≡ None → (a ≡ None) × (b ≡ None)
@@ -62,10 +62,6 @@ empty_tells (e ∷ es) h = absurd (cc)
 or_tells : (a b : Bool) → (a || b) ≡ true → (a ≡ true) ⊎ (b ≡ true)
 or_tells true b h = inl refl
 or_tells false b h = inr h
-
-and_tells : (a b : Bool) → (a && b) ≡ true → (a ≡ true) × (b ≡ true)
-and_tells true b h = (refl, h)
-and_tells false b h = absurd (cc)
 
 flip_tells : (b : Bool) → if◌then◌else◌ {A = Bool} b false true ≡ true → b ≡ false
 flip_tells true h = absurd (cc)

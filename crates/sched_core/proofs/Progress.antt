@@ -5,7 +5,7 @@ use Rattle.sched_core.specs.declared.Status.{Status}
 use Rattle.sched_core.specs.declared.Status.TheVariants.{Unclaimed, Claimed, Done, Failed, Stolen}
 use Rattle.sched_core.specs.declared.Event.{Event}
 use Rattle.sched_core.specs.declared.Event.TheVariants.{Claim, Look, Borrow, Release, Steal, Publish, Draw}
-use Rattle.sched_core.specs.Plan.{Plan, IsLawful, has, next_need}
+use Rattle.sched_core.specs.Plan.{Plan, IsLawful, next_need}
 use Rattle.sched_core.specs.State.{State, Entry, next_of_top, settled, done, untouched, AllSeen, all_seen, is_stolen}
 use Rattle.sched_core.specs.Good.{Good, GivenSeen}
 use Rattle.sched_core.specs.Turn.{drawing, turn_empty, ending, turn_top, turn_free, turn_of, turn, Useful}

@@ -1,12 +1,12 @@
 -- In a good core, whether all needs are seen shows in the next need.
-use Rattle.std.proofs.Common.{◌≡◌, ℕ, Bool, true, false, List, [], ◌∷◌, ◌++◌, inl, inr, refl, sym, subst, ap, ◌∙◌, ◌&&◌}
+use Rattle.std.proofs.Common.{◌≡◌, ℕ, true, false, List, [], ◌∷◌, ◌++◌, inl, inr, refl, sym, subst, ap, ◌∙◌, ◌&&◌}
 use Rattle.std.specs.Prelude.{Option, Some, None}
 use Rattle.sched_core.specs.Plan.{Plan, IsLawful, has, next_need}
 use Rattle.sched_core.specs.State.{State, Entry, is, AllSeen, all_seen}
 use Rattle.sched_core.specs.Good.{Good, GivenSeen}
 use Rattle.sched_core.specs.Turn.{ripe}
 use Rattle.sched_core.proofs.Lists.{bool_tells, next_in, next_out, next_none, next_last, has_snoc, stolen_in}
-use Rattle.sched_core.proofs.Turns.{is_tells, is_here, all_seen_from, all_seen_tells}
+use Rattle.sched_core.proofs.Turns.{and_tells, is_tells, is_here, all_seen_from, all_seen_tells}
 
 module _ (p : Plan) (c : State) (l : IsLawful p) (g : Good p c) (v : ℕ) (e : Entry) (es : List Entry) (top : c.stack v ≡ e ∷ es) where
   none_left : next_need (p.needs e.0) e.1 ≡ None → AllSeen p c v e
@@ -37,13 +37,9 @@ module _ (p : Plan) (c : State) (l : IsLawful p) (g : Good p c) (v : ℕ) (e : E
   by : (o : Option ℕ) → next_need (p.needs e.0) e.1 ≡ o → all_seen p c v e ≡ ripe o (p.steals e.0) (c.seen v)
   by None n = all_seen_from p c v e (none_left n)
   by (Some q) n = elim (bool_tells (is (p.steals e.0) q && c.seen v q)) [
-    | inl t ↦ (let a = and_both (is (p.steals e.0) q) (c.seen v q) t in all_seen_from p c v e (last_left q n (is_tells (p.steals e.0) q a.0) a.1) ∙ sym t)
+    | inl t ↦ (let a = and_tells (is (p.steals e.0) q) (c.seen v q) t in all_seen_from p c v e (last_left q n (is_tells (p.steals e.0) q a.0) a.1) ∙ sym t)
     | inr f ↦ not_all q n f ∙ sym f
   ]
-    where
-      and_both : (a b : Bool) → (a && b) ≡ true → (a ≡ true) × (b ≡ true)
-      and_both true b h = (refl, h)
-      and_both false b h = absurd (cc)
 
   pub ripe_is : all_seen p c v e ≡ ripe (next_need (p.needs e.0) e.1) (p.steals e.0) (c.seen v)
   ripe_is = by (next_need (p.needs e.0) e.1) refl

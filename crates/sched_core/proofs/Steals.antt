@@ -5,7 +5,7 @@ use Rattle.sched_core.specs.declared.Status.{Status}
 use Rattle.sched_core.specs.declared.Status.TheVariants.{Claimed, Done, Failed, Stolen}
 use Rattle.sched_core.specs.Plan.{Plan, IsLawful, has, Reads}
 use Rattle.sched_core.specs.State.{State, Entry, upd, queries_of, settled, done, untouched, borrowers, AllSeen, MaySteal, stolen_by}
-use Rattle.sched_core.specs.Good.{Good, GivenSeen, Borrows}
+use Rattle.sched_core.specs.Good.{Good, GivenSeen, Borrows, ReadersSettled, StolenFor}
 use Rattle.sched_core.proofs.Upd.{upd_other, upd_tells}
 use Rattle.sched_core.proofs.Lists.{borrowers_some, has_first}
 use Rattle.sched_core.proofs.Parts.{borrows_at, waits_same, other_set, nothing_at}
@@ -54,13 +54,13 @@ module _ (p : Plan) (c : State) (w s : ℕ) (e : Entry) (es : List Entry) (l : I
       let ne : t ≢ s = λ k. free v (subst (λ (x : ℕ). Borrows p c v x) k o) (subst (λ (x : ℕ). c.borrow v ≡ Some x) k h) in
       borrows_at p c (stolen_by c w s) v t o.count o refl (upd_other c.status s Stolen t ne ∙ o.done) refl o.seen
 
-  readers : (t r : ℕ) → status t ≡ Stolen → Reads p r t → settled (status r) ≡ true
+  readers : ReadersSettled p status
   readers t r h k = elim (upd_tells c.status s Stolen t) [
     | inl i ↦ settled_more r (readers_settled p c l g w s r e es m.top m.steals m.all_seen (subst (λ (x : ℕ). Reads p r x) i.0 k))
     | inr i ↦ settled_more r (g.readers t r (sym i.1 ∙ h) k)
   ]
 
-  stolen_for : (t : ℕ) → status t ≡ Stolen → (r : ℕ) × (p.steals r ≡ Some t) × (untouched (status r) ≡ false)
+  stolen_for : StolenFor p status
   stolen_for t h = elim (upd_tells c.status s Stolen t) [
     | inl i ↦ (e.0, subst (λ (x : ℕ). p.steals e.0 ≡ Some x) (sym i.0) m.steals, (let k = top_claimed p c l g w e es m.top in grind (arith, upd_tells c.status s Stolen e.0)))
     | inr i ↦ let o = g.stolen_for t (sym i.1 ∙ h) in (o.0, o.1, (let k = o.2 in grind (arith, upd_tells c.status s Stolen o.0)))

@@ -58,9 +58,8 @@ all_given_from given steals (m ∷ ms) h =
     here : has m (m ∷ ms) ≡ true
     here = grind (arith, nat_tests)
 
-and_tells : (a b : Bool) → (a && b) ≡ true → (a ≡ true) × (b ≡ true)
-and_tells true true h = (refl, refl)
-and_tells true false h = absurd (cc)
+pub and_tells : (a b : Bool) → (a && b) ≡ true → (a ≡ true) × (b ≡ true)
+and_tells true b h = (refl, h)
 and_tells false b h = absurd (cc)
 
 seen_if_tells : (f : ℕ → Bool) (o : Option ℕ) → seen_if f o ≡ true → (s : ℕ) → o ≡ Some s → f s ≡ true

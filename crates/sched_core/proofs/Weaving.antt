@@ -31,7 +31,19 @@ publish_as p c w e f es fs m top =
     let s = same_top (c.stack w) e f es fs m.top top in
     subst (λ (x : Entry). MayPublish p c w x fs) s.0 (subst (λ (xs : List Entry). MayPublish p c w e xs) s.1 m)
 
-module _ {W A : Type 0} (is_work : ℕ → W → Type 0) (given : ℕ → W → List ℕ) (out : ℕ → A) (p : Plan) (l : IsLawful p) (c : State) (g : Good p c) (works : List (Option W)) (answers : List (Option A)) (h : Holds is_work given out p c works answers) (w q : ℕ) (gave : List ℕ) (es : List Entry) (top : c.stack w ≡ (q, gave) ∷ es) where
+module _ {W A : Type 0} {is_work : ℕ → W → Type 0} {given : ℕ → W → List ℕ} {out : ℕ → A} {p : Plan} {core : Core} {works : List (Option W)} {answers : List (Option A)} (loom : Weaves is_work given out p core works answers) (w q : ℕ) (gave : List ℕ) (es : List Entry) (top : (state_of core).stack w ≡ (q, gave) ∷ es) where
+  abbrev c : State
+  c = state_of core
+
+  abbrev l : IsLawful p
+  l = loom.good.lawful
+
+  abbrev g : Good p c
+  g = loom.good.good
+
+  abbrev h : Holds is_work given out p c works answers
+  h = loom.holds
+
   -- the work of the top
   pub top_work : (x : W) × (slice_get works q ≡ Some (Some x)) × is_work q x × (given q x ≡ gave)
   top_work = (subst (λ (xs : List Entry). HasWorks is_work given works xs) top (h.worked w)).0

@@ -8,7 +8,6 @@ ghost use Rattle.sched_core.specs.Shown.{state_of, GoodFor, IsTold};
 ghost use Rattle.sched_core.specs.Held.{Weaves, Holds, without, roots_answers, RootsStay};
 ghost use Rattle.sched_core.specs.declared.Event.TheVariants.{Fail};
 
-use crate::rows::top_of;
 use crate::state::Core;
 use crate::{Event, Jobs, Status};
 use mir_syntax::{List, OutOfMemory};
@@ -148,7 +147,7 @@ impl<J: Jobs> Loom<J> {
         ensures state { state_of self.new.core ≡ state_of self.old.core }
         ensures told { OnOk result (IsTold (J.plan jobs.now) self.new.core w) }
     {
-        let Some(q) = top_of(&self.core.stacks[w as usize]) else {
+        let Some(q) = self.core.top(w) else {
             return Ok(());
         };
         if self.core.told[w as usize].is_some() {
@@ -169,11 +168,11 @@ impl<J: Jobs> Loom<J> {
     {
         match event {
             Event::Claim(_, q) => begin_work(jobs, &mut self.works, q),
-            Event::Release(w, s) => match top_of(&self.core.stacks[w as usize]) {
+            Event::Release(w, s) => match self.core.top(w) {
                 Some(q) => give_need(jobs, &mut self.works, &self.answers, q, s),
                 None => unreachable!(),
             },
-            Event::Publish(w) => match top_of(&self.core.stacks[w as usize]) {
+            Event::Publish(w) => match self.core.top(w) {
                 Some(q) => finish_work(jobs, &mut self.works, &mut self.answers, q),
                 None => unreachable!(),
             },

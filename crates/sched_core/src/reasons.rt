@@ -1,7 +1,7 @@
 //! Whether an event is legal: the first reason against it, read off the fields.
 ghost use Rattle.std.specs.Prelude.{◌≡◌, ℕ, ◌<◌, length, slice_get, IfSome, Some, None};
 
-use crate::rows::{is_some_of, marked, top_of};
+use crate::rows::{is_some_of, marked};
 use crate::state::{Core, is_a_root};
 use crate::{Event, Jobs, Status, Why};
 
@@ -56,7 +56,7 @@ impl Core {
         requires told { IsTold (J.plan jobs.now) self.now w }
         ensures { result ≡ why_publish (J.plan jobs.now) (state_of self.now) w ((state_of self.now).stack w) }
     {
-        let Some(q) = top_of(&self.stacks[w as usize]) else {
+        let Some(q) = self.top(w) else {
             return Some(Why::NotTop(w));
         };
         let need = self.next(jobs, w);
@@ -104,7 +104,7 @@ impl Core {
         requires { (w < length self.now.borrow.items) × (w < length self.now.stacks.items) }
         ensures { result ≡ why_fail (state_of self.now) w ((state_of self.now).stack w) }
     {
-        match top_of(&self.stacks[w as usize]) {
+        match self.top(w) {
             None => Some(Why::NotTop(w)),
             Some(_) => self.held(w),
         }
@@ -117,7 +117,7 @@ impl Core {
         requires rooted { IfSome ((state_of self.now).root w) (λ r. r < (J.plan jobs.now).queries) }
         ensures { result ≡ why_draw (J.plan jobs.now) (state_of self.now) w ((state_of self.now).stack w) ((state_of self.now).root w) }
     {
-        if let Some(q) = top_of(&self.stacks[w as usize]) {
+        if let Some(q) = self.top(w) {
             return Some(Why::Busy(q));
         }
         if let Some(r) = self.root[w as usize] {
@@ -141,7 +141,7 @@ impl Core {
         ensures { result ≡ why_look (J.plan jobs.now) (state_of self.now) w q }
     {
         let is_next = is_some_of(self.next(jobs, w), q);
-        let bare = top_of(&self.stacks[w as usize]).is_none();
+        let bare = self.top(w).is_none();
         if !(is_next || bare && is_a_root(jobs, q)) {
             return Some(Why::NotTop(q));
         }
@@ -188,7 +188,7 @@ impl Core {
         requires told { IsTold (J.plan jobs.now) self.now w }
         ensures { result ≡ why_borrow (J.plan jobs.now) (state_of self.now) w s ((state_of self.now).stack w) }
     {
-        let Some(q) = top_of(&self.stacks[w as usize]) else {
+        let Some(q) = self.top(w) else {
             return Some(Why::NotTop(s));
         };
         let is_next = is_some_of(self.next(jobs, w), s);
@@ -208,7 +208,7 @@ impl Core {
         requires told { IsTold (J.plan jobs.now) self.now w }
         ensures { result ≡ why_steal (J.plan jobs.now) (state_of self.now) w s ((state_of self.now).stack w) }
     {
-        let Some(q) = top_of(&self.stacks[w as usize]) else {
+        let Some(q) = self.top(w) else {
             return Some(Why::NotTop(s));
         };
         let need = self.next(jobs, w);

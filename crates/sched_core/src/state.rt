@@ -1,5 +1,5 @@
 //! The core's fields: a row for each worker, a status for each query.
-ghost use Rattle.std.specs.Prelude.{◌≡◌, ◌≢◌, ℕ, ◌+◌, ◌<◌, ◌≤◌, length, slice_get, slice_index_or, Some, None, true, false, OnOk, OnErr, IfOk, IfErr};
+ghost use Rattle.std.specs.Prelude.{◌≡◌, ◌≢◌, ℕ, ◌+◌, ◌<◌, ◌≤◌, List, [], ◌∷◌, length, slice_get, slice_index_or, Some, None, MatchOption, true, false, OnOk, OnErr, IfOk, IfErr};
 ghost use Rattle.sched_core.specs.Table.{is_root};
 
 use crate::rows::{blank_rows, empty_rows, filled, make_room, top_of};
@@ -109,6 +109,14 @@ impl Core {
         }
     }
 
+    // The query of the worker's top.
+    pub(crate) fn top(&self, w: u32) -> Option<u32>
+        requires { w < length self.now.stacks.items }
+        ensures { MatchOption result ((state_of self.now).stack w ≡ []) (λ q. (given : List ℕ) × (es : List (ℕ × List ℕ)) × ((state_of self.now).stack w ≡ (q, given) ∷ es)) }
+    {
+        top_of(&self.stacks[w as usize])
+    }
+
     // A legal event happens.
     pub(crate) fn act<J: Jobs>(&mut self, jobs: &J, event: Event)
         requires core { GoodFor (J.plan jobs.now) self.old }
@@ -128,11 +136,11 @@ impl Core {
                 self.put_release(w, s, count)
             }
             Event::Steal(w, s) => self.put_steal(w, s),
-            Event::Publish(w) => match top_of(&self.stacks[w as usize]) {
+            Event::Publish(w) => match self.top(w) {
                 Some(q) => self.put_publish(w, q),
                 None => unreachable!(),
             },
-            Event::Fail(w) => match top_of(&self.stacks[w as usize]) {
+            Event::Fail(w) => match self.top(w) {
                 Some(q) => self.put_fail(w, q),
                 None => unreachable!(),
             },

@@ -1,7 +1,7 @@
 //! The turn of a worker: which event it does, read off the fields.
 ghost use Rattle.std.specs.Prelude.{◌≡◌, ℕ, ◌<◌, length, slice_get, Some, None, IfSome};
 
-use crate::rows::{is_some_of, marked, top_of};
+use crate::rows::{is_some_of, marked};
 use crate::state::Core;
 use crate::{Event, Jobs, Status};
 
@@ -21,7 +21,7 @@ impl Core {
         if let Some(s) = self.borrow[w as usize] {
             return Some(Event::Release(w, s));
         }
-        let Some(q) = top_of(&self.stacks[w as usize]) else {
+        let Some(q) = self.top(w) else {
             return self.turn_empty(jobs, w);
         };
         let steals = jobs.steals(q);

@@ -6,7 +6,7 @@ use Rattle.std.proofs.lemmas.Option.{get_or_from_slice_get, slice_get_within}
 use Rattle.mir_syntax.specs.declared.body.Arm.{Arm}
 use Rattle.mir_syntax.specs.declared.body.Term.{Term}
 use Rattle.mir_syntax.specs.declared.body.Term.TheVariants.{Goto, Switch, Return, Unreachable, Drop, Call, Assert}
-use Rattle.mir_syntax.specs.Crate.{TypedStmt, assign, storage_live, storage_dead, set_discriminant, TypedBlock, TypedBody, Crate}
+use Rattle.mir_syntax.specs.Crate.{TypedStmt, TypedBlock, TypedBody, Crate}
 use Rattle.mir_syntax.specs.Shapes.{Shape, shapes_of}
 use Rattle.mir_syntax.proofs.Lists.{map_back}
 use Rattle.mir_syntax.specs.Parts.{term_operands, term_places, arm_block, targets}
@@ -18,6 +18,7 @@ use Rattle.mir_rules.proofs.Statements.{MovesKept}
 use Rattle.mir_rules.proofs.Terminators.{OwnTyped, TermTyped, term_typed, typed_term}
 use Rattle.mir_rules.proofs.ValidCrates.{stmt_formed_at, term_formed_at}
 use Rattle.cfg_simplify.specs.Edges.{retarget, retarget_arm}
+use Rattle.mir_relate.proofs.Formed.{same_locals_stmt}
 
 -- ---- a terminator with its edges led elsewhere
 
@@ -90,15 +91,8 @@ module _ (C : Crate) (b : TypedBody) (blocks : List TypedBlock) (r : Rearranged 
   abbrev b2 : TypedBody
   b2 = record b { blocks = blocks }
 
-  stmt_same : (s : TypedStmt) → stmt_formed C b2 s ≡ stmt_formed C b s
-  unfolding stmt_formed
-  stmt_same (assign p v) = refl
-  stmt_same (storage_live x) = refl
-  stmt_same (storage_dead x) = refl
-  stmt_same (set_discriminant p k) = refl
-
   stmts_formed : (j : ℕ) (k2 : TypedBlock) → slice_get blocks j ≡ Some k2 → list_all (stmt_formed C b2) k2.stmts ≡ true
-  stmts_formed j k2 e = list_all_true (stmt_formed C b2) k2.stmts (λ i s e2. let (j1, i1, k, at, at2) = r.stmts j i k2 s e e2 in stmt_same s ∙ stmt_formed_at C b formed j1 i1 k s at at2)
+  stmts_formed j k2 e = list_all_true (stmt_formed C b2) k2.stmts (λ i s e2. let (j1, i1, k, at, at2) = r.stmts j i k2 s e e2 in same_locals_stmt C b b2 refl s ∙ stmt_formed_at C b formed j1 i1 k s at at2)
 
   targets_there : (f : ℕ → ℕ) (t : Term) → Inside (length blocks) f t → list_all (block_there b2) (targets (retarget f t)) ≡ true
   targets_there f t h = list_all_true (block_there b2) (targets (retarget f t)) (λ i c e. lt-ltb c (length blocks) (each_inside (length blocks) f t i c h e).1)

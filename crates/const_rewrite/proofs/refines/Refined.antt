@@ -11,6 +11,7 @@ use Rattle.mir_semantics.specs.Step.{code_of}
 use Rattle.mir_semantics.specs.Refines.{Refines}
 use Rattle.valid_runs.proofs.Codes.{valid_code}
 use Rattle.valid_runs.proofs.Shown.{step_flat, step_known}
+use Rattle.mir_relate.proofs.EachLocal as frames
 use Rattle.mir_relate.proofs.Replaced.{change, valids, Runs, replaced}
 use Rattle.const_flow.specs.ConstAt.{Reached, const_at}
 use Rattle.const_flow.specs.Holding.{IsSound}
@@ -18,7 +19,7 @@ use Rattle.const_flow.proofs.sound.Along.{formed_sound}
 use Rattle.const_rewrite.specs.Folded.{folded_by, folded}
 use Rattle.const_rewrite.proofs.Blocks.{block_there, same_locals}
 use Rattle.const_rewrite.proofs.valid.Same.{alike_by, valid_by, folded_is}
-use Rattle.const_rewrite.proofs.refines.Frames.{pass}
+use Rattle.const_rewrite.proofs.refines.Where.{words}
 use Rattle.const_rewrite.proofs.refines.Steps.{laws}
 
 -- by any facts that hold along the edges
@@ -31,8 +32,8 @@ sound_refines C valid f g there no_drops xs sound =
     let X = change C valid f g there b2 alike valid2 in
     let V = valids C valid f g there b2 alike valid2 in
     let apart = apart_in C valid in
-    replaced C valid f g there b2 alike valid2 (pass X xs)
-    (laws X xs (record { same_locals = same_locals D xs g.body; blocks = block_there D xs g.body; sound = sound }) no_drops V (Runs C valid f g there b2 alike valid2) (step_known (code_of C) apart (valid_code C valid)) (λ s x i e. step_flat (code_of C) apart (valid_code C valid) s x i e))
+    replaced C valid f g there b2 alike valid2 (frames.pass X (words X xs))
+    (laws X xs (record { same_locals = same_locals D xs g.body; blocks = block_there D xs g.body; sound = sound }) no_drops V (Runs C valid f g there b2 alike valid2) (step_known (code_of C) apart (valid_code C valid), λ s x i e. step_flat (code_of C) apart (valid_code C valid) s x i e))
 
 -- by what is known in the body
 pub of_a_crate : (C : Crate) → Valid C → (f : ℕ) (g : TypedFunction) → slice_get C.functions f ≡ Some g → NoDrops g.body → Refines (at_function C f g (folded (shapes_of C) g.body)) C

@@ -13,7 +13,7 @@ use Rattle.mir_renaming.specs.Renaming.{Renaming}
 use Rattle.mir_renaming.proofs.Ghosts.{Flat}
 use Rattle.mir_renaming.proofs.Items.{step_parts}
 use Rattle.mir_renaming.proofs.Types.{TypeMap, AddrTy, HasTy, StmtTy, resolve_ty, eval_ty}
-use Rattle.mir_relate.specs.Alike.{GotMemory, Sides}
+use Rattle.mir_relate.specs.Alike.{GotMemory, Sides, Evals}
 use Rattle.mir_relate.specs.Frames.{Change, target, Pass, lowest, Below}
 use Rattle.mir_relate.specs.Pass.{GentleTo, Valids, RvalueMoves, StmtMoves, Laws, Answers, Related}
 use Rattle.mir_relate.specs.Simulation.{keep_on}
@@ -22,6 +22,7 @@ use Rattle.mir_relate.proofs.Enter.{goes_by}
 use Rattle.mir_relate.proofs.Kept as kept
 use Rattle.mir_relate.proofs.Leaves.{some_val}
 use Rattle.mir_relate.proofs.Mild.{gentle_on}
+use Rattle.mir_relate.proofs.OneForOne.{StepsAnswered, KeepsRuns, own_laws}
 use Rattle.mir_relate.proofs.Own as own
 use Rattle.mir_relate.proofs.Single.{step_is}
 use Rattle.const_flow.specs.Facts.{Facts, after_all}
@@ -31,28 +32,22 @@ use Rattle.const_flow.proofs.sound.Related.{RefsOk, StmtRefsOk, exec_holds}
 use Rattle.const_flow.proofs.sound.Lent.{refs_ok}
 use Rattle.const_rewrite.specs.Folded.{folded_rvalue, folded_stmt, folded_stmts, folded_term}
 use Rattle.const_rewrite.proofs.Blocks.{stmt_there, stmt_gone, block_is}
-use Rattle.const_rewrite.proofs.refines.Frames as frames
-use Rattle.const_rewrite.proofs.refines.Frames.{Folds, Runs, holds_linked}
-use Rattle.const_rewrite.proofs.refines.Moment as moment
-use Rattle.const_rewrite.proofs.refines.Moment.{Moment, Knows}
-use Rattle.const_rewrite.proofs.refines.Values.{folded_evals}
+use Rattle.mir_relate.proofs.EachLocal as frames
+use Rattle.mir_relate.proofs.EachLocal.{Runs, holds_linked}
+use Rattle.mir_relate.proofs.Moment as moment
+use Rattle.mir_relate.proofs.Moment.{Moment}
+use Rattle.const_rewrite.proofs.refines.Where.{Folds, Known, words, lasting}
+use Rattle.const_rewrite.proofs.refines.Values.{Knows, folded_evals}
 use Rattle.const_rewrite.proofs.refines.Terms.{term_goes}
 
-dest_parts : (h : Here) (m : Memory) (p : Place) (d : Dest) → dest_of h m p ≡ Some d → (a : Addr) × (t : Tree) × (resolve h m p ≡ Some a) × (type_of h p ≡ Some t) × (record { addr = a; guard = guard_of h.shapes p.proj t } ≡ d)
-unfolding dest_of
-dest_parts h m p d e =
-    let (a, e1, k1) = bind_some e in
-    let (t, e2, k2) = bind_some k1 in
-    (a, t, e1, e2, some_val k2)
-
-module _ {X : Change} {xs : List Reached} {V : Valids X} {Inv : State → Type 0} (now : Moment X xs V Inv) (no_drops : NoDrops X.body1) where
-  open now use {folds, n, s2, s1, r, runs}
+module _ {X : Change} {xs : List Reached} {V : Valids X} {Inv : State → Type 0} (now : Moment X (words X xs) V Inv) (folds : Folds X xs) (no_drops : NoDrops X.body1) where
+  open now use {lasts, n, s2, s1, r, runs}
 
   abbrev D : List Shape
   D = X.source.shapes
 
   abbrev P : Pass
-  P = frames.pass X xs
+  P = frames.pass X (words X xs)
 
   abbrev j : Renaming
   j = now.r.core.lent
@@ -94,18 +89,10 @@ module _ {X : Change} {xs : List Reached} {V : Valids X} {Inv : State → Type 0
     same_exec s as' e = kept.exec_as D ts ts f1 f2 j K (moment.low now) G bok (moment.lok now) (moment.Q now) (moment.keeps now) s s as' s2.memory s1.memory m1' (λ u. moment.payloads now) first.near e
 
     assign_execs : (p : Place) (x : TypedRvalue) → RvalueMoves S.source x → RefsOk D X.body1 x → Fits (assign p x) → exec S.source s1.memory (assign p x) ≡ Some m1' → GotMemory (moment.Q now) m1' (exec S.target s2.memory (assign p (folded_rvalue T fs x)))
-    unfolding exec
     assign_execs p x mo ok (t, pt, xt) e =
-        let (v, e1, k1) = bind_some e in
-        let (d, e2, k2) = bind_some k1 in
-        let (vt, mt) = eval_ty D G bok ts f1 (moment.lok now) s1.memory x t v first.near.typed xt e1 in
-        let (w, g1, h1, q1) = (folded_evals now fs x mo ok (t, xt)).evals s2.memory s1.memory v first e1 in
-        let (c, g2, h2) = kept.dest_as D ts ts f1 f2 j K (moment.low now) G bok (moment.lok now) (moment.Q now) (moment.keeps now) w.1 v.1 p p d (moment.place_self now p) q1.near e2 in
-        let (a, u, r1, r2, r3) = dest_parts S.source v.1 p d e2 in
-        let at : AddrTy D G d.addr t = subst (λ (d : Dest). AddrTy D G d.addr t) r3 (resolve_ty D G bok ts f1 (moment.lok now) v.1 p a t mt pt r1) in
-        let fair : (old : Value) → allows D d.guard old ≡ true → kept.Fair D ts ts f1 f2 j K (moment.low now) G bok (moment.lok now) d.addr t old = subst (λ (d : Dest). (old : Value) → allows D d.guard old ≡ true → kept.Fair D ts ts f1 f2 j K (moment.low now) G bok (moment.lok now) d.addr t old) r3 (λ old yes. kept.dest_fair D ts ts f1 f2 j K (moment.low now) G bok (moment.lok now) (moment.Q now) (moment.keeps now) v.1 p a t old r1 (subst (λ u. allows D (guard_of D p.proj u) old ≡ true) (some_val (sym r2 ∙ pt)) yes)) in
-        let (m2', g3, q3) = kept.store_as D ts ts f1 f2 j K (moment.low now) G bok (moment.lok now) (moment.Q now) (moment.keeps now) w.1 v.1 m1' d c t v.0 w.0 fair h2 at vt h1 q1.near k2 in
-        (m2', some_bind _ g1 (some_bind _ g2 g3), q3)
+        let E = folded_evals now fs x mo ok (t, xt) in
+        let near : Evals S (Knows now fs) (moment.Q now) x (folded_rvalue T fs x) = record { evals = λ m2 m1 r q ev. (let (w, g, h, k) = E.evals m2 m1 r q ev in (w, g, h, k.near)) } in
+        kept.assign_as D ts ts f1 f2 j K (moment.low now) G bok (moment.lok now) (moment.Q now) (moment.keeps now) p p x (folded_rvalue T fs x) (Knows now fs) (moment.place_self now p) near (t, pt, xt) s2.memory s1.memory m1' first.near.typed first e
 
     stmt_execs : (s : TypedStmt) → StmtMoves S.source s → StmtRefsOk D X.body1 s → Fits s → exec S.source s1.memory s ≡ Some m1' → GotMemory (moment.Q now) m1' (exec S.target s2.memory (folded_stmt T fs s))
     stmt_execs (assign p x) mo ok ty e = assign_execs p x mo ok ty e
@@ -117,23 +104,23 @@ module _ {X : Change} {xs : List Reached} {V : Valids X} {Inv : State → Type 0
 
   module _ (k : TypedBlock) (ek : slice_get X.body1.blocks s1.top.block ≡ Some k) where
     abbrev fs0 : Facts
-    fs0 = now.runs.facts
+    fs0 = now.runs.says.point.facts
 
     -- what is known where the frame stands
     abbrev fs : Facts
-    fs = after_all T (take now.s1.top.at k.stmts) now.runs.facts
+    fs = after_all T (take now.s1.top.at k.stmts) now.runs.says.point.facts
 
     abbrev k2 : TypedBlock
-    k2 = record { stmts = folded_stmts T now.runs.facts k.stmts; term = folded_term T (after_all T k.stmts now.runs.facts) k.term }
+    k2 = record { stmts = folded_stmts T now.runs.says.point.facts k.stmts; term = folded_term T (after_all T k.stmts now.runs.says.point.facts) k.term }
 
     at_k : slice_get X.body2.blocks s2.top.block ≡ Some k2
-    at_k = ap (slice_get X.body2.blocks) runs.stand.block ∙ folds.blocks s1.top.block k (Some fs0) ek runs.reached ∙ ap Some (block_is T k fs0)
+    at_k = ap (slice_get X.body2.blocks) runs.says.block ∙ folds.blocks s1.top.block k (Some fs0) ek runs.says.point.reached ∙ ap Some (block_is T k fs0)
 
     target_is : step (target X) s2 ≡ perform (target X) S.target s2 k2.term (slice_get k2.stmts s1.top.at)
-    target_is = step_is (target X) s2 X.body2 k2 (moment.eb2 now) at_k ∙ ap₂ (λ (ls : List Tree) (a : ℕ). perform (target X) (record { shapes = D; locals = ls; frame = f2 }) s2 k2.term (slice_get k2.stmts a)) folds.same_locals runs.stand.here
+    target_is = step_is (target X) s2 X.body2 k2 (moment.eb2 now) at_k ∙ ap₂ (λ (ls : List Tree) (a : ℕ). perform (target X) (record { shapes = D; locals = ls; frame = f2 }) s2 k2.term (slice_get k2.stmts a)) folds.same_locals runs.says.at
 
     first : Knows now fs s2.memory s1.memory
-    first = record { near = moment.start now; known = runs.known k ek }
+    first = record { near = moment.start now; known = runs.says.point.known k ek }
 
     stmt_step : (s : TypedStmt) (x : Next) → slice_get k.stmts s1.top.at ≡ Some s → StmtMoves S.source s → StmtTy D G bok ts f1 (moment.lok now) s → perform X.source S.source s1 k.term (Some s) ≡ Some x → GentleTo X G f1 s1.memory x → Answers X P n s2 x
     unfolding perform
@@ -142,16 +129,18 @@ module _ {X : Change} {xs : List Reached} {V : Valids X} {Inv : State → Type 0
         let ok = refs_ok D X.body1 s1.top.block s1.top.at k s ek at in
         let (m2', g1, q2) = stmt_execs fs first m1' s mo ok ty e1 in
         let after = exec_holds D X.body1 f1 f2 j (moment.K now) (moment.low now) (moment.itself now) (moment.unlent_at now) (moment.lent_at now) s2.memory s1.memory first.near.linked.mem fs first.known s m1' ok e1 in
-        let known : moment.Known now m1' (after_all T (take (suc s1.top.at) k.stmts) fs0) = subst (moment.Known now m1') (sym (take_more T k.stmts s1.top.at s fs0 at)) after in
-        let run : Runs X xs j (next_stmt s2.top) (next_stmt s1.top) m2' m1' = record {
-          stand = moment.moved now (next_stmt s2.top) (next_stmt s1.top) refl refl refl refl runs.stand.block runs.stand.calm (ap suc runs.stand.here);
+        let known : Known X xs f1 m1' (after_all T (take (suc s1.top.at) k.stmts) fs0) = subst (Known X xs f1 m1') (sym (take_more T k.stmts s1.top.at s fs0 at)) after in
+        let run : Runs X (words X xs) j (next_stmt s2.top) (next_stmt s1.top) m2' m1' = record {
+          stand = moment.moved now (next_stmt s2.top) (next_stmt s1.top) refl refl refl refl runs.stand.calm;
           locals = holds_linked j f2 f1 (moment.pl now) m2' m1' q2.linked;
-          facts = fs0;
-          reached = runs.reached;
-          known = λ k' e'. subst (λ (k : TypedBlock). moment.Known now m1' (after_all T (take (suc s1.top.at) k.stmts) fs0)) (some_val (sym ek ∙ e')) known;
+          says = record {
+            block = runs.says.block;
+            at = ap suc runs.says.at;
+            point = record { facts = fs0; reached = runs.says.point.reached; known = λ k' e'. subst (λ (k : TypedBlock). Known X xs f1 m1' (after_all T (take (suc s1.top.at) k.stmts) fs0)) (some_val (sym ek ∙ e')) known };
+          };
         } in
         let at2 : slice_get k2.stmts s1.top.at ≡ Some (folded_stmt T fs s) = stmt_there T k.stmts s1.top.at fs0 s at in
-        subst (Answers X P n s2) (some_val q) (1, 0, record s2 { memory = m2'; top = next_stmt s2.top }, ap (keep_on (λ s. Some s)) (target_is ∙ ap (perform (target X) S.target s2 k2.term) at2 ∙ some_bind _ g1 refl), own.own_core X P V Inv (frames.frames X xs folds V Inv) n s2 s1 r [] s1.callers refl (omega arith) now.below 0 m2' m1' (next_stmt s2.top) (next_stmt s1.top) refl refl refl refl (moment.left now m2' m1' q2) (gentle_on X G f1 s1.memory (record s1 { memory = m1'; top = next_stmt s1.top }) x ge q (omega arith)) (refl, run), inl (omega arith))
+        subst (Answers X P n s2) (some_val q) (1, 0, record s2 { memory = m2'; top = next_stmt s2.top }, ap (keep_on (λ s. Some s)) (target_is ∙ ap (perform (target X) S.target s2 k2.term) at2 ∙ some_bind _ g1 refl), own.own_core X P V Inv (frames.frames X (words X xs) lasts V Inv) n s2 s1 r [] s1.callers refl (omega arith) now.below 0 m2' m1' (next_stmt s2.top) (next_stmt s1.top) refl refl refl refl (moment.left now m2' m1' q2) (gentle_on X G f1 s1.memory (record s1 { memory = m1'; top = next_stmt s1.top }) x ge q (omega arith)) (refl, run), inl (omega arith))
 
     end_step : (x : Next) → slice_get k.stmts s1.top.at ≡ None → perform X.source S.source s1 k.term None ≡ Some x → Flat x → GentleTo X G f1 s1.memory x → Answers X P n s2 x
     unfolding perform
@@ -160,9 +149,9 @@ module _ {X : Change} {xs : List Reached} {V : Valids X} {Inv : State → Type 0
         let eb = moment.eb now in
         let g = s1.top.function in
         goes_answer X P n s2 x (goes_by X P _ _ x (target_is ∙ ap (perform (target X) S.target s2 k2.term) none2)
-        (term_goes now k ek none k.term x refl (no_drops.none s1.top.block k ek) (V.terms f1 g X.body1 s1.top.block k eb ek) (V.valid1.terms f1 g X.body1 s1.top.block k eb ek) (V.calls g X.body1 s1.top.block k eb ek) e fl ge))
+        (term_goes now folds k ek none k.term x refl (no_drops.none s1.top.block k ek) (V.terms f1 g X.body1 s1.top.block k eb ek) (V.valid1.terms f1 g X.body1 s1.top.block k eb ek) (V.calls g X.body1 s1.top.block k eb ek) e fl ge))
 
-  pub one_step : (x : Next) → step X.source s1 ≡ Some x → Flat x → GentleTo X G f1 s1.memory x → Answers X P n s2 x
+  pub one_step : StepsAnswered X P n s2 s1 G
   one_step x e fl ge =
       let (bo, k, ebo, ek, q) = step_parts X.source s1 x e in
       let sb : bo ≡ X.body1 = some_val (sym ebo ∙ moment.eb now) in
@@ -174,13 +163,7 @@ module _ {X : Change} {xs : List Reached} {V : Valids X} {Inv : State → Type 0
 
 module _ (X : Change) (xs : List Reached) (folds : Folds X xs) (no_drops : NoDrops X.body1) (V : Valids X) (Inv : State → Type 0) where
   abbrev pass : Pass
-  pass = frames.pass X xs
+  pass = frames.pass X (words X xs)
 
-  steps_law : (n : ℕ) (s2 s1 : State) (r : Related X pass V Inv n s2 s1) (gs ds : List Control) (x : Next) → s1.callers ≡ gs ++ ds → pass.own n r.core.lent s2.top s1.top gs s2.memory s1.memory → Below X pass r.core.lent s2.top.dest (lowest s1.top gs).dest s2.top.frame (lowest s1.top gs).frame s2.callers ds s2.memory s1.memory → step X.source s1 ≡ Some x → Flat x → GentleTo X r.typed1.types s1.top.frame s1.memory x → Answers X pass n s2 x
-  steps_law n s2 s1 r [] ds x q (e, runs) be k fl ge =
-      let below = subst (λ cs. Below X pass r.core.lent s2.top.dest s1.top.dest s2.top.frame s1.top.frame s2.callers cs s2.memory s1.memory) (sym q) be in
-      one_step {X = X} {xs = xs} {V = V} {Inv = Inv} (record { folds = folds; n = n; s2 = s2; s1 = s1; r = r; runs = runs; below = below }) no_drops x k fl ge
-  steps_law n s2 s1 r (g ∷ gs) ds x q (e, runs) be k fl ge = absurd (grind arith)
-
-  pub laws : ((s s' : State) → Inv s → step X.source s ≡ Some (on s') → Inv s') → ((s : State) (x : Next) → Inv s → step X.source s ≡ Some x → Flat x) → Laws X pass V Inv
-  laws inv_kept flat = record { inv_kept = inv_kept; flat = flat; frames = frames.frames X xs folds V Inv; steps = λ n s2 s1 r gs ds x q lo o be k fl ge. steps_law n s2 s1 r gs ds x q o be k fl ge }
+  pub laws : KeepsRuns X Inv → Laws X pass V Inv
+  laws = own_laws X pass V Inv (frames.frames X (words X xs) (lasting X xs folds) V Inv) (λ n j c2 c1 gs m2 m1 o. o.0) (λ n s2 s1 r o be. one_step {X = X} {xs = xs} {V = V} {Inv = Inv} (record { lasts = lasting X xs folds; n = n; s2 = s2; s1 = s1; r = r; runs = o.1; below = be }) folds no_drops)

@@ -38,26 +38,28 @@ use Rattle.const_flow.specs.Order.{BelowFacts}
 use Rattle.const_flow.specs.Holding.{NumFits}
 use Rattle.const_flow.proofs.sound.Points.{holds_below, take_end, eq_self, switch_leads, can_leads}
 use Rattle.const_flow.proofs.sound.Related.{call_holds}
+use Rattle.const_flow.proofs.sound.Stands as stands
 use Rattle.const_rewrite.specs.Folded.{folded_operand, folded_operands, switch_or, as_expected, folded_term}
-use Rattle.const_rewrite.proofs.refines.Frames as frames
-use Rattle.const_rewrite.proofs.refines.Frames.{all, holds_linked, starts}
-use Rattle.const_rewrite.proofs.refines.Moment as moment
-use Rattle.const_rewrite.proofs.refines.Moment.{Moment, Knows}
-use Rattle.const_rewrite.proofs.refines.Values.{number_is, number_left, plain_read, folded_reads, folded_read}
+use Rattle.mir_relate.proofs.EachLocal as frames
+use Rattle.mir_relate.proofs.EachLocal.{all, holds_linked}
+use Rattle.mir_relate.proofs.Moment as moment
+use Rattle.mir_relate.proofs.Moment.{Moment}
+use Rattle.const_rewrite.proofs.refines.Where.{Folds, Known, Paused, words}
+use Rattle.const_rewrite.proofs.refines.Values.{Knows, number_is, number_left, plain_read, folded_reads, folded_read}
 
 expected_is : (e : Bool) (k : Cell) → as_expected e k ≡ true → (n : ℕ) × (k ≡ Num n) × (nat_eq n (flag e) ≡ true)
 expected_is e (Num n) h = (n, refl, h)
 expected_is e Nothing h = absurd (grind arith)
 expected_is e Many h = absurd (grind arith)
 
-module _ {X : Change} {xs : List Reached} {V : Valids X} {Inv : State → Type 0} (now : Moment X xs V Inv) (k : TypedBlock) (ek : slice_get X.body1.blocks now.s1.top.block ≡ Some k) (none : slice_get k.stmts now.s1.top.at ≡ None) where
-  open now use {folds, n, s2, s1, r, runs}
+module _ {X : Change} {xs : List Reached} {V : Valids X} {Inv : State → Type 0} (now : Moment X (words X xs) V Inv) (folds : Folds X xs) (k : TypedBlock) (ek : slice_get X.body1.blocks now.s1.top.block ≡ Some k) (none : slice_get k.stmts now.s1.top.at ≡ None) where
+  open now use {lasts, n, s2, s1, r, runs}
 
   abbrev D : List Shape
   D = X.source.shapes
 
   abbrev P : Pass
-  P = frames.pass X xs
+  P = frames.pass X (words X xs)
 
   abbrev j : Renaming
   j = now.r.core.lent
@@ -85,45 +87,47 @@ module _ {X : Change} {xs : List Reached} {V : Valids X} {Inv : State → Type 0
 
   -- what is known at the end
   abbrev pub last : Facts
-  last = after_all T k.stmts now.runs.facts
+  last = after_all T k.stmts now.runs.says.point.facts
 
   abbrev Q : Between
   Q = Knows now last
 
   ended : Q s2.memory s1.memory
-  ended = record { near = moment.start now; known = subst (λ ss. moment.Known now s1.memory (after_all T ss runs.facts)) (take_end k.stmts s1.top.at none) (runs.known k ek) }
+  ended = record { near = moment.start now; known = subst (λ ss. Known X xs f1 s1.memory (after_all T ss runs.says.point.facts)) (take_end k.stmts s1.top.at none) (runs.says.point.known k ek) }
 
   left : (m2 m1 : Memory) → Q m2 m1 → moment.Left now m2 m1
   left m2 m1 q = moment.left now m2 m1 q.near
 
   abbrev To : Memory → Memory → ℕ → ℕ → Type 0
-  To = own.To X P V Inv (frames.frames X xs now.folds V Inv) now.n now.s2 now.s1 now.r [] now.s1.callers refl (omega arith) now.below S Q left refl ended
+  To = own.To X P V Inv (frames.frames X (words X xs) now.lasts V Inv) now.n now.s2 now.s1 now.r [] now.s1.callers refl (omega arith) now.below S Q left refl ended
 
   abbrev SameStepIf : Term → Term → Type 0
-  SameStepIf = own.SameStepIf X P V Inv (frames.frames X xs now.folds V Inv) now.n now.s2 now.s1 now.r [] now.s1.callers refl (omega arith) now.below S Q left refl ended
+  SameStepIf = own.SameStepIf X P V Inv (frames.frames X (words X xs) now.lasts V Inv) now.n now.s2 now.s1 now.r [] now.s1.callers refl (omega arith) now.below S Q left refl ended
 
   abbrev Spent : List Operand → Memory → Type 0
-  Spent = own.Spent X P V Inv (frames.frames X xs now.folds V Inv) now.n now.s2 now.s1 now.r [] now.s1.callers refl (omega arith) now.below S Q left refl ended
+  Spent = own.Spent X P V Inv (frames.frames X (words X xs) now.lasts V Inv) now.n now.s2 now.s1 now.r [] now.s1.callers refl (omega arith) now.below S Q left refl ended
 
   abbrev GoalIf : (Memory → Type 0) → Dest → Dest → ℕ → ℕ → Type 0
-  GoalIf = own.GoalIf X P V Inv (frames.frames X xs now.folds V Inv) now.n now.s2 now.s1 now.r [] now.s1.callers refl (omega arith) now.below S Q left refl ended
+  GoalIf = own.GoalIf X P V Inv (frames.frames X (words X xs) now.lasts V Inv) now.n now.s2 now.s1 now.r [] now.s1.callers refl (omega arith) now.below S Q left refl ended
 
   same_goes : (t u : Term) (x : Next) → FewTerm X.source t → SameStepIf t u → finish X.source S.source s1 t ≡ Some x → Flat x → GentleTo X G f1 s1.memory x → Goes X P (finish (target X) S.target s2 u) x
-  same_goes t u x few h e fl ge = own.step_if_goes X P V Inv (frames.frames X xs folds V Inv) n s2 s1 r [] s1.callers refl (omega arith) now.below S Q left refl ended refl refl X.body1 (moment.eb now) (λ h x y v e q. ((moment.pl now).only h x y e).0) (λ h x y lt e. (let z = ((moment.pl now).only h x y e).0 in omega (arith, z, lt))) t u x few h e fl ge
+  same_goes t u x few h e fl ge = own.step_if_goes X P V Inv (frames.frames X (words X xs) lasts V Inv) n s2 s1 r [] s1.callers refl (omega arith) now.below S Q left refl ended refl refl X.body1 (moment.eb now) (λ h x y v e q. ((moment.pl now).only h x y e).0) (λ h x y lt e. (let z = ((moment.pl now).only h x y e).0 in omega (arith, z, lt))) t u x few h e fl ge
 
   -- ---- edges
+
+  both_stand : (u : ℕ) → frames.Standing X (words X xs) j (to_block u s2.top) (to_block u s1.top)
+  both_stand u = moment.moved now (to_block u s2.top) (to_block u s1.top) refl refl refl refl refl
 
   -- one along which the facts go
   edge : (u : ℕ) → leads last k.term u ≡ true → after_term k.term last ≡ last → (m2 m1 : Memory) → Q m2 m1 → To m2 m1 u u
   edge u l same m2 m1 q =
-      let (gs, e, below) = folds.sound.next s1.top.block u k runs.facts ek runs.reached l in
-      let st = moment.moved now (to_block u s2.top) (to_block u s1.top) refl refl refl refl refl refl refl in
+      let (gs, e, below) = folds.sound.next s1.top.block u k runs.says.point.facts ek runs.says.point.reached l in
       let known = holds_below D ts f1 (λ x. borrowed D X.body1 x ≡ false) m1 last gs (subst (λ fs. BelowFacts fs gs) same below) q.known in
-      (0, (refl, starts X xs j (to_block u s2.top) (to_block u s1.top) m2 m1 gs st refl (holds_linked j f2 f1 (moment.pl now) m2 m1 q.near.linked) e known))
+      (0, (refl, record { stand = both_stand u; locals = holds_linked j f2 f1 (moment.pl now) m2 m1 q.near.linked; says = record { block = refl; at = refl; point = stands.starts D X.body1 xs (to_block u s1.top) m1 gs refl e known } }))
 
   -- the target goes on at once
   jumps : (m1 : Memory) (u2 u1 : ℕ) (x : Next) → u1 ≡ u2 → leads last k.term u1 ≡ true → after_term k.term last ≡ last → Q s2.memory m1 → go_on s1 m1 (to_block u1 s1.top) ≡ Some x → GentleTo X G f1 s1.memory x → Goes X P (go_on s2 s2.memory (to_block u2 s2.top)) x
-  jumps m1 u2 u1 x is l same q e ge = own.to_goes X P V Inv (frames.frames X xs folds V Inv) n s2 s1 r [] s1.callers refl (omega arith) now.below S Q left refl ended s2.memory m1 u2 u1 x ge q (λ m2 m1 q. subst (λ u. To m2 m1 u u1) is (edge u1 l same m2 m1 q)) e
+  jumps m1 u2 u1 x is l same q e ge = own.to_goes X P V Inv (frames.frames X (words X xs) lasts V Inv) n s2 s1 r [] s1.callers refl (omega arith) now.below S Q left refl ended s2.memory m1 u2 u1 x ge q (λ m2 m1 q. subst (λ u. To m2 m1 u u1) is (edge u1 l same m2 m1 q)) e
 
   -- ---- a switch
 
@@ -189,10 +193,10 @@ module _ {X : Change} {xs : List Reached} {V : Valids X} {Inv : State → Type 0
   -- ---- a call
 
   -- the facts after it, whatever has come to its destination
-  after_call : (p : Place) (g : Callee) (os : List Operand) (u : ℕ) → k.term ≡ Call p g os u → (d : Dest) (m1 : Memory) → dest_of S.source s1.memory p ≡ Some d → Spent os m1 → (gs : Facts) × (slice_get xs u ≡ Some (Some gs)) × ((v : Value) → moment.Known now (write m1 d.addr v) gs)
+  after_call : (p : Place) (g : Callee) (os : List Operand) (u : ℕ) → k.term ≡ Call p g os u → (d : Dest) (m1 : Memory) → dest_of S.source s1.memory p ≡ Some d → Spent os m1 → (gs : Facts) × (slice_get xs u ≡ Some (Some gs)) × ((v : Value) → Known X xs f1 (write m1 d.addr v) gs)
   unfolding leads after_term
   after_call p g os u is d m1 ed (vs, er) =
-      let (gs, e, below) = folds.sound.next s1.top.block u k runs.facts ek runs.reached (ap (λ t. leads last t u) is ∙ eq_self u) in
+      let (gs, e, below) = folds.sound.next s1.top.block u k runs.says.point.facts ek runs.says.point.reached (ap (λ t. leads last t u) is ∙ eq_self u) in
       let below' : BelowFacts (learn p (always Many) (moved_all os last)) gs = subst (λ t. BelowFacts (after_term t last) gs) is below in
       (gs, e, λ v. holds_below D ts f1 (λ x. borrowed D X.body1 x ≡ false) (write m1 d.addr v) (learn p (always Many) (moved_all os last)) gs below' (call_holds D X.body1 f1 f2 j K (moment.low now) (moment.itself now) (moment.unlent_at now) (moment.lent_at now) s2.memory s1.memory ended.near.linked.mem last ended.known p os d vs m1 ed er v))
 
@@ -200,17 +204,15 @@ module _ {X : Change} {xs : List Reached} {V : Valids X} {Inv : State → Type 0
   goal p g os u is d2 d1 t ed dr at = record {
     waits = λ m2 m1 q am.
         let (gs, e, later) = after_call p g os u is d1 m1 ed am in
-        (refl, record { stand = st; locals = holds_linked j f2 f1 (moment.pl now) m2 m1 q.near.linked; facts = gs; reached = e; start = refl; dests = dr; later = λ d e v. subst (λ (d : Dest). moment.Known now (write m1 d.addr v) gs) (some_val e) (later v) });
-    gets = λ m2 m1 m1' v q am hv h.
+        let says : Paused X xs (Some d1) (to_block u s2.top) (to_block u s1.top) m1 = record { block = refl; at = refl; point = record { start = refl; facts = gs; reached = e; later = λ d e v. subst (λ (d : Dest). Known X xs f1 (write m1 d.addr v) gs) (some_val e) (later v) } } in
+        (refl, record { stand = both_stand u; locals = holds_linked j f2 f1 (moment.pl now) m2 m1 q.near.linked; dests = dr; says = says });
+    gets = λ m2 m1 m1' v q am hv wh h.
         let (gs, e, later) = after_call p g os u is d1 m1 ed am in
         let (m2', g1, l', lv) = near.store_near D ts ts f1 f2 j K (moment.low now) G (moment.bok now) (moment.lok now) V.needs f2 f1 s2.memory s1.memory (moment.nears now) (moment.onces now) m2 m1 m1' d1 d2 t v v q.near dr at hv h in
         let (old, eo, same) = store_split D m1 m1' d1 v h in
-        let run = starts X xs j (to_block u s2.top) (to_block u s1.top) m2' m1' gs st refl (holds_linked j f2 f1 (moment.pl now) m2' m1' l') e (subst (λ m. moment.Known now m gs) same (later v)) in
-        (m2', g1, (living_lent j f2 f1 (moment.pl now) all m2' m1' l', lv), (0, (refl, run)));
+        let point = stands.starts D X.body1 xs (to_block u s1.top) m1' gs refl e (subst (λ m. Known X xs f1 m gs) same (later v)) in
+        (m2', g1, (living_lent j f2 f1 (moment.pl now) all m2' m1' l', lv), (0, (refl, record { stand = both_stand u; locals = holds_linked j f2 f1 (moment.pl now) m2' m1' l'; says = record { block = refl; at = refl; point = point } })));
   }
-    where
-      st : frames.Standing X xs j (to_block u s2.top) (to_block u s1.top)
-      st = moment.moved now (to_block u s2.top) (to_block u s1.top) refl refl refl refl refl refl refl
 
   calls : (p : Place) (g : Callee) (os : List Operand) (u : ℕ) (x : Next) → k.term ≡ Call p g os u → TermMoves S.source (Call p g os u) → TermTy X.source S.source (Call p g os u) → FewTerm X.source (Call p g os u) → finish X.source S.source s1 (Call p g os u) ≡ Some x → Flat x → GentleTo X G f1 s1.memory x → Goes X P (finish (target X) S.target s2 (Call p g (folded_operands T last os) u)) x
   calls p g os u x is mo (t, pt, ct) few e fl ge = same_goes (Call p g os u) (Call p g (folded_operands T last os) u) x few (

@@ -43,8 +43,9 @@ use Rattle.const_flow.proofs.sound.Related as related
 use Rattle.const_flow.proofs.sound.Related.{RefsOk}
 use Rattle.const_rewrite.specs.Folded.{literal, literal_of, or_constant, folded_operand, folded_operands, binary_result, number_or, pair_or, folded_rvalue}
 use Rattle.const_rewrite.proofs.Literals.{literal_value, literal_scalar, literal_known, known_number}
-use Rattle.const_rewrite.proofs.refines.Moment as moment
-use Rattle.const_rewrite.proofs.refines.Moment.{Moment, Knows}
+use Rattle.mir_relate.proofs.Moment as moment
+use Rattle.mir_relate.proofs.Moment.{Moment}
+use Rattle.const_rewrite.proofs.refines.Where.{Known, words}
 
 -- ---- constants
 
@@ -85,7 +86,7 @@ pair_made h m op a b r e =
     let z = num.over op t x.0.0 x.0.1 in
     (z.0, num.flag z.1, ap (λ (r : Value × Memory). r.0) (sym (some_val k2)))
 
-module _ {X : Change} {xs : List Reached} {V : Valids X} {Inv : State → Type 0} (now : Moment X xs V Inv) (fs : Facts) where
+module _ {X : Change} {xs : List Reached} {V : Valids X} {Inv : State → Type 0} (now : Moment X (words X xs) V Inv) (fs : Facts) where
   open now use {s2, s1, r, runs}
 
   abbrev D : List Shape
@@ -115,15 +116,20 @@ module _ {X : Change} {xs : List Reached} {V : Valids X} {Inv : State → Type 0
   abbrev T : Here
   T = text X.source.shapes X.body1
 
-  abbrev pub Q : Memory → Memory → Type 0
-  Q = Knows now fs
+  -- related memories in which the facts hold
+  pub record Knows (m2 m1 : Memory) : Type 0 where
+    pub near : moment.Q now m2 m1
+    pub known : Known X xs now.s1.top.frame m1 fs
+
+  abbrev Q : Memory → Memory → Type 0
+  Q = Knows
 
   -- ---- what is known of what the source reads
 
   abbrev Near : Memory → Memory → Type 0
   Near = moment.Q now
 
-  holds_after : (m2 m1 : Memory) (o : Operand) (r : Value × Memory) → Q m2 m1 → read S.source m1 o ≡ Some r → moment.Known now r.1 fs
+  holds_after : (m2 m1 : Memory) (o : Operand) (r : Value × Memory) → Q m2 m1 → read S.source m1 o ≡ Some r → Known X xs f1 r.1 fs
   holds_after m2 m1 o r q e = related.read_holds D X.body1 f1 f2 j K (moment.low now) (moment.itself now) (moment.unlent_at now) (moment.lent_at now) m2 m1 q.near.linked.mem fs q.known o r e
 
   value_is : (m2 m1 : Memory) (o : Operand) (r : Value × Memory) (n : ℕ) → Q m2 m1 → read S.source m1 o ≡ Some r → known fs o ≡ Num n → r.0 ≡ number n
@@ -138,16 +144,8 @@ module _ {X : Change} {xs : List Reached} {V : Valids X} {Inv : State → Type 0
 
   -- ---- what the source reads and evaluates alone
 
-  operand_self : (o : Operand) → kept.OperandAs D ts ts f1 f2 j K (moment.low now) G (moment.bok now) (moment.lok now) o o
-  operand_self (operand.Copy p) = moment.place_self now p
-  operand_self (operand.Move p) = moment.place_self now p
-  operand_self (operand.Const c) = refl
-
-  spends : (o : Operand) → MoveOk S.source o → Spends S Near o
-  spends o mo = near.near_spends D ts ts f1 f2 j K (moment.low now) G (moment.bok now) (moment.lok now) V.needs f2 f1 s2.memory s1.memory (moment.nears now) (moment.onces now) (omega arith) o o (operand_self o) mo
-
   read_left : (m2 m1 : Memory) (o : Operand) (r : Value × Memory) → MoveOk S.source o → Q m2 m1 → read S.source m1 o ≡ Some r → Q m2 r.1
-  read_left m2 m1 o r mo q e = record { near = read_alone S Near o (spends o mo) m2 m1 r q.near e; known = holds_after m2 m1 o r q e }
+  read_left m2 m1 o r mo q e = record { near = read_alone S Near o (moment.spends now o mo) m2 m1 r q.near e; known = holds_after m2 m1 o r q e }
 
   pub number_left : (m2 m1 : Memory) (o : Operand) (r : ℕ × Memory) → MoveOk S.source o → Q m2 m1 → read_number S.source m1 o ≡ Some r → Q m2 r.1
   unfolding read_number
@@ -163,7 +161,7 @@ module _ {X : Change} {xs : List Reached} {V : Valids X} {Inv : State → Type 0
 
   pub plain_read : (o : Operand) → MoveOk S.source o → Reads S Q o o
   plain_read o mo =
-      let R = kept.reads_as D ts ts f1 f2 j K (moment.low now) G (moment.bok now) (moment.lok now) Near (moment.keeps now) o o (operand_self o) mo in
+      let R = kept.reads_as D ts ts f1 f2 j K (moment.low now) G (moment.bok now) (moment.lok now) Near (moment.keeps now) o o (moment.operand_self now o) mo in
       record { reads = λ m2 m1 r q e. (let (x, g, h, n) = R.reads m2 m1 r q.near e in (x, g, h, record { near = n; known = holds_after m2 m1 o r q e })); scalars = R.scalars }
 
   const_read : (o : Operand) (c : Const) (t : ScalarTy) (n : ℕ) → MoveOk S.source o → scalar_ty_of T o ≡ Some t → known fs o ≡ Num n → literal t n ≡ Some c → Reads S Q o (operand.Const c)
@@ -246,10 +244,10 @@ module _ {X : Change} {xs : List Reached} {V : Valids X} {Inv : State → Type 0
   pub folded_evals : (x : TypedRvalue) → RvalueMoves S.source x → RefsOk D X.body1 x → Typed x → Evals S Q Q x (folded_rvalue T fs x)
   unfolding folded_rvalue
   folded_evals («use» o) mo ok ty = likewise S Q refl («use» o) («use» (folded_operand T fs o)) (folded_reads o mo)
-  folded_evals (binary op a b) mo ok ty = number_evals (binary op a b) (binary op (folded_operand T fs a) (folded_operand T fs b)) (binary_result T op a) tt (spends a mo.0, spends b mo.1) ty (refl, folded_reads a mo.0, folded_reads b mo.1)
-  folded_evals (overflow op a b) mo ok ty = pair_evals op a b (overflow op (folded_operand T fs a) (folded_operand T fs b)) (scalar_ty_of T a) (Some scalar_ty.Bool) (spends a mo.0, spends b mo.1) (refl, folded_reads a mo.0, folded_reads b mo.1)
-  folded_evals (unary op a) mo ok ty = number_evals (unary op a) (unary op (folded_operand T fs a)) (scalar_ty_of T a) tt (spends a mo) ty (refl, folded_reads a mo)
-  folded_evals (cast a t) mo ok ty = number_evals (cast a t) (cast (folded_operand T fs a) t) (scalar_in t) tt (spends a mo) ty (refl, folded_reads a mo)
+  folded_evals (binary op a b) mo ok ty = number_evals (binary op a b) (binary op (folded_operand T fs a) (folded_operand T fs b)) (binary_result T op a) tt (moment.spends now a mo.0, moment.spends now b mo.1) ty (refl, folded_reads a mo.0, folded_reads b mo.1)
+  folded_evals (overflow op a b) mo ok ty = pair_evals op a b (overflow op (folded_operand T fs a) (folded_operand T fs b)) (scalar_ty_of T a) (Some scalar_ty.Bool) (moment.spends now a mo.0, moment.spends now b mo.1) (refl, folded_reads a mo.0, folded_reads b mo.1)
+  folded_evals (unary op a) mo ok ty = number_evals (unary op a) (unary op (folded_operand T fs a)) (scalar_ty_of T a) tt (moment.spends now a mo) ty (refl, folded_reads a mo)
+  folded_evals (cast a t) mo ok ty = number_evals (cast a t) (cast (folded_operand T fs a) t) (scalar_in t) tt (moment.spends now a mo) ty (refl, folded_reads a mo)
   folded_evals (rvalue.ref p) mo ok ty = likewise S Q refl (rvalue.ref p) (rvalue.ref p) (ref_self p ok)
   folded_evals (rvalue.ref_mut p) mo ok ty = likewise S Q refl (rvalue.ref_mut p) (rvalue.ref_mut p) (ref_self p ok)
   folded_evals (discriminant p) mo ok ty = likewise S Q refl (discriminant p) (discriminant p) (shown p)

@@ -29,6 +29,7 @@ use Rattle.const_flow.specs.ConstAt.{Reached, text}
 use Rattle.const_rewrite.specs.Folded.{literal_of, or_constant, folded_operand, folded_operands, binary_result, number_or, pair_or, folded_rvalue, folded_stmt, folded_stmts, switch_or, as_expected, folded_term, folded_blocks, folded_by}
 use Rattle.const_rewrite.proofs.Literals.{literal_known, literal_formed}
 use Rattle.const_rewrite.proofs.Blocks.{BlockFrom, blocks_long, blocks_from, stmt_back}
+use Rattle.mir_relate.proofs.Formed.{same_locals_stmt, BlocksFormed}
 
 constant_formed : (o : Option ScalarTy) (k : Cell) (c : Const) → literal_of o k ≡ Some c → const_formed c ≡ true
 constant_formed o k c e = let (t, n, et, ek, el) = literal_known o k c e in literal_formed t n c el
@@ -192,29 +193,22 @@ module _ (C : Crate) (D : List Shape) (xs : List Reached) (b : TypedBody) where
   abbrev b2 : TypedBody
   b2 = record b { blocks = folded_blocks (text D b) b.blocks xs }
 
-  same_stmt : (s : TypedStmt) → stmt_formed C b2 s ≡ stmt_formed C b s
-  unfolding stmt_formed
-  same_stmt (assign p x) = refl
-  same_stmt (storage_live x) = refl
-  same_stmt (storage_dead x) = refl
-  same_stmt (set_discriminant p k) = refl
-
   same_term : (t : Term) → term_formed C b2 t ≡ term_formed C b t
   unfolding term_formed
   same_term t = ap (λ n. call_formed C t && (list_all operand_formed (term_operands t) && (list_all (place_formed b) (term_places t) && list_all (λ i. nat_lt i n) (targets t)))) (blocks_long (text D b) b.blocks xs)
 
   module _ (formed : body_formed C b ≡ true) where
     stays : (i : ℕ) (k : TypedBlock) → slice_get b.blocks i ≡ Some k → block_formed C b2 k ≡ true
-    stays i k e = and_from _ _ (list_all_true (stmt_formed C b2) k.stmts (λ n s f. same_stmt s ∙ stmt_formed_at C b formed i n k s e f)) (same_term k.term ∙ term_formed_at C b formed i k e)
+    stays i k e = and_from _ _ (list_all_true (stmt_formed C b2) k.stmts (λ n s f. same_locals_stmt C b b2 refl s ∙ stmt_formed_at C b formed i n k s e f)) (same_term k.term ∙ term_formed_at C b formed i k e)
 
     changes : (i : ℕ) (k : TypedBlock) (fs : Facts) → slice_get b.blocks i ≡ Some k → block_formed C b2 (record { stmts = folded_stmts (text D b) fs k.stmts; term = folded_term (text D b) (after_all (text D b) k.stmts fs) k.term }) ≡ true
     changes i k fs e =
         let h = text D b in
         let last = after_all h k.stmts fs in
-        let stmts : list_all (stmt_formed C b2) (folded_stmts h fs k.stmts) ≡ true = list_all_true (stmt_formed C b2) (folded_stmts h fs k.stmts) (λ n s2 f. (let (gs, s, at, same) = stmt_back h k.stmts n fs s2 f in subst (λ s2. stmt_formed C b2 s2 ≡ true) same (same_stmt (folded_stmt h gs s) ∙ stmt_fine D b.locals gs C b s (stmt_formed_at C b formed i n k s e at)))) in
+        let stmts : list_all (stmt_formed C b2) (folded_stmts h fs k.stmts) ≡ true = list_all_true (stmt_formed C b2) (folded_stmts h fs k.stmts) (λ n s2 f. (let (gs, s, at, same) = stmt_back h k.stmts n fs s2 f in subst (λ s2. stmt_formed C b2 s2 ≡ true) same (same_locals_stmt C b b2 refl (folded_stmt h gs s) ∙ stmt_fine D b.locals gs C b s (stmt_formed_at C b formed i n k s e at)))) in
         and_from _ _ stmts (same_term (folded_term h last k.term) ∙ folded_term_formed D b.locals last C b k.term (term_formed_at C b formed i k e))
 
-    each : (i : ℕ) (k2 : TypedBlock) → slice_get b2.blocks i ≡ Some k2 → block_formed C b2 k2 ≡ true
+    each : BlocksFormed C b2
     each i k2 e = (let (k, at, from) = blocks_from (text D b) b.blocks xs i k2 e in go k at from)
       where
         go : (k : TypedBlock) → slice_get b.blocks i ≡ Some k → BlockFrom (text D b) k k2 → block_formed C b2 k2 ≡ true

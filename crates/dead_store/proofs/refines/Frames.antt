@@ -1,5 +1,5 @@
 -- The frames of the pruned body: how they are related, frames that wait, and returns to them.
-use Rattle.std.proofs.Common.{◌≡◌, ◌⊎◌, inl, inr, refl, sym, ap, ap₂, ◌∙◌, subst, ℕ, ◌<◌, Bool, true, false, nat_eq, ◌&&◌, ◌||◌, if◌then◌else◌, List, [], ◌∷◌, ◌++◌, length, drop, Option, Some, None, slice_get, arith}
+use Rattle.std.proofs.Common.{◌≡◌, ◌⊎◌, inl, inr, refl, sym, ap, ap₂, ◌∙◌, subst, ℕ, ◌<◌, Bool, true, false, nat_eq, ◌&&◌, ◌||◌, List, [], ◌∷◌, ◌++◌, length, drop, Option, Some, None, slice_get, arith}
 use Rattle.std.proofs.lemmas.Bool.{eqb-true}
 use Rattle.mir_syntax.specs.declared.body.Proj.{Proj}
 use Rattle.mir_syntax.specs.Tree.{Tree}
@@ -11,22 +11,22 @@ use Rattle.mir_semantics.specs.Step.{Dest, Dropping, Control, State, Next, new_s
 use Rattle.mir_renaming.specs.Renaming.{Renaming, ValueRel, SomeRel}
 use Rattle.mir_syntax.proofs.Binds.{bind_some, some_bind}
 use Rattle.mir_renaming.proofs.Memory.{same_or_not}
-use Rattle.mir_renaming.proofs.Frames.{open_same, new_control}
-use Rattle.mir_renaming.proofs.Ghosts.{value_mono}
+use Rattle.mir_renaming.proofs.Frames.{new_control}
 use Rattle.mir_renaming.proofs.Statements.{Linked, ValuesRel}
 use Rattle.mir_renaming.proofs.Types.{TypeMap, AddrTy}
 use Rattle.mir_renaming.specs.Places.{is_nil}
 use Rattle.escape_info.specs.Borrowed.{borrowed}
 use Rattle.liveness.specs.Live.{Live}
 use Rattle.dead_store.specs.Pruned.{is_useless, without, pruned_once}
-use Rattle.mir_renaming.proofs.Stores.{pair_parts, store_split, store_made}
+use Rattle.mir_renaming.proofs.Stores.{store_split, store_made}
 use Rattle.dead_store.proofs.refines.Reads.{nil_is}
 use Rattle.mir_relate.specs.Alike.{Same}
 use Rattle.mir_relate.specs.Leaves.{Leaves}
 use Rattle.mir_relate.specs.Frames.{Change, Pass, lowest, DestsRel, opened, Below}
 use Rattle.mir_relate.specs.Pass.{GentleTo, Valids, KeptLaw, FrameLaws, Goes, Related}
 use Rattle.mir_relate.proofs.Leaves.{some_val, leaves_none, leaves_less}
-use Rattle.mir_relate.proofs.Opens.{opened_up}
+use Rattle.mir_relate.proofs.OneForOne as one
+use Rattle.mir_relate.proofs.OneForOne.{home, home_none, home_some, home_once, new_holds, Return}
 use Rattle.mir_relate.proofs.Stacks.{dests_up}
 use Rattle.mir_relate.proofs.Near as near
 use Rattle.mir_relate.proofs.Mild.{gentle_on}
@@ -87,22 +87,8 @@ module _ (X : Change) (once : X.body2 ≡ pruned_once X.source.shapes X.body1) w
         (ap (λ i. drop i (without (gone c1.block) 0 k.stmts)) a2 ∙ ap (λ i. without (gone c1.block) i (drop i k.stmts)) (sym a1), ap length_at h ∙ ap (λ i. length (drop i k.stmts)) (sym a1)),
   )
 
-  -- a lent local stands for itself
   abbrev pub place : ℕ → Option ℕ
-  place x = if lent x then Some x else None
-
-  pub place_lent : (x : ℕ) → lent x ≡ true → place x ≡ Some x
-  place_lent x e = ap (λ b. if b then Some x else None) e
-
-  pub place_none : (x : ℕ) → lent x ≡ false → place x ≡ None
-  place_none x e = ap (λ b. if b then Some x else None) e
-
-  pub place_some : (x y : ℕ) → place x ≡ Some y → (lent x ≡ true) × (x ≡ y)
-  place_some x y e = go (lent x) refl
-    where
-      go : (b : Bool) → lent x ≡ b → (lent x ≡ true) × (x ≡ y)
-      go true l = (l, some_val (sym (place_lent x l) ∙ e))
-      go false l = absurd (let z : None ≡ Some y = sym (place_none x l) ∙ e in grind arith)
+  place = home lent
 
   abbrev pub Standing : ℕ → Renaming → Control → Control → Type 0
   Standing = Stand X.f place InBlock
@@ -134,11 +120,7 @@ module _ (X : Change) (once : X.body2 ≡ pruned_once X.source.shapes X.body1) w
   }
 
   pub placed : (n : ℕ) (j : Renaming) (c2 c1 : Control) → Standing n j c2 c1 → Placed j c2.frame c1.frame
-  placed n j c2 c1 st = record { self = λ x g y e. self x g y e (lent x) refl; only = λ h x y e. (let (p, q) = st.only h x y e in (p, (place_some x y q).1)) }
-    where
-      self : (x g y : ℕ) → j c1.frame x ≡ Some (g, y) → (b : Bool) → lent x ≡ b → (g ≡ c2.frame) × (y ≡ x)
-      self x g y e true l = pair_parts c2.frame x g y (sym (st.roots x x (place_lent x l)) ∙ e)
-      self x g y e false l = absurd (let z : None ≡ Some (g, y) = sym (st.none x (place_none x l)) ∙ e in grind arith)
+  placed = one.placed lent X.f InBlock
 
   -- ---- frames that wait
 
@@ -152,7 +134,7 @@ module _ (X : Change) (once : X.body2 ≡ pruned_once X.source.shapes X.body1) w
   awaits_kept : (G : TypeMap) (j j' : Renaming) (d2 d1 : Option Dest) (n : ℕ) (c2 c1 : Control) (n2 n1 : ℕ) (m2' m1' m2 m1 : Memory) → c1.frame < n1 → c2.frame < n2 → Standing n j c2 c1 → Leaves D G j j' n2 n1 m2' m1' m2 m1 → Awaits j d2 d1 c2 c1 m2 m1 → Awaits j' d2 d1 c2 c1 m2' m1'
   awaits_kept G j j' d2 d1 n c2 c1 n2 n1 m2' m1' m2 m1 l1 l2 st l h =
       let p = placed n j c2 c1 st in
-      let none = st.none h.local (place_none h.local h.unlent) in
+      let none = st.none h.local (home_none lent h.local h.unlent) in
       let a1 : Addr = record { frame = c1.frame; local = h.local; path = h.path } in
       let a2 : Addr = record { frame = c2.frame; local = h.local; path = h.path } in
       record {
@@ -180,7 +162,7 @@ module _ (X : Change) (once : X.body2 ≡ pruned_once X.source.shapes X.body1) w
       let a1 : Addr = record { frame = c1.frame; local = h.local; path = h.path } in
       let a2 : Addr = record { frame = c2.frame; local = h.local; path = h.path } in
       let p = placed n j c2 c1 st in
-      let none = st.none h.local (place_none h.local h.unlent) in
+      let none = st.none h.local (home_none lent h.local h.unlent) in
       let is : d ≡ record { addr = a1; guard = None } = some_val (sym ed ∙ h.to1) in
       let (old, e1, same) = store_split D m1 m1' (record { addr = a1; guard = None }) v (subst (λ d. store D m1 d v ≡ Some m1') is e) in
       let (old2, e2) = h.there old e1 in
@@ -201,41 +183,13 @@ module _ (X : Change) (once : X.body2 ≡ pruned_once X.source.shapes X.body1) w
   pub begins : (j : Renaming) (k2 k1 : ℕ) (d2 d1 : Option Dest) (m2 m1 : Memory) (vs ws : List Value) → ValuesRel j vs ws → ((x : ℕ) → j k1 x ≡ None) → ((h x g y : ℕ) → j h x ≡ Some (g, y) → g < k2) → (n : ℕ) × Standing n (opened j k2 k1 place) (new_control X.f k2 d2) (new_control X.f k1 d1) × Lives (opened j k2 k1 place) (new_control X.f k2 d2) (new_control X.f k1 d1) (open_frame m2 k2 (new_slots D X.body2.locals ws)) (open_frame m1 k1 (new_slots D X.body1.locals vs))
   begins j k2 k1 d2 d1 m2 m1 vs ws hv fresh1 fresh2 =
       let (n, h) = begins_at (new_control X.f k2 d2) (new_control X.f k1 d1) refl refl in
-      (n, stand_begins X.f place InBlock j k2 k1 d2 d1 n fresh1 fresh2 h, record { set = λ x. true; covers = λ x l. inr refl; holds = record { at = λ x v none a e. here x v e; room = λ x v none e. (let (w, g, r) = here x v e in (w, g)) } })
-    where
-      here : (x : ℕ) (v : Value) → local_at (open_frame m1 k1 (new_slots D X.body1.locals vs)) k1 x ≡ Some v → SomeRel (opened j k2 k1 place) v (local_at (open_frame m2 k2 (new_slots D X.body2.locals ws)) k2 x)
-      here x v e =
-          let (w, g, r) = slots_same D X.body2.locals X.body1.locals same_locals j vs ws hv x v (sym (open_same m1 k1 (new_slots D X.body1.locals vs) x) ∙ e) in
-          (w, open_same m2 k2 (new_slots D X.body2.locals ws) x ∙ g, value_mono j (opened j k2 k1 place) (opened_up j k2 k1 place fresh1 fresh2) v w r)
+      (n, stand_begins X.f place InBlock j k2 k1 d2 d1 n fresh1 fresh2 h, record { set = λ x. true; covers = λ x l. inr refl; holds = new_holds D X.body2.locals X.body1.locals same_locals place j k2 k1 m2 m1 vs ws (λ x. true) hv fresh1 fresh2 })
 
   -- ---- another function returns
 
   module _ (V : Valids X) (Inv : State → Type 0) where
-    -- a frame of another function gives back values to a frame that waits
-    record Return : Type 1 where
-      pub n : ℕ
-      pub s2 : State
-      pub s1 : State
-      pub r : Related X pass V Inv n s2 s1
-      pub m2 : Memory
-      pub m1 : Memory
-      pub c2 : Control
-      pub c1 : Control
-      pub ds : List Control
-      pub cs2 : List Control
-      pub v : Value
-      pub w : Value
-      pub callers : s1.callers ≡ c1 ∷ ds
-      pub linked : Linked r.core.lent r.core.lent m2 m1
-      pub i : ℕ
-      pub st : Standing i r.core.lent c2 c1
-      pub below : Below X pass r.core.lent c2.dest c1.dest c2.frame c1.frame cs2 ds m2 m1
-      pub older1 : c1.frame < s1.top.frame
-      pub older2 : c2.frame < s2.top.frame
-      pub same : Same r.core.lent v w
-
-    module _ (now : Return) (x : Next) where
-      open now use {n, s2, s1, r, m2, m1, c2, c1, ds, cs2, v, w, callers as q, linked as l, i, st, below as be, older1 as l1, older2 as l2, same as hv}
+    module _ (now : Return X pass V Inv) (i : ℕ) (st : Standing i now.r.core.lent now.c2 now.c1) (x : Next) where
+      open now use {n, s2, s1, r, m2, m1, c2, c1, ds, cs2, v, w, callers as q, linked as l, below as be, older1 as l1, older2 as l2, same as hv}
 
       abbrev j : Renaming
       j = r.core.lent
@@ -269,19 +223,19 @@ module _ (X : Change) (once : X.body2 ≡ pruned_once X.source.shapes X.body1) w
     resumed : (n : ℕ) (s2 s1 : State) (r : Related X pass V Inv n s2 s1) (m2 m1 : Memory) (c2 c1 : Control) (gs ds cs2 : List Control) (v w : Value) (x : Next) → s1.callers ≡ c1 ∷ (gs ++ ds) → Linked r.core.lent r.core.lent m2 m1 → pass.waits r.core.lent s2.top.dest s1.top.dest c2 c1 gs m2 m1 → Below X pass r.core.lent c2.dest (lowest c1 gs).dest c2.frame (lowest c1 gs).frame cs2 ds m2 m1 → c1.frame < s1.top.frame → c2.frame < s2.top.frame → ((d : Dest) → s1.top.dest ≡ Some d → (t : Tree) × AddrTy D r.typed1.types d.addr t) → Same r.core.lent v w → return_to D s1 m1 s1.top.dest (c1 ∷ (gs ++ ds)) v ≡ Some x → GentleTo X r.typed1.types c1.frame m1 x → Goes X pass (return_to D s2 m2 s2.top.dest (c2 ∷ cs2) w) x
     resumed n s2 s1 r m2 m1 c2 c1 [] ds cs2 v w x q l (e, (i, st), h) be l1 l2 dt hv k ge = go h
       where
-        now : Return
-        now = record { n = n; s2 = s2; s1 = s1; r = r; m2 = m2; m1 = m1; c2 = c2; c1 = c1; ds = ds; cs2 = cs2; v = v; w = w; callers = q; linked = l; i = i; st = st; below = be; older1 = l1; older2 = l2; same = hv }
+        now : Return X pass V Inv
+        now = record { n = n; s2 = s2; s1 = s1; r = r; m2 = m2; m1 = m1; c2 = c2; c1 = c1; ds = ds; cs2 = cs2; v = v; w = w; callers = q; linked = l; below = be; older1 = l1; older2 = l2; same = hv }
 
         go : DestsRel r.core.lent s1.top.dest s2.top.dest × Lives r.core.lent c2 c1 m2 m1 ⊎ Awaits r.core.lent s2.top.dest s1.top.dest c2 c1 m2 m1 → Goes X pass (return_to D s2 m2 s2.top.dest (c2 ∷ cs2) w) x
-        go (inl (dr, lives)) = far_back now x s2.top.dest s1.top.dest dr lives dt k ge
-        go (inr h) = own_back now x s2.top.dest s1.top.dest h k ge
+        go (inl (dr, lives)) = far_back now i st x s2.top.dest s1.top.dest dr lives dt k ge
+        go (inr h) = own_back now i st x s2.top.dest s1.top.dest h k ge
     resumed n s2 s1 r m2 m1 c2 c1 (g ∷ gs) ds cs2 v w x q l (e, st, h) be l1 l2 dt hv k ge = absurd (grind arith)
 
     pub frames : FrameLaws X pass V Inv
     frames = record {
       kept = kept_law;
-      once = λ x x' y e e'. (let (a, b) = place_some x y e in let (a', b') = place_some x' y e' in b ∙ sym b');
-      slots = λ j vs ws hv few x y e v k. (let (a, b) = place_some x y e in subst (λ y. SomeRel j v (slice_get (new_slots D X.body2.locals ws) y)) b (slots_same D X.body2.locals X.body1.locals same_locals j vs ws hv.0 x v k));
+      once = home_once lent;
+      slots = λ j vs ws hv few x y e v k. subst (λ y. SomeRel j v (slice_get (new_slots D X.body2.locals ws) y)) (home_some lent x y e).1 (slots_same D X.body2.locals X.body1.locals same_locals j vs ws hv.0 x v k);
       begins = λ j k2 k1 d2 d1 m2 m1 vs ws hv few f1 f2 l. (let (n, st, h) = begins j k2 k1 d2 d1 m2 m1 vs ws hv.0 f1 f2 in (n, (refl, st, h)));
-      resumes = λ n s2 s1 r m2 m1 c2 c1 gs ds cs2 v w x q q2 p2 p1 l wt be l1 l2 lo dt hv k ge. resumed n s2 s1 r m2 m1 c2 c1 gs ds cs2 v w x q l wt be l1 l2 dt hv k ge;
+      resumes = λ n s2 s1 r m2 m1 c2 c1 gs ds cs2 v w x q q2 p2 p1 l wt be l1 l2 lo dt hv wh k ge. resumed n s2 s1 r m2 m1 c2 c1 gs ds cs2 v w x q l wt be l1 l2 dt hv k ge;
     }

@@ -1,5 +1,5 @@
 -- A frame of the pruned body at work: what is related, what lives, and what both frames read.
-use Rattle.std.proofs.Common.{◌≡◌, ◌⊎◌, inl, inr, refl, sym, ap, ℕ, ◌≤◌, Bool, true, false, List, [], Some, None, slice_get, arith}
+use Rattle.std.proofs.Common.{◌≡◌, ◌⊎◌, inl, inr, refl, sym, ap, ℕ, Bool, true, false, List, [], Some, None, slice_get, arith}
 use Rattle.mir_syntax.specs.declared.body.Place.{Place}
 use Rattle.mir_syntax.specs.declared.body.Operand.{Operand}
 use Rattle.mir_syntax.specs.Tree.{Tree}
@@ -11,7 +11,7 @@ use Rattle.mir_semantics.specs.Step.{Here, Dest, Control, State, local_addr, rea
 use Rattle.mir_syntax.specs.Parts.{has_deref}
 use Rattle.mir_renaming.specs.Renaming.{Renaming, Sub}
 use Rattle.mir_renaming.proofs.Statements.{DestRel}
-use Rattle.mir_renaming.proofs.Types.{HasTy, StmtTy}
+use Rattle.mir_renaming.proofs.Types.{HasTy, StmtTy, LocalsTy}
 use Rattle.mir_renaming.proofs.Among.{Among, OkOperand, OkOperands, OkRvalue}
 use Rattle.mir_relate.specs.Alike.{Between, Sides, Same, GotMemory, Reads, AllRead, Evals}
 use Rattle.mir_relate.specs.Frames.{Change, Pass, Below}
@@ -21,6 +21,7 @@ use Rattle.mir_relate.proofs.Itself as itself
 use Rattle.mir_relate.proofs.Kept as kept
 use Rattle.mir_relate.proofs.Living.{Holds, Placed, living, living_at, living_low, living_near, living_once, living_linked, living_lent, holds_near}
 use Rattle.mir_relate.proofs.Near as near
+use Rattle.mir_relate.proofs.OneForOne.{home_lent, home_none}
 use Rattle.mir_relate.proofs.Own as own
 use Rattle.mir_relate.proofs.Running as running
 use Rattle.mir_relate.proofs.Single.{stand_moved}
@@ -29,6 +30,7 @@ use Rattle.liveness.specs.Live.{Live}
 use Rattle.dead_store.specs.Pruned.{pruned_once}
 use Rattle.dead_store.proofs.refines.Frames as frames
 use Rattle.dead_store.proofs.refines.Frames.{Standing, InBlock, Lives}
+use Rattle.mir_relate.proofs.Near.{Nears}
 
 -- two states whose top frames are of the pruned body
 pub record Moment (X : Change) (once : X.body2 ≡ pruned_once X.source.shapes X.body1) (V : Valids X) (Inv : State → Type 0) : Type 1 where
@@ -75,7 +77,7 @@ module _ {X : Change} {once : X.body2 ≡ pruned_once X.source.shapes X.body1} {
   abbrev bok : (t : Tree) → HasTy D G t (blank D t)
   bok = V.valid1.blank_ok G
 
-  pub lok : (x : ℕ) (t : Tree) → slice_get ts1 x ≡ Some t → G f1 x ≡ Some t
+  pub lok : LocalsTy G ts1 f1
   lok = running.locals_ok r st.function1 st.function2
 
   pub types : (x : ℕ) → slice_get ts1 x ≡ slice_get ts2 x
@@ -87,7 +89,7 @@ module _ {X : Change} {once : X.body2 ≡ pruned_once X.source.shapes X.body1} {
   pub low : Sub j K
   low = living_low j f2 f1 pl a
 
-  pub nears : (h x g y : ℕ) → K h x ≡ Some (g, y) → (j h x ≡ Some (g, y)) ⊎ ((j h x ≡ None) × (f1 ≤ h) × (f2 ≤ g) × ((h' x' : ℕ) → j h' x' ≡ Some (g, y) → ⊥))
+  pub nears : Nears j K f2 f1
   nears = living_near j f2 f1 pl a
 
   pub onces : (x y h x' : ℕ) (v : Value) → K f1 x ≡ Some (f2, y) → K h x' ≡ Some (f2, y) → local_at s1.memory h x' ≡ Some v → (h ≡ f1) × (x' ≡ x)
@@ -128,10 +130,10 @@ module _ {X : Change} {once : X.body2 ≡ pruned_once X.source.shapes X.body1} {
   seen = record { K = K; Q = Q; S = S; H1 = H1; H2 = H2; lent = lent; Alive = Alive; Left = Left }
 
   pub lent_at : (x : ℕ) → lent x ≡ true → j f1 x ≡ Some (f2, x)
-  lent_at x e = st.roots x x (frames.place_lent X once x e)
+  lent_at x e = st.roots x x (home_lent (borrowed X.source.shapes X.body1) x e)
 
   pub unlent_at : (x : ℕ) → lent x ≡ false → j f1 x ≡ None
-  unlent_at x e = st.none x (frames.place_none X once x e)
+  unlent_at x e = st.none x (home_none (borrowed X.source.shapes X.body1) x e)
 
   pub at : (x : ℕ) → Alive x → K f1 x ≡ Some (f2, x)
   at x (inl e) = low f1 x _ (lent_at x e)

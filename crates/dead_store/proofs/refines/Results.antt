@@ -51,7 +51,7 @@ module _ {X : Change} {once : X.body2 ≡ pruned_once X.source.shapes X.body1} {
   far_goal : (d2 d1 : Dest) (u : ℕ) (t : Tree) → moment.Covered now u → DestRel j d1 d2 → AddrTy D G d1.addr t → GoalAt d2 d1 u
   far_goal d2 d1 u t cov dr ty = record {
     waits = λ m2 m1 q. (let (n', (z, st', lv)) = moment.edge now m2 m1 u cov q in (z, (n', st'), inl (dr, lv)));
-    gets = λ m2 m1 m1' v q hv k. gets m2 m1 m1' v q hv k;
+    gets = λ m2 m1 m1' v q hv wh k. gets m2 m1 m1' v q hv k;
   }
     where
       gets : (m2 m1 m1' : Memory) (v : Value) → Q m2 m1 → Same j v v → store D m1 d1 v ≡ Some m1' → (m2' : Memory) × (store D m2 d2 v ≡ Some m2') × Left m2' m1' × ((n' : ℕ) × P.own n' j (to_block u s2.top) (to_block u s1.top) [] m2' m1')
@@ -67,7 +67,7 @@ module _ {X : Change} {once : X.body2 ≡ pruned_once X.source.shapes X.body1} {
   own_goal : (p : Place) (u : ℕ) → lent p.local ≡ false → ((x : ℕ) → Live D X.body1 u 0 x → Alive x ⊎ ((x ≡ p.local) × (p.proj ≡ []))) → ((m2 m1 : Memory) (o : Value) → Q m2 m1 → value_at m1 (record { frame = f1; local = p.local; path = p.proj }) ≡ Some o → (w : Value) × (value_at m2 (record { frame = f2; local = p.local; path = p.proj }) ≡ Some w)) → GoalAt (plain_at H2 p) (plain_at H1 p) u
   own_goal p u nl cov is_there = record {
     waits = λ m2 m1 q. (let (n', st') = here in (refl, (n', st'), inr (awaits m2 m1 q)));
-    gets = λ m2 m1 m1' v q hv k.
+    gets = λ m2 m1 m1' v q hv wh k.
         let (n', st') = here in
         let (c, ec, (m2', g, l', lv, lives')) = frames.delivers X once G j n' (to_block u s2.top) (to_block u s1.top) (Some (plain_at H2 p)) (Some (plain_at H1 p)) m2 m1 m1' v v (plain_at H1 p) st' (awaits m2 m1 q) (moment.left now m2 m1 q).0 hv.0 refl k in
         (m2', subst (λ c. store D m2 c v ≡ Some m2') (sym (some_val ec)) g, (l', leaves_then D G j j j f2 f1 s2.memory s1.memory m2 m1 m2' m1' q.leaves lv), (n', (refl, st', lives')));

@@ -32,7 +32,7 @@ once_refines C valid f g there no_drops =
     let I = Runs C valid f g there b2 alike valid2 in
     let apart = apart_in C valid in
     replaced C valid f g there b2 alike valid2 (pass X refl)
-    (laws X refl no_drops V I (step_known (code_of C) apart (valid_code C valid)) (λ s x i e. step_flat (code_of C) apart (valid_code C valid) s x i e))
+    (laws X refl no_drops V I (step_known (code_of C) apart (valid_code C valid), λ s x i e. step_flat (code_of C) apart (valid_code C valid) s x i e))
 
 module _ (C : Crate) (valid : Valid C) (f : ℕ) (g : TypedFunction) (there : slice_get C.functions f ≡ Some g) (no_drops : NoDrops g.body) where
   -- one round more, of a body that some rounds left

@@ -26,14 +26,14 @@ use Rattle.mir_relate.specs.Frames.{Change}
 use Rattle.mir_relate.specs.Pass.{Valids, RvalueMoves, StmtMoves}
 use Rattle.mir_relate.proofs.Alone.{eval_alone}
 use Rattle.mir_relate.proofs.Leaves.{some_val, leaves_then, leaves_source}
-use Rattle.mir_relate.proofs.Living.{Holds, own_linked, own_leaves, own_holds, gone_linked, gone_holds}
+use Rattle.mir_relate.proofs.Living.{Holds, own_linked, own_leaves, own_holds, unlent_linked, gone_holds}
 use Rattle.mir_relate.proofs.Single.{addr_is, set_blank_is, set_blank_made, plain_at, dest_plain, dest_there, resolve_whole}
 use Rattle.liveness.specs.Live.{place_local, written_reads, stmt_reads, stmt_fills, Live}
 use Rattle.mir_syntax.proofs.Members.{has_first, has_none}
 use Rattle.liveness.specs.Bits.{stands_has, has_stands}
 use Rattle.liveness.proofs.Paths.{live_stmt, live_next}
 use Rattle.dead_store.specs.Pruned.{IsRead, IsUseless, IsUseful, pruned_once}
-use Rattle.dead_store.proofs.refines.Lent.{lends}
+use Rattle.escape_info.proofs.Lends.{lends}
 use Rattle.dead_store.proofs.refines.Reads.{ok_rvalue, only_one, whole_is, is_nil_or, written_deref}
 use Rattle.dead_store.proofs.refines.Frames.{more, more_new, more_old, Lives}
 use Rattle.dead_store.proofs.refines.Frames as frames
@@ -193,7 +193,7 @@ module _ {X : Change} {once : X.body2 ≡ pruned_once X.source.shapes X.body1} {
     write_gone : (x : ℕ) (ps : List Proj) → lent x ≡ false → (Live D X.body1 s1.top.block (suc s1.top.at) x → ⊥) → ((y : ℕ) → Live D X.body1 s1.top.block (suc s1.top.at) y → (y ≡ x → ⊥) → Alive y) → (m1 : Memory) (v : Value) → Q s2.memory m1 → GoneDone (write m1 (record { frame = f1; local = x; path = ps }) v)
     write_gone x ps nl dead stay m1 v q =
         let (l, lv) = moment.left now s2.memory m1 q in (
-          (gone_linked j f2 f1 (moment.pl now) a x (moment.unlent_at now x nl) ps s2.memory m1 v l, leaves_then D G j j j f2 f1 s2.memory s1.memory s2.memory m1 s2.memory (write m1 (record { frame = f1; local = x; path = ps }) v) lv (leaves_source D G j s2.memory m1 (record { frame = f1; local = x; path = ps }) v f2 f1 (omega arith))),
+          (unlent_linked j s2.memory m1 (record { frame = f1; local = x; path = ps }) v (moment.unlent_at now x nl) l, leaves_then D G j j j f2 f1 s2.memory s1.memory s2.memory m1 s2.memory (write m1 (record { frame = f1; local = x; path = ps }) v) lv (leaves_source D G j s2.memory m1 (record { frame = f1; local = x; path = ps }) v f2 f1 (omega arith))),
           record { set = less; covers = covered; holds = gone_holds j f2 f1 (moment.pl now) a x (moment.unlent_at now x nl) ps less less_parts s2.memory m1 v (moment.holds now s2.memory m1 q) },
         )
       where

@@ -1,19 +1,20 @@
 -- A step of the pruned body, and the laws of the pass.
-use Rattle.std.proofs.Common.{◌≡◌, inl, inr, refl, sym, ap, ap₂, ◌∙◌, subst, ℕ, suc, ◌+◌, ◌<◌, Bool, true, false, List, [], ◌∷◌, ◌++◌, length, drop, Option, Some, None, slice_get, arith}
+use Rattle.std.proofs.Common.{◌≡◌, inl, inr, refl, sym, ap, ap₂, ◌∙◌, subst, ℕ, suc, ◌+◌, ◌<◌, Bool, true, false, List, [], ◌∷◌, length, drop, Option, Some, None, slice_get, arith}
 use Rattle.std.proofs.lemmas.Option.{slice_get_within}
 use Rattle.mir_syntax.specs.Shapes.{Shape}
 use Rattle.mir_syntax.specs.Crate.{TypedStmt, TypedBlock, TypedBody}
 use Rattle.mir_rules.specs.Drops.{NoDrops}
-use Rattle.mir_semantics.specs.Step.{Control, State, Next, on, next_stmt, perform, step}
+use Rattle.mir_semantics.specs.Step.{Control, State, Next, next_stmt, perform}
 use Rattle.mir_syntax.proofs.Binds.{bind_some, some_bind}
 use Rattle.mir_renaming.proofs.Typed.{TermTy}
 use Rattle.mir_renaming.proofs.Ghosts.{Flat}
 use Rattle.mir_relate.specs.Simulation.{keep_on}
-use Rattle.mir_relate.specs.Frames.{Change, target, Pass, lowest, Below}
-use Rattle.mir_relate.specs.Pass.{GentleTo, Valids, StmtMoves, TermMoves, FewTerm, Laws, Goes, Answers, Related}
+use Rattle.mir_relate.specs.Frames.{Change, target, Pass}
+use Rattle.mir_relate.specs.Pass.{GentleTo, Valids, StmtMoves, TermMoves, FewTerm, Laws, Goes, Answers}
 use Rattle.mir_relate.proofs.BodyLaw.{goes_answer}
 use Rattle.mir_relate.proofs.Leaves.{some_val}
 use Rattle.mir_relate.proofs.Mild.{gentle_on}
+use Rattle.mir_relate.proofs.OneForOne.{StepsAnswered, KeepsRuns, own_laws}
 use Rattle.mir_relate.proofs.Own as own
 use Rattle.mir_relate.proofs.Rest.{drop_some, drop_none, drop_next, get_drop}
 use Rattle.mir_relate.proofs.Running as running
@@ -101,7 +102,7 @@ module _ {X : Change} {once : X.body2 ≡ pruned_once X.source.shapes X.body1} {
           let st' = moment.moved now m s2.top (next_stmt s1.top) refl refl refl refl st.block st.calm (in_block s2.top left_now) in
           subst (Answers X P n s2) (some_val q) (0, m, s2, refl, own.own_core X P V Inv (frames.frames X once V Inv) n s2 s1 r [] s1.callers refl (omega arith) now.below m s2.memory m1' s2.top (next_stmt s1.top) refl refl refl refl l (gentle_on X G f1 s1.memory (record s1 { memory = m1'; top = next_stmt s1.top }) x ge q (omega arith)) (refl, st', lv), inr less_left)
 
-  pub one_step : (x : Next) → step X.source s1 ≡ Some x → Flat x → GentleTo X G f1 s1.memory x → Answers X P n s2 x
+  pub one_step : StepsAnswered X P n s2 s1 G
   one_step x e fl ge =
       let (k, ek, q) = running.stepped r st.function1 st.function2 x e in
       go k ek (slice_get k.stmts s1.top.at) refl q
@@ -118,11 +119,5 @@ module _ (X : Change) (once : X.body2 ≡ pruned_once X.source.shapes X.body1) (
   abbrev pass : Pass
   pass = frames.pass X once
 
-  steps_law : (n : ℕ) (s2 s1 : State) (r : Related X pass V Inv n s2 s1) (gs ds : List Control) (x : Next) → s1.callers ≡ gs ++ ds → pass.own n r.core.lent s2.top s1.top gs s2.memory s1.memory → Below X pass r.core.lent s2.top.dest (lowest s1.top gs).dest s2.top.frame (lowest s1.top gs).frame s2.callers ds s2.memory s1.memory → step X.source s1 ≡ Some x → Flat x → GentleTo X r.typed1.types s1.top.frame s1.memory x → Answers X pass n s2 x
-  steps_law n s2 s1 r [] ds x q (e, st, lv) be k fl ge =
-      let below = subst (λ cs. Below X pass r.core.lent s2.top.dest s1.top.dest s2.top.frame s1.top.frame s2.callers cs s2.memory s1.memory) (sym q) be in
-      one_step {X = X} {once = once} {V = V} {Inv = Inv} (record { n = n; s2 = s2; s1 = s1; r = r; st = st; lives = lv; below = below }) no_drops x k fl ge
-  steps_law n s2 s1 r (g ∷ gs) ds x q (e, st, lv) be k fl ge = absurd (grind arith)
-
-  pub laws : ((s s' : State) → Inv s → step X.source s ≡ Some (on s') → Inv s') → ((s : State) (x : Next) → Inv s → step X.source s ≡ Some x → Flat x) → Laws X pass V Inv
-  laws inv_kept flat = record { inv_kept = inv_kept; flat = flat; frames = frames.frames X once V Inv; steps = λ n s2 s1 r gs ds x q lo o be k fl ge. steps_law n s2 s1 r gs ds x q o be k fl ge }
+  pub laws : KeepsRuns X Inv → Laws X pass V Inv
+  laws = own_laws X pass V Inv (frames.frames X once V Inv) (λ n j c2 c1 gs m2 m1 o. o.0) (λ n s2 s1 r o be. one_step {X = X} {once = once} {V = V} {Inv = Inv} (record { n = n; s2 = s2; s1 = s1; r = r; st = o.1; lives = o.2; below = be }) no_drops)

@@ -3,7 +3,7 @@ use Rattle.std.proofs.Common.{◌≡◌, refl, sym, ap, ◌∙◌, ℕ, true, na
 use Rattle.std.specs.List.{list_all}
 use Rattle.mir_syntax.specs.declared.body.Term.{Term}
 use Rattle.mir_syntax.specs.Shapes.{Shape}
-use Rattle.mir_syntax.specs.Crate.{TypedStmt, assign, storage_live, storage_dead, set_discriminant, TypedBlock, TypedBody, Crate}
+use Rattle.mir_syntax.specs.Crate.{TypedBlock, TypedBody, Crate}
 use Rattle.mir_syntax.specs.Parts.{term_operands, term_places, targets}
 use Rattle.mir_rules.specs.Formed.{type_formed, place_formed, operand_formed, call_formed, stmt_formed, term_formed, block_formed, has_start, body_formed}
 use Rattle.mir_rules.proofs.Lists.{and_true-left, and_true-right, list_all_true}
@@ -13,17 +13,11 @@ use Rattle.dead_store.specs.Pruned.{is_useless, blocks_without, pruned_once}
 use Rattle.dead_store.proofs.Without.{blocks_long, block_back}
 use Rattle.mir_rules.specs.Drops.{NoDrops, is_drop}
 use Rattle.mir_rules.specs.Calls.{AddsNoCall}
+use Rattle.mir_relate.proofs.Formed.{same_locals_stmt}
 
 module _ (C : Crate) (D : List Shape) (b : TypedBody) where
   abbrev b2 : TypedBody
   b2 = pruned_once D b
-
-  same_stmt : (s : TypedStmt) → stmt_formed C b2 s ≡ stmt_formed C b s
-  unfolding stmt_formed
-  same_stmt (assign p r) = refl
-  same_stmt (storage_live x) = refl
-  same_stmt (storage_dead x) = refl
-  same_stmt (set_discriminant p k) = refl
 
   same_term : (t : Term) → term_formed C b2 t ≡ term_formed C b t
   unfolding term_formed
@@ -42,7 +36,7 @@ module _ (C : Crate) (D : List Shape) (b : TypedBody) where
       each i k2 e =
           let l = block_back (is_useless D b) 0 b.blocks i k2 e in
           let term : term_formed C b2 k2.term ≡ true = ap (term_formed C b2) l.term ∙ same_term l.block.term ∙ term_formed_at C b h i l.block l.there in
-          let stmts : list_all (stmt_formed C b2) k2.stmts ≡ true = list_all_true (stmt_formed C b2) k2.stmts (λ n s f. let (j, at) = l.stmts n s f in same_stmt s ∙ stmt_formed_at C b h i j l.block s l.there at) in
+          let stmts : list_all (stmt_formed C b2) k2.stmts ≡ true = list_all_true (stmt_formed C b2) k2.stmts (λ n s f. let (j, at) = l.stmts n s f in same_locals_stmt C b b2 refl s ∙ stmt_formed_at C b h i j l.block s l.there at) in
           rw (stmts, term) refl
 
   pub keeps_left : BodyKeeps C b → BodyKeeps C b2

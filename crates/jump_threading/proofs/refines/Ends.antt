@@ -37,14 +37,15 @@ use Rattle.const_flow.specs.Order.{BelowFacts}
 use Rattle.const_flow.specs.Holding.{NumFits}
 use Rattle.const_flow.proofs.sound.Points.{holds_below, take_end, eq_self, switch_leads, can_leads}
 use Rattle.const_flow.proofs.sound.Related as related
+use Rattle.const_flow.proofs.sound.Stands as stands
 use Rattle.jump_threading.specs.Threaded.{taken}
 use Rattle.jump_threading.proofs.Blocks.{Redirected}
 use Rattle.jump_threading.proofs.Threads.{taken_is}
-use Rattle.jump_threading.proofs.refines.Frames as frames
-use Rattle.jump_threading.proofs.refines.Frames.{Runs, Waits, all, holds_linked}
-use Rattle.jump_threading.proofs.refines.Moment as moment
-use Rattle.jump_threading.proofs.refines.Moment.{Moment}
-use Rattle.jump_threading.proofs.refines.Where.{Threads, At, Paused, Known, words, starts, known_first}
+use Rattle.mir_relate.proofs.EachLocal as frames
+use Rattle.mir_relate.proofs.EachLocal.{Runs, Waits, all, holds_linked}
+use Rattle.mir_relate.proofs.Moment as moment
+use Rattle.mir_relate.proofs.Moment.{Moment}
+use Rattle.jump_threading.proofs.refines.Where.{Threads, At, Paused, Known, words, starts}
 
 module _ {X : Change} {xs : List Reached} {V : Valids X} {Inv : State → Type 0} (now : Moment X (words X xs) V Inv) (threads : Threads X xs) (k : TypedBlock) (ek : slice_get X.body1.blocks now.s1.top.block ≡ Some k) (none : slice_get k.stmts now.s1.top.at ≡ None) where
   open now use {lasts, n, s2, s1, r, runs}
@@ -84,7 +85,7 @@ module _ {X : Change} {xs : List Reached} {V : Valids X} {Inv : State → Type 0
 
   -- what is known at the end
   abbrev pub last : Facts
-  last = after_all T k.stmts now.runs.says.facts
+  last = after_all T k.stmts now.runs.says.point.facts
 
   -- related memories in which that holds
   record Q (m2 m1 : Memory) : Type 0 where
@@ -92,7 +93,7 @@ module _ {X : Change} {xs : List Reached} {V : Valids X} {Inv : State → Type 0
     pub known : Holds m1 last
 
   ended : Q s2.memory s1.memory
-  ended = record { near = moment.start now; known = subst (λ ss. Holds s1.memory (after_all T ss runs.says.facts)) (take_end k.stmts s1.top.at none) (runs.says.known k ek) }
+  ended = record { near = moment.start now; known = subst (λ ss. Holds s1.memory (after_all T ss runs.says.point.facts)) (take_end k.stmts s1.top.at none) (runs.says.point.known k ek) }
 
   left : (m2 m1 : Memory) → Q m2 m1 → moment.Left now m2 m1
   left m2 m1 q = moment.left now m2 m1 q.near
@@ -142,27 +143,27 @@ module _ {X : Change} {xs : List Reached} {V : Valids X} {Inv : State → Type 0
 
   -- ---- edges
 
-  stands : (u2 u1 : ℕ) → frames.Standing X (words X xs) j (to_block u2 s2.top) (to_block u1 s1.top)
-  stands u2 u1 = moment.moved now (to_block u2 s2.top) (to_block u1 s1.top) refl refl refl refl refl
+  both_stand : (u2 u1 : ℕ) → frames.Standing X (words X xs) j (to_block u2 s2.top) (to_block u1 s1.top)
+  both_stand u2 u1 = moment.moved now (to_block u2 s2.top) (to_block u1 s1.top) refl refl refl refl refl
 
   -- the facts after an edge along which they go
   facts_on : (u : ℕ) → leads last k.term u ≡ true → after_term k.term last ≡ last → (m1 : Memory) → Holds m1 last → (gs : Facts) × (slice_get xs u ≡ Some (Some gs)) × Holds m1 gs
   facts_on u l same m1 h =
-      let (gs, e, below) = threads.sound.next s1.top.block u k runs.says.facts ek runs.says.reached l in
+      let (gs, e, below) = threads.sound.next s1.top.block u k runs.says.point.facts ek runs.says.point.reached l in
       (gs, e, holds_below D ts f1 (λ x. borrowed D X.body1 x ≡ false) m1 last gs (subst (λ fs. BelowFacts fs gs) same below) h)
 
   edge : (u : ℕ) → leads last k.term u ≡ true → after_term k.term last ≡ last → (m2 m1 : Memory) → Q m2 m1 → To m2 m1 u u
   edge u l same m2 m1 q =
       let (gs, e, h) = facts_on u l same m1 q.known in
-      (0, (refl, record { stand = stands u u; locals = holds_linked j f2 f1 (moment.pl now) m2 m1 q.near.linked; says = starts X xs (to_block u s2.top) (to_block u s1.top) m1 gs refl refl refl e h }))
+      (0, (refl, record { stand = both_stand u u; locals = holds_linked j f2 f1 (moment.pl now) m2 m1 q.near.linked; says = starts X xs (to_block u s2.top) (to_block u s1.top) m1 gs refl refl refl e h }))
 
   -- one that goes through a copy
   pub redirects : (edge : Redirected D xs X.body1 X.body2 s1.top.block k) (x : Next) → finish X.source S.source s1 (Goto edge.next) ≡ Some x → Flat x → GentleTo X G f1 s1.memory x → Goes X P (finish (target X) S.target s2 (Goto edge.copy)) x
   unfolding leads after_term
   redirects edge x e fl ge = same_goes (Goto edge.next) (Goto edge.copy) x tt there e fl ge
     where
-      facts_are : edge.facts ≡ runs.says.facts
-      facts_are = some_val (some_val (sym edge.reached ∙ runs.says.reached))
+      facts_are : edge.facts ≡ runs.says.point.facts
+      facts_are = some_val (some_val (sym edge.reached ∙ runs.says.point.reached))
 
       there : (m2 m1 : Memory) → Q m2 m1 → To m2 m1 edge.copy edge.next
       there m2 m1 q =
@@ -173,12 +174,10 @@ module _ {X : Change} {xs : List Reached} {V : Valids X} {Inv : State → Type 0
           let is_taken : taken (after_all T edge.through.stmts last) edge.through.term ≡ Some edge.to = subst (λ fs. taken (after_all T edge.through.stmts (after_all T k.stmts fs)) edge.through.term ≡ Some edge.to) facts_are edge.is_taken in
           let says : At X xs (to_block edge.copy s2.top) c1 m1 = record {
             at = refl;
-            facts = gs;
-            reached = e;
-            known = λ k2 ek2. known_first X xs c1 m1 gs refl h k2;
-            place = inr (record { through = edge.through; is_through = edge.is_next; to = edge.to; is_copy = edge.copied; facts = last; is_taken = is_taken; known = known_first X xs c1 m1 last refl q.known edge.through });
+            point = stands.starts D X.body1 xs c1 m1 gs refl e h;
+            place = inr (record { through = edge.through; is_through = edge.is_next; to = edge.to; is_copy = edge.copied; facts = last; is_taken = is_taken; known = stands.known_first D X.body1 xs c1 m1 last refl q.known edge.through });
           } in
-          (0, (refl, record { stand = stands edge.copy edge.next; locals = holds_linked j f2 f1 (moment.pl now) m2 m1 q.near.linked; says = says }))
+          (0, (refl, record { stand = both_stand edge.copy edge.next; locals = holds_linked j f2 f1 (moment.pl now) m2 m1 q.near.linked; says = says }))
 
   -- ---- a switch
 
@@ -211,7 +210,7 @@ module _ {X : Change} {xs : List Reached} {V : Valids X} {Inv : State → Type 0
   after_call : (p : Place) (g : Callee) (os : List Operand) (u : ℕ) → k.term ≡ Call p g os u → (d : Dest) (m1 : Memory) → dest_of S.source s1.memory p ≡ Some d → Spent os m1 → (gs : Facts) × (slice_get xs u ≡ Some (Some gs)) × ((v : Value) → Holds (write m1 d.addr v) gs)
   unfolding leads after_term
   after_call p g os u is d m1 ed (vs, er) =
-      let (gs, e, below) = threads.sound.next s1.top.block u k runs.says.facts ek runs.says.reached (ap (λ t. leads last t u) is ∙ eq_self u) in
+      let (gs, e, below) = threads.sound.next s1.top.block u k runs.says.point.facts ek runs.says.point.reached (ap (λ t. leads last t u) is ∙ eq_self u) in
       let below' : BelowFacts (learn p (always Many) (moved_all os last)) gs = subst (λ t. BelowFacts (after_term t last) gs) is below in
       (gs, e, λ v. holds_below D ts f1 (λ x. borrowed D X.body1 x ≡ false) (write m1 d.addr v) (learn p (always Many) (moved_all os last)) gs below' (related.call_holds D X.body1 f1 f2 j K (moment.low now) (moment.itself now) (moment.unlent_at now) (moment.lent_at now) s2.memory s1.memory ended.near.linked.mem last ended.known p os d vs m1 ed er v))
 
@@ -219,14 +218,14 @@ module _ {X : Change} {xs : List Reached} {V : Valids X} {Inv : State → Type 0
   goal p g os u is d2 d1 t ed dr at = record {
     waits = λ m2 m1 q am.
         let (gs, e, later) = after_call p g os u is d1 m1 ed am in
-        let says : Paused X xs (Some d1) (to_block u s2.top) (to_block u s1.top) m1 = record { block = refl; start2 = refl; start1 = refl; facts = gs; reached = e; later = λ d e v. subst (λ (d : Dest). Holds (write m1 d.addr v) gs) (some_val e) (later v) } in
-        (refl, record { stand = stands u u; locals = holds_linked j f2 f1 (moment.pl now) m2 m1 q.near.linked; dests = dr; says = says });
-    gets = λ m2 m1 m1' v q am hv h.
+        let says : Paused X xs (Some d1) (to_block u s2.top) (to_block u s1.top) m1 = record { block = refl; at = refl; point = record { start = refl; facts = gs; reached = e; later = λ d e v. subst (λ (d : Dest). Holds (write m1 d.addr v) gs) (some_val e) (later v) } } in
+        (refl, record { stand = both_stand u u; locals = holds_linked j f2 f1 (moment.pl now) m2 m1 q.near.linked; dests = dr; says = says });
+    gets = λ m2 m1 m1' v q am hv wh h.
         let (gs, e, later) = after_call p g os u is d1 m1 ed am in
         let (m2', g1, l', lv) = near.store_near D ts ts f1 f2 j K (moment.low now) G (moment.bok now) (moment.lok now) V.needs f2 f1 s2.memory s1.memory (moment.nears now) (moment.onces now) m2 m1 m1' d1 d2 t v v q.near dr at hv h in
         let (old, eo, same) = store_split D m1 m1' d1 v h in
         let says = starts X xs (to_block u s2.top) (to_block u s1.top) m1' gs refl refl refl e (subst (λ m. Holds m gs) same (later v)) in
-        (m2', g1, (living_lent j f2 f1 (moment.pl now) all m2' m1' l', lv), (0, (refl, record { stand = stands u u; locals = holds_linked j f2 f1 (moment.pl now) m2' m1' l'; says = says })));
+        (m2', g1, (living_lent j f2 f1 (moment.pl now) all m2' m1' l', lv), (0, (refl, record { stand = both_stand u u; locals = holds_linked j f2 f1 (moment.pl now) m2' m1' l'; says = says })));
   }
 
   calls : (p : Place) (g : Callee) (os : List Operand) (u : ℕ) → k.term ≡ Call p g os u → TermMoves S.source (Call p g os u) → TermTy X.source S.source (Call p g os u) → SameStepIf (Call p g os u) (Call p g os u)

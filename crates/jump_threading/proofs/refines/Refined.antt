@@ -33,7 +33,7 @@ sound_refines C valid f g there no_drops xs sound =
     let apart = apart_in C valid in
     let threads : Threads X xs = record { same_locals = same_locals D xs g.body; blocks = block_there D xs g.body; sound = sound } in
     replaced C valid f g there b2 alike valid2 (pass X xs threads no_drops V (Runs C valid f g there b2 alike valid2))
-    (laws X xs threads no_drops V (Runs C valid f g there b2 alike valid2) (step_known (code_of C) apart (valid_code C valid)) (λ s x i e. step_flat (code_of C) apart (valid_code C valid) s x i e))
+    (laws X xs threads no_drops V (Runs C valid f g there b2 alike valid2) (step_known (code_of C) apart (valid_code C valid), λ s x i e. step_flat (code_of C) apart (valid_code C valid) s x i e))
 
 -- by what is known in the body
 pub of_a_crate : (C : Crate) → Valid C → (f : ℕ) (g : TypedFunction) → slice_get C.functions f ≡ Some g → NoDrops g.body → Refines (at_function C f g (threaded (shapes_of C) g.body)) C

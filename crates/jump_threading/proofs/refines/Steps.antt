@@ -27,6 +27,7 @@ use Rattle.mir_relate.proofs.Itself as itself
 use Rattle.mir_relate.proofs.Kept as kept
 use Rattle.mir_relate.proofs.Leaves.{some_val}
 use Rattle.mir_relate.proofs.Mild.{gentle_on}
+use Rattle.mir_relate.proofs.OneForOne.{StepsAnswered, KeepsRuns, own_laws}
 use Rattle.mir_relate.proofs.Own as own
 use Rattle.mir_relate.proofs.Single.{step_is}
 use Rattle.const_flow.specs.Facts.{Facts, after_all}
@@ -36,10 +37,10 @@ use Rattle.const_flow.proofs.sound.Related.{RefsOk, StmtRefsOk, exec_holds}
 use Rattle.const_flow.proofs.sound.Lent.{refs_ok}
 use Rattle.jump_threading.specs.Threaded.{taken}
 use Rattle.jump_threading.proofs.Blocks.{Redirected}
-use Rattle.jump_threading.proofs.refines.Frames as frames
-use Rattle.jump_threading.proofs.refines.Frames.{Runs, holds_linked}
-use Rattle.jump_threading.proofs.refines.Moment as moment
-use Rattle.jump_threading.proofs.refines.Moment.{Moment}
+use Rattle.mir_relate.proofs.EachLocal as frames
+use Rattle.mir_relate.proofs.EachLocal.{Runs, holds_linked}
+use Rattle.mir_relate.proofs.Moment as moment
+use Rattle.mir_relate.proofs.Moment.{Moment}
 use Rattle.jump_threading.proofs.refines.Where.{Threads, InCopy, At, Known, KnownAt, words, lasting}
 use Rattle.jump_threading.proofs.refines.Ends.{same_end, redirects, copy_goes}
 
@@ -164,9 +165,11 @@ module _ {X : Change} {xs : List Reached} {V : Valids X} {Inv : State → Type 0
     says_after : (s : TypedStmt) (m1' : Memory) → slice_get k.stmts s1.top.at ≡ Some s → exec S.source s1.memory s ≡ Some m1' → At X xs (next_stmt s2.top) (next_stmt s1.top) m1'
     says_after s m1' at e = record {
       at = ap suc runs.says.at;
-      facts = runs.says.facts;
-      reached = runs.says.reached;
-      known = λ k' e'. subst (λ k. KnownAt X xs (next_stmt s1.top) m1' k runs.says.facts) (some_val (sym ek ∙ e')) (known_after s m1' runs.says.facts at e (runs.says.known k ek));
+      point = record {
+        facts = runs.says.point.facts;
+        reached = runs.says.point.reached;
+        known = λ k' e'. subst (λ k. KnownAt X xs (next_stmt s1.top) m1' k runs.says.point.facts) (some_val (sym ek ∙ e')) (known_after s m1' runs.says.point.facts at e (runs.says.point.known k ek));
+      };
       place = go runs.says.place;
     }
       where
@@ -215,7 +218,7 @@ module _ {X : Change} {xs : List Reached} {V : Valids X} {Inv : State → Type 0
     unfolding perform
     end_step x none e fl ge = goes_answer X P n s2 x (goes_by X P _ _ x (target_is ∙ ap (perform (target X) S.target s2 other.term) none) (end_goes x none e fl ge))
 
-  pub one_step : (x : Next) → step X.source s1 ≡ Some x → Flat x → GentleTo X G f1 s1.memory x → Answers X P n s2 x
+  pub one_step : StepsAnswered X P n s2 s1 G
   one_step x e fl ge =
       let (bo, k, ebo, ek, q) = step_parts X.source s1 x e in
       let sb : bo ≡ X.body1 = some_val (sym ebo ∙ moment.eb now) in
@@ -229,11 +232,5 @@ module _ (X : Change) (xs : List Reached) (threads : Threads X xs) (no_drops : N
   abbrev pub pass : Pass
   pass = frames.pass X (words X xs)
 
-  steps_law : (n : ℕ) (s2 s1 : State) (r : Related X pass V Inv n s2 s1) (gs ds : List Control) (x : Next) → s1.callers ≡ gs ++ ds → pass.own n r.core.lent s2.top s1.top gs s2.memory s1.memory → Below X pass r.core.lent s2.top.dest (lowest s1.top gs).dest s2.top.frame (lowest s1.top gs).frame s2.callers ds s2.memory s1.memory → step X.source s1 ≡ Some x → Flat x → GentleTo X r.typed1.types s1.top.frame s1.memory x → Answers X pass n s2 x
-  steps_law n s2 s1 r [] ds x q (e, runs) be k fl ge =
-      let below = subst (λ cs. Below X pass r.core.lent s2.top.dest s1.top.dest s2.top.frame s1.top.frame s2.callers cs s2.memory s1.memory) (sym q) be in
-      one_step {X = X} {xs = xs} {V = V} {Inv = Inv} (record { lasts = lasting X xs threads; n = n; s2 = s2; s1 = s1; r = r; runs = runs; below = below }) threads no_drops x k fl ge
-  steps_law n s2 s1 r (g ∷ gs) ds x q (e, runs) be k fl ge = absurd (grind arith)
-
-  pub laws : ((s s' : State) → Inv s → step X.source s ≡ Some (on s') → Inv s') → ((s : State) (x : Next) → Inv s → step X.source s ≡ Some x → Flat x) → Laws X pass V Inv
-  laws inv_kept flat = record { inv_kept = inv_kept; flat = flat; frames = frames.frames X (words X xs) (lasting X xs threads) V Inv; steps = λ n s2 s1 r gs ds x q lo o be k fl ge. steps_law n s2 s1 r gs ds x q o be k fl ge }
+  pub laws : KeepsRuns X Inv → Laws X pass V Inv
+  laws = own_laws X pass V Inv (frames.frames X (words X xs) (lasting X xs threads) V Inv) (λ n j c2 c1 gs m2 m1 o. o.0) (λ n s2 s1 r o be. one_step {X = X} {xs = xs} {V = V} {Inv = Inv} (record { lasts = lasting X xs threads; n = n; s2 = s2; s1 = s1; r = r; runs = o.1; below = be }) threads no_drops)

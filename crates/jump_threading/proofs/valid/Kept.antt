@@ -6,7 +6,7 @@ use Rattle.std.proofs.lemmas.Option.{slice_get_within}
 use Rattle.mir_syntax.specs.declared.body.Term.{Term}
 use Rattle.mir_syntax.specs.declared.body.Term.TheVariants.{Goto, Call}
 use Rattle.mir_syntax.specs.Tree.{Tree}
-use Rattle.mir_syntax.specs.Crate.{TypedStmt, assign, storage_live, storage_dead, set_discriminant, TypedBlock, TypedBody, TypedFunction, Crate}
+use Rattle.mir_syntax.specs.Crate.{TypedBlock, TypedBody, TypedFunction, Crate}
 use Rattle.mir_syntax.specs.Shapes.{Shape, shapes_of}
 use Rattle.mir_syntax.specs.Parts.{term_operands, term_places, targets}
 use Rattle.mir_rules.specs.BodyRules.{breaks_v05}
@@ -25,6 +25,7 @@ use Rattle.const_flow.specs.ConstAt.{Reached, const_at}
 use Rattle.const_flow.proofs.Same.{same_or_not}
 use Rattle.jump_threading.specs.Threaded.{threaded_by, threaded}
 use Rattle.jump_threading.proofs.Blocks.{TermFrom, same_locals, same_args, as_long, within, block_from}
+use Rattle.mir_relate.proofs.Formed.{same_locals_stmt, BlocksFormed}
 
 -- ---- a goto to another block than the first
 
@@ -39,13 +40,6 @@ module _ (C : Crate) (D : List Shape) (xs : List Reached) (b : TypedBody) where
   b2 = threaded_by D xs b
 
   -- ---- its form
-
-  same_stmt : (s : TypedStmt) → stmt_formed C b2 s ≡ stmt_formed C b s
-  unfolding stmt_formed threaded_by
-  same_stmt (assign p x) = refl
-  same_stmt (storage_live x) = refl
-  same_stmt (storage_dead x) = refl
-  same_stmt (set_discriminant p k) = refl
 
   same_places : (t : Term) → list_all (place_formed b2) (term_places t) ≡ list_all (place_formed b) (term_places t)
   unfolding threaded_by
@@ -77,10 +71,10 @@ module _ (C : Crate) (D : List Shape) (xs : List Reached) (b : TypedBody) where
         let long = as_long D xs b in
         ap (term_formed C b2) same ∙ goto_formed u (omega (arith, lt, long))
 
-    each : (i : ℕ) (k2 : TypedBlock) → slice_get b2.blocks i ≡ Some k2 → block_formed C b2 k2 ≡ true
+    each : BlocksFormed C b2
     each i k2 e =
         let from = block_from D xs b i k2 e in
-        and_from _ _ (list_all_true (stmt_formed C b2) k2.stmts (λ n s f. same_stmt s ∙ stmt_formed_at C b formed from.at n from.block s from.is_block (ap (λ ss. slice_get ss n) (sym from.stmts) ∙ f))) (term_fine from.at from.block k2 from.is_block from.term)
+        and_from _ _ (list_all_true (stmt_formed C b2) k2.stmts (λ n s f. same_locals_stmt C b b2 (same_locals D xs b) s ∙ stmt_formed_at C b formed from.at n from.block s from.is_block (ap (λ ss. slice_get ss n) (sym from.stmts) ∙ f))) (term_fine from.at from.block k2 from.is_block from.term)
 
     formed_start : has_start b ≡ true
     unfolding body_formed

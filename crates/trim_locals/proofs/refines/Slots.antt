@@ -8,7 +8,7 @@ use Rattle.mir_semantics.specs.Step.{blanks, new_slots}
 use Rattle.mir_renaming.specs.Renaming.{Renaming, ValueRel, SomeRel}
 use Rattle.mir_renaming.proofs.Statements.{ValuesRel, blank_rel}
 use Rattle.mir_renaming.proofs.Agree.{Agree, Tight, tight_agree, tight_self}
-use Rattle.mir_renaming.proofs.Slots.{value_in}
+use Rattle.mir_renaming.proofs.Slots.{value_in, same_length}
 use Rattle.mir_renaming.proofs.Tight.{tight_in}
 use Rattle.mir_relate.specs.Alike.{AllSame}
 use Rattle.mir_relate.proofs.Leaves.{some_val}
@@ -52,17 +52,11 @@ module _ (D : List Shape) where
   rest_arg (w ∷ vs) us zero v e = e
   rest_arg (w ∷ vs) us (suc x) v e = rest_arg vs us x v e
 
-  rest_blank : (vs : List Value) (ts : List Tree) (x : ℕ) (t : Tree) → length vs ≤ x → slice_get ts x ≡ Some t → slice_get (rest vs ts) x ≡ Some (blank D t)
+  pub rest_blank : (vs : List Value) (ts : List Tree) (x : ℕ) (t : Tree) → length vs ≤ x → slice_get ts x ≡ Some t → slice_get (vs ++ blanks D (drop (length vs) ts)) x ≡ Some (blank D t)
   rest_blank [] ts x t l e = at_blank ts x t e
   rest_blank (w ∷ vs) ts zero t l e = absurd (omega (arith, l))
   rest_blank (w ∷ vs) [] (suc x) t l e = absurd (grind arith)
   rest_blank (w ∷ vs) (u ∷ ts) (suc x) t l e = rest_blank vs ts x t (omega (arith, l)) e
-
-  same_length : (j : Renaming) (vs ws : List Value) → ValuesRel j vs ws → length vs ≡ length ws
-  same_length j [] [] h = refl
-  same_length j (v ∷ vs) (w ∷ ws) h = ap suc (same_length j vs ws h.1)
-  same_length j [] (w ∷ ws) h = absurd h
-  same_length j (v ∷ vs) [] h = absurd h
 
   below : (a b : ℕ) → (a ≤ b) ⊎ (b < a)
   below zero b = inl (omega arith)
@@ -143,7 +137,7 @@ module _ (D : List Shape) where
   slots_agree B once args fixed ts1 ts2 n1 n2 types j vs ws hv few x y t v w b e1 e2 = go (slot_is ts1 vs x v n1 e1) (slot_is ts2 ws y w n2 e2)
     where
       long : length vs ≡ length ws
-      long = same_length D j vs ws hv.0
+      long = same_length j vs ws hv.0
 
       go : FromArgs ts1 vs x v → FromArgs ts2 ws y w → Agree D t v w
       go (inl (k, ex, a1)) (inl (i, ey, a2)) =

@@ -1,5 +1,4 @@
-use Rattle.std.proofs.Common.{true, not, sym, map, ap, ◌∙◌, ◌≡◌, ℕ}
-use Rattle.std.specs.Prelude.{List}
+use Rattle.std.proofs.Common.{not, sym, map, ap, ◌∙◌, ◌≡◌}
 use Rattle.std.proofs.lemmas.List.Sorted.{IsNonDecreasingBy-from_sort}
 use Rattle.mir_rules.specs.BodyRules.{arm_value, has_twice}
 use Rattle.mir_validate.specs.Terms.{ascends}

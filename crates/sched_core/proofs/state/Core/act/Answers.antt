@@ -1,4 +1,4 @@
-use Rattle.std.proofs.Common.{◌≡◌, ℕ, ◌+◌, ◌-◌, [], ◌∷◌, sym, subst, ap, arith}
+use Rattle.std.proofs.Common.{◌≡◌, ℕ, ◌+◌, ◌-◌, sym, subst, ap, arith}
 use Rattle.sched_core.specs.declared.Event.{Event}
 use Rattle.sched_core.specs.declared.Event.TheVariants.{Claim, Borrow, Release, Publish, Fail}
 use Rattle.sched_core.specs.declared.state.Core.{Core}
@@ -6,7 +6,7 @@ use Rattle.sched_core.specs.Plan.{Plan}
 use Rattle.sched_core.specs.State.{Legal}
 use Rattle.sched_core.specs.Shown.{state_of, IsTold, Happens, worker_of}
 use Rattle.sched_core.proofs.Whys.{query_below}
-use Rattle.sched_core.proofs.Acts.{stack_at, no_top, claim_room, release_room, count_most, lent}
+use Rattle.sched_core.proofs.Acts.{no_top, claim_room, release_room, count_most, lent}
 use Rattle.sched_core.proofs.state.Core.act.Goals as goal
 
 module _ (p : Plan) (c : Core) (e : Event) (m : Legal p (state_of c) e) (t : IsTold p c (worker_of e)) where
@@ -49,12 +49,10 @@ put_release-requires-clause-room g c =
 pub put_publish-requires-clause-query : goal.put_publish-requires-clause-query
 put_publish-requires-clause-query g c =
     let p = g.J.Jobs.plan c.args.jobs.now in
-    let laws = c.requires.core.lawful in
     let s = c.args.self.now in
     let m = legal_as p s c.args.event c.requires.legal c.requires.told (Publish c.in-Publish.w) c.in-Publish.is in
     let e = c.in-Some.ensures in
-    let top = stack_at s.stacks.items c.in-Publish.w c.index.result.now ((c.in-Some.q, e.0) ∷ e.1.0) (let k = m.2.worker in let l = c.requires.core.sized.stacks in omega (arith, k, l)) c.index.ensures e.1.1 in
-    let below = query_below p (state_of s) laws c.requires.core.good c.in-Publish.w c.in-Some.q e.0 e.1.0 top m.2.worker in
+    let below = query_below p (state_of s) c.requires.core.lawful c.requires.core.good c.in-Publish.w c.in-Some.q e.0 e.1 e.2 m.2.worker in
     let status = c.requires.core.sized.status in
     let row = c.requires.core.sized.seen_rows c.in-Publish.w m.2.worker in
     (omega (arith, below, status), omega (arith, below, row))
@@ -64,29 +62,25 @@ unreachable-requires g c =
     let p = g.J.Jobs.plan c.args.jobs.now in
     let s = c.args.self.now in
     let m = legal_as p s c.args.event c.requires.legal c.requires.told (Publish c.in-Publish.w) c.in-Publish.is in
-    let none = stack_at s.stacks.items c.in-Publish.w c.index.result.now [] (let k = m.2.worker in let l = c.requires.core.sized.stacks in omega (arith, k, l)) c.index.ensures c.in-None.ensures in
-    no_top _ _ _ none m.2.top
+    no_top _ _ _ c.in-None.ensures m.2.top
 
 pub put_fail-requires-clause-query : goal.put_fail-requires-clause-query
 put_fail-requires-clause-query g c =
     let p = g.J.Jobs.plan c.args.jobs.now in
-    let laws = c.requires.core.lawful in
     let s = c.args.self.now in
     let m = legal_as p s c.args.event c.requires.legal c.requires.told (Fail c.in-Fail.w) c.in-Fail.is in
-    let e = c.in-Some-top_of.ensures in
-    let top = stack_at s.stacks.items c.in-Fail.w c.index-in-Fail.result.now ((c.in-Some-top_of.q, e.0) ∷ e.1.0) (let k = m.2.worker in let l = c.requires.core.sized.stacks in omega (arith, k, l)) c.index-in-Fail.ensures e.1.1 in
-    let below = query_below p (state_of s) laws c.requires.core.good c.in-Fail.w c.in-Some-top_of.q e.0 e.1.0 top m.2.worker in
+    let e = c.in-Some-top.ensures in
+    let below = query_below p (state_of s) c.requires.core.lawful c.requires.core.good c.in-Fail.w c.in-Some-top.q e.0 e.1 e.2 m.2.worker in
     let status = c.requires.core.sized.status in
     let row = c.requires.core.sized.gone_rows c.in-Fail.w m.2.worker in
     (omega (arith, below, status), omega (arith, below, row))
 
-pub unreachable-requires-in-None-top_of : goal.unreachable-requires-in-None-top_of
-unreachable-requires-in-None-top_of g c =
+pub unreachable-requires-in-None-top : goal.unreachable-requires-in-None-top
+unreachable-requires-in-None-top g c =
     let p = g.J.Jobs.plan c.args.jobs.now in
     let s = c.args.self.now in
     let m = legal_as p s c.args.event c.requires.legal c.requires.told (Fail c.in-Fail.w) c.in-Fail.is in
-    let none = stack_at s.stacks.items c.in-Fail.w c.index-in-Fail.result.now [] (let k = m.2.worker in let l = c.requires.core.sized.stacks in omega (arith, k, l)) c.index-in-Fail.ensures c.in-None-top_of.ensures in
-    no_top _ _ _ none m.2.top
+    no_top _ _ _ c.in-None-top.ensures m.2.top
 
 pub returns-in-Claim : goal.returns-in-Claim
 returns-in-Claim g c =
@@ -124,14 +118,12 @@ returns-in-Some g c =
     let s = c.args.self.now in
     let m = legal_as p s c.args.event c.requires.legal c.requires.told (Publish c.in-Publish.w) c.in-Publish.is in
     let e = c.in-Some.ensures in
-    let top = stack_at s.stacks.items c.in-Publish.w c.index.result.now ((c.in-Some.q, e.0) ∷ e.1.0) (let k = m.2.worker in let l = c.requires.core.sized.stacks in omega (arith, k, l)) c.index.ensures e.1.1 in
-    happens_as p _ _ _ _ c.in-Publish.is (c.put_publish.ensures p e.0 e.1.0 top)
+    happens_as p _ _ _ _ c.in-Publish.is (c.put_publish.ensures p e.0 e.1 e.2)
 
-pub returns-in-Some-top_of : goal.returns-in-Some-top_of
-returns-in-Some-top_of g c =
+pub returns-in-Some-top : goal.returns-in-Some-top
+returns-in-Some-top g c =
     let p = g.J.Jobs.plan c.args.jobs.now in
     let s = c.args.self.now in
     let m = legal_as p s c.args.event c.requires.legal c.requires.told (Fail c.in-Fail.w) c.in-Fail.is in
-    let e = c.in-Some-top_of.ensures in
-    let top = stack_at s.stacks.items c.in-Fail.w c.index-in-Fail.result.now ((c.in-Some-top_of.q, e.0) ∷ e.1.0) (let k = m.2.worker in let l = c.requires.core.sized.stacks in omega (arith, k, l)) c.index-in-Fail.ensures e.1.1 in
-    happens_as p _ _ _ _ c.in-Fail.is (c.put_fail.ensures p e.0 e.1.0 top)
+    let e = c.in-Some-top.ensures in
+    happens_as p _ _ _ _ c.in-Fail.is (c.put_fail.ensures p e.0 e.1 e.2)

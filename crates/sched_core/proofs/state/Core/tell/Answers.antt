@@ -1,6 +1,5 @@
 use Rattle.std.proofs.Common.{◌≡◌, ℕ, ◌<◌, List, ◌∷◌, length, sym, subst, ap, ◌∙◌, arith, slice_index_or, slice_set, Vec, Global}
 use Rattle.std.specs.Prelude.{Option, Some, None, slice_get}
-use Rattle.sched_core.specs.declared.Status.TheVariants.{Unclaimed}
 use Rattle.sched_core.specs.declared.state.Standing.{Standing}
 use Rattle.sched_core.specs.declared.state.Core.{Core}
 use Rattle.sched_core.specs.Plan.{Plan}
@@ -18,6 +17,9 @@ module _ (s : Core) (w : ℕ) (row : Vec Standing Global) (lt : w < length s.sta
   stacks_same : ◌≡◌ {A = ℕ → List Entry} (λ v. stack_of (row_at (slice_get (slice_set s.stacks.items w row) v))) (λ v. stack_of (row_at (slice_get s.stacks.items v)))
   stacks_same = get_kept (λ o. stack_of (row_at o)) s.stacks.items w row lt (same ∙ ap (λ o. stack_of (row_at o)) (sym here))
 
+  same_state : record (state_of s) { stack = λ v. stack_of (row_at (slice_get (slice_set s.stacks.items w row) v)) } ≡ state_of s
+  same_state = λ i. record (state_of s) { stack = stacks_same i }
+
   back : (v : ℕ) (e : Entry) (es : List Entry) → stack_of (row_at (slice_get (slice_set s.stacks.items w row) v)) ≡ e ∷ es → stack_of (row_at (slice_get s.stacks.items v)) ≡ e ∷ es
   back v e es top = sym (λ i. stacks_same i v) ∙ top
 
@@ -31,21 +33,7 @@ module _ (s : Core) (w : ℕ) (row : Vec Standing Global) (lt : w < length s.sta
   need_is p need h = h ∙ (ap (λ o. next_of_top p (stack_of (row_at o)) (slice_index_or s.root.items w None)) here ∙ ap (λ es. next_of_top p es (slice_index_or s.root.items w None)) (sym same))
 
 pub returns-in-Err-clause-state : goal.returns-in-Err-clause-state
-returns-in-Err-clause-state c =
-    let s = c.args.self.now in
-    let lt : c.args.worker < length s.stacks.items = omega arith in
-    let stacks = stacks_same s c.args.worker c.make_room.new.row lt c.index_mut.result.now c.index_mut.ensures.value c.make_room.ensures.stack in
-    λ i. record {
-      workers = length s.borrow.items;
-      status = λ q. slice_index_or s.status.items q Unclaimed;
-      stack = stacks i;
-      borrow = λ v. slice_index_or s.borrow.items v None;
-      seen = (state_of s).seen;
-      gone = (state_of s).gone;
-      wait = (state_of s).wait;
-      root = (state_of s).root;
-      drawn = s.drawn;
-    }
+returns-in-Err-clause-state c = same_state c.args.self.now c.args.worker c.make_room.new.row (omega arith) c.index_mut.result.now c.index_mut.ensures.value c.make_room.ensures.stack
 
 pub returns-in-Err-clause-others : goal.returns-in-Err-clause-others
 returns-in-Err-clause-others c = λ p v ne h e es top.
@@ -78,21 +66,7 @@ returns-in-Err-clause-err c = λ p.
     )
 
 pub returns-in-Ok-clause-state : goal.returns-in-Ok-clause-state
-returns-in-Ok-clause-state c =
-    let s = c.args.self.now in
-    let lt : c.args.worker < length s.stacks.items = omega arith in
-    let stacks = stacks_same s c.args.worker c.make_room.new.row lt c.index_mut.result.now c.index_mut.ensures.value c.make_room.ensures.stack in
-    λ i. record {
-      workers = length s.borrow.items;
-      status = λ q. slice_index_or s.status.items q Unclaimed;
-      stack = stacks i;
-      borrow = λ v. slice_index_or s.borrow.items v None;
-      seen = (state_of s).seen;
-      gone = (state_of s).gone;
-      wait = (state_of s).wait;
-      root = (state_of s).root;
-      drawn = s.drawn;
-    }
+returns-in-Ok-clause-state c = same_state c.args.self.now c.args.worker c.make_room.new.row (omega arith) c.index_mut.result.now c.index_mut.ensures.value c.make_room.ensures.stack
 
 pub returns-in-Ok-clause-core : goal.returns-in-Ok-clause-core
 returns-in-Ok-clause-core c = λ p n g.

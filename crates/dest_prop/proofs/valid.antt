@@ -1,0 +1,2 @@
+-- A merged body breaks no rule.
+pub mod Stays

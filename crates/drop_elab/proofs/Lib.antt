@@ -1,0 +1,4 @@
+pub mod Rows
+pub mod RowPaths
+pub mod OneResult
+pub mod NoDrop

@@ -1,0 +1,14 @@
+//! The pass `elab`: what a `drop` does is written out as calls of destructors, so that no `drop` is left.
+//!
+//! `specs/Elab.antt` has the definition (`IsElab`). A drop is done unit by unit. By what the paths from bb0 leave of a unit (`move_paths`),
+//! it is dead at the drop, and nothing is done; or static, and it is destroyed; or conditional, and it is destroyed where its flag, a new
+//! local, is true. What a drop becomes is first a plan (`specs/Plan.antt`), in which the glue of a type stands: the destructor, then what is
+//! inside, of an enum the variant that is active. `lay` writes a plan out, with its new locals and blocks in their order.
+//!
+//! The laws (`laws`): a body has one elaborated body at most; it holds no `drop`, and has the body's locals with others behind them. The
+//! code is still to come, and so are the laws that the elaborated body is valid and refines the body.
+#![tactic(auto)]
+
+mod laws;
+
+pub use laws::{elab_is_one, elab_leaves_no_drop};

@@ -1,0 +1,9 @@
+mod Rows
+pub mod Text
+pub mod Bodies
+pub mod Rounds
+pub mod Terms
+pub mod equal
+pub mod refines
+pub mod valid
+pub mod Whole

@@ -1,0 +1,11 @@
+pub mod Places
+pub mod Agree
+pub mod Copied
+pub mod Replaced
+pub mod Taking
+pub mod Sizes
+pub mod At
+pub mod Results
+pub mod Step
+pub mod InRounds
+pub mod InTable

@@ -1,0 +1,16 @@
+pub mod Into
+pub mod Both
+pub mod Stacks
+pub mod Onwards
+pub mod Slots
+pub mod Follow
+pub mod Running
+pub mod Hand
+pub mod Keep
+pub mod Site
+pub mod Back
+pub mod Setting
+pub mod OwnSteps
+pub mod InnerSteps
+pub mod Steps
+pub mod Law

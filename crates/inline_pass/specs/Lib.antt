@@ -1,0 +1,5 @@
+pub mod Spliced
+pub mod Lent
+pub mod Takes
+pub mod Code
+pub mod Caller

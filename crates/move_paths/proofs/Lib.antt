@@ -1,0 +1,12 @@
+pub mod Each
+pub mod Writing
+pub mod Moves
+pub mod Onward
+pub mod Fill
+pub mod Gathering
+pub mod Definitions
+pub mod Listing
+pub mod Statuses
+pub mod Solved
+pub mod Whole
+pub mod Facts

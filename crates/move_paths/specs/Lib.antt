@@ -1,0 +1,6 @@
+pub mod Effects
+pub mod Inits
+pub mod Rows
+pub mod Facts
+pub mod Lattice
+pub mod Finding

@@ -1,0 +1,12 @@
+pub mod Fields
+pub mod NewLocals
+pub mod Plans
+pub mod Planned
+pub mod Ways
+pub mod Uses
+pub mod KnownAt
+pub mod valid
+pub mod refines
+pub mod Rows
+pub mod PassLaws
+pub mod equal
