@@ -11,6 +11,7 @@ What stands in `debug` lines and behind `inlined` says nothing of what a functio
 import argparse
 import os
 import re
+import shutil
 import subprocess
 from dataclasses import dataclass
 
@@ -101,6 +102,8 @@ def main():
     options.add_argument("--check", action="store_true", help="ask `check`, which takes a `drop`, and not `seq`")
     options.add_argument("program", metavar="PROGRAM", nargs="*", default=PROGRAM, help="mirpipe itself, else crates/mirpipe/out/mirpipe")
     words = options.parse_intermixed_args()
+    if shutil.which(words.program[0]) is None:
+        raise SystemExit(f"no program {words.program[0]}: `rt run` in crates/mirpipe builds it")
     head = items_of(read_lines(words.head)) if words.head else []
     lines = read_lines(words.dump)
     dump = items_of([NAMES.sub("", line) for line in lines] if words.plain else lines)

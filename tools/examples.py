@@ -12,6 +12,7 @@ import argparse
 import glob
 import os
 import re
+import shutil
 import subprocess
 import sys
 
@@ -119,6 +120,8 @@ def main():
             with open(path, "w", encoding="utf-8") as file:
                 file.write(text)
         return
+    if shutil.which(words.program[0]) is None:
+        raise SystemExit(f"no program {words.program[0]}: `rt run` in crates/mirpipe builds it")
     print("| Example | Blocks | Locals | Lines | Steps |\n|---|---|---|---|---|")
     for name in names:
         print(row(words.program, name))
