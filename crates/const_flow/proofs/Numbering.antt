@@ -37,11 +37,14 @@ pub node_is : (node : ℕ) → (b : ℕ) × ((node ≡ 3 * b + 1) ⊎ IsEnd b no
 node_is zero = (0, inr (inl refl))
 node_is (suc zero) = (0, inl refl)
 node_is (suc (suc zero)) = (0, inr (inr refl))
-node_is (suc (suc (suc node))) = (let (b, k) = node_is node in (suc b, elim k [
-  | inl e ↦ inl (omega arith)
-  | inr (inl e) ↦ inr (inl (omega arith))
-  | inr (inr e) ↦ inr (inr (omega arith))
-]))
+node_is (suc (suc (suc node))) = (let (b, k) = node_is node in (
+  suc b,
+  elim k [
+    | inl e ↦ inl (omega arith)
+    | inr (inl e) ↦ inr (inl (omega arith))
+    | inr (inr e) ↦ inr (inr (omega arith))
+  ],
+))
 
 pub starts_get : {A : Type 0} (xs : List A) (b : ℕ) (x : A) → slice_get (at_starts xs) b ≡ Some x → slice_get xs (3 * b + 1) ≡ Some x
 starts_get [] b x e = absurd (grind arith)

@@ -22,7 +22,11 @@ fn end_node(block: u32, target: u32) -> u32
     requires { block < 2 ^ 30 }
     ensures { result ≡ end_node block target }
 {
-    if block < target { 3 * block + 2 } else { 3 * block }
+    if block < target {
+        3 * block + 2
+    } else {
+        3 * block
+    }
 }
 
 /// Adds the edge over a block to one of its ends, if a target is reached from there.

@@ -14,13 +14,12 @@ use flow_engine::{Analysis, Edge};
 use mir_syntax::{Block, List, OutOfMemory, Term};
 use std::alloc::Global;
 
-/// Constants that are known, as a flow problem. Each block has three nodes: its end on the way to targets up to it, its start, and its end
-/// on the way to targets behind it. A fact is a cell for each tracked place, and none where the node is unreached.
+/// Constants that are known, as a flow problem. Each block has three nodes side by side: its end on the way to targets up to it, its start, and its
+/// end on the way to targets behind it. A fact is a cell for each tracked place, and none where the node is unreached.
 #[derive(Drop)]
 pub(crate) struct ConstFlow<'a> {
     pub sight: Sight<'a>,
     pub edges: List<Edge>,
-    pub ghost few_blocks: { length sight.body.now.blocks < 2 ^ 30 },
     pub ghost all_edges: { (i : ℕ) (e : EdgeData) → slice_get edges i ≡ Some e → IsTrue (is_edge (length sight.body.now.blocks) (terms_of sight.body.now) e) },
 }
 
@@ -174,7 +173,13 @@ impl Analysis for ConstFlow<'_> {
             let end = gone_over(alloc, self.sight, cells.as_slice(), block)?;
             return Ok(Some(end));
         }
-        sent_out(alloc, self.sight, cells.as_slice(), &block.term, edge.to / 3)
+        sent_out(
+            alloc,
+            self.sight,
+            cells.as_slice(),
+            &block.term,
+            edge.to / 3,
+        )
     }
 
     fn height(&self) -> u64 {

@@ -20,7 +20,7 @@ invariant_of-flow c =
     let body = c.args.body.now in
     let edges = c.in_ok-edges.edges in
     let has : HasEdges (terms_of body) (length body.blocks) edges = subst (λ (bs : List Block). HasEdges (map block_term bs) (length bs) edges) c.as_slice.ensures c.in_ok-edges.ensures in
-    record { few_blocks = c.requires.few_blocks; all_edges = edges_tested (length body.blocks) (terms_of body) edges has }
+    record { all_edges = edges_tested (length body.blocks) (terms_of body) edges has }
 
 pub solve-requires : goal.solve-requires
 solve-requires c =

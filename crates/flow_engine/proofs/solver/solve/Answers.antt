@@ -1,4 +1,4 @@
-use Rattle.std.proofs.Common.{◌≡◌, ◌<◌, refl, ℕ, List, [], ◌∷◌, length, sym, ap, ◌∙◌, subst, Some, slice_get, length-append, arith}
+use Rattle.std.proofs.Common.{◌≡◌, ◌<◌, refl, ℕ, List, [], length, sym, ap, ◌∙◌, subst, Some, slice_get, arith}
 use Rattle.std.proofs.lemmas.Option.{slice_get_read}
 use Rattle.flow_engine.specs.Solving.{IsGoing, waiting}
 use Rattle.flow_engine.specs.Flow.{problem}
