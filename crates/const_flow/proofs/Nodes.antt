@@ -18,7 +18,7 @@ use Rattle.const_flow.specs.declared.cell.Cell.{Cell}
 use Rattle.const_flow.specs.ConstAt.{Reached, join_reached, sent, text, tracked, first_fact, unreached, begins, arrow, arrows_from, const_flow, const_at}
 use Rattle.const_flow.specs.Order.{BelowReached, OkReached, rank, height}
 use Rattle.const_flow.specs.Cells.{reached_of}
-use Rattle.const_flow.specs.Nodes.{start_node, end_node, is_start, node_block, at_starts, over, out, IsOf, HasEdges, no_block, block_at, gone_over, sent_out, along, flown, begun, row_of, IsRow}
+use Rattle.const_flow.specs.Nodes.{start_node, is_start, node_block, at_starts, over, out, IsOf, HasEdges, no_block, block_at, gone_over, sent_out, along, flown, begun, row_of, IsRow}
 use Rattle.const_flow.specs.Carried.{BelowAs, joined_as, started_as, sent_as}
 use Rattle.const_flow.specs.Rises.{same_reached, then_reached}
 use Rattle.const_flow.specs.Lattice.{over_ok, along_below, reached_lawful, rows_name}

@@ -5,7 +5,6 @@ use Rattle.mir_syntax.specs.declared.body.Block.{Block}
 use Rattle.mir_syntax.specs.declared.body.Term.TheVariants.{Unreachable}
 use Rattle.mir_syntax.specs.Parts.{targets}
 use Rattle.mir_cfg.specs.Paths.{block_term, exits}
-use Rattle.flow_engine.specs.declared.edges.Edge.{Edge}
 use Rattle.const_flow.specs.Nodes.{HasEdges}
 use Rattle.const_flow.proofs.EachEdge.{edges_more}
 use Rattle.const_flow.proofs.edges.edges.Goals as goal
