@@ -4,12 +4,14 @@
 //! `@ N TEXT` stands for N lines of the text, in which each `@` is the number of the line, from 0: so a short table has long texts, and `@ 0 -` an
 //! empty one. Of each line of words these are written with the status and the notes, and then the output.
 //!
-//! `stdin` has first texts for each of the codes S01 to S16, V01 to V25 and L01 to L06. Each rule is broken alone by two programs. For it, and for
-//! each of the codes S10 to S15, there are also texts with two faults: the other one is of greater code and on the same line, or of lesser code and
-//! further on. For each limit there is a text that just keeps it, one that passes it by one, and one that passes two limits. What is done, and
-//! words, follow. Then there are runs of functions for each statement, terminator and kind of drop, for each cause of a run that has no meaning, and
-//! for the least and greatest numbers; each is run to its end and up to some step before it. Last, functions are dumped at each stage that is there, with
-//! the words and texts that are refused. `stdout` has the answers.
+//! `stdin` has first the examples of `examples/`: the text of each, and its text after the passes, which runs alike. `tools/examples.py` writes
+//! these entries from the files. Then come parts of rustc's dumps that are refused, as `docs/dumps.md` tells, and texts for each of the codes S01
+//! to S16, V01 to V25 and L01 to L06. Each rule is broken alone by two programs. For it, and for each of the codes S10 to S15, there are also
+//! texts with two faults: the other one is of greater code and on the same line, or of lesser code and further on. For each limit there is a text
+//! that just keeps it, one that passes it by one, and one that passes two limits. What is done, and words, follow. Then there are runs of
+//! functions for each statement, terminator and kind of drop, for each cause of a run that has no meaning, and for the least and greatest numbers;
+//! each is run to its end and up to some step before it. Last, functions are dumped at each stage that is there, with the words and texts that are
+//! refused. `stdout` has the answers.
 #![tactic(auto)]
 
 use mir_syntax::List;

@@ -1,12 +1,12 @@
 -- The least solution by other names for the facts is the least one.
-use Rattle.std.proofs.Common.{◌≡◌, refl, sym, ap, ◌∙◌, subst, ℕ, suc, zero, ◌+◌, ◌<◌, List, [], ◌∷◌, map, Some, slice_get, arith}
+use Rattle.std.proofs.Common.{◌≡◌, sym, ap, ◌∙◌, subst, ℕ, suc, zero, ◌+◌, ◌<◌, List, map, Some, slice_get, arith}
 use Rattle.std.proofs.lemmas.List.{length-map}
 use Rattle.std.proofs.lemmas.Option.{slice_get_within}
 use Rattle.mir_syntax.proofs.Lists.{map_back, map_there}
 use Rattle.flow_engine.specs.declared.edges.Edge.{Edge}
 use Rattle.flow_engine.specs.Flow.{Arrow, Solves, AllFacts, Least, Lawful, starts_to, arrows_at, problem}
 use Rattle.flow_engine.proofs.Least.{least_long, least_start, least_edge}
-use Rattle.flow_engine.proofs.Lists.{some_one, length-starts, start_at, arrow_is, arrow_to}
+use Rattle.flow_engine.proofs.Lists.{length-starts, start_at, arrow_is, arrow_to}
 use Rattle.const_flow.specs.Carried.{IsNaming, BelowAs, joined_as, started_as, sent_as, rank_as, carried_lawful}
 
 pub start_get : {A : Type 0} (start : ℕ → A) (k n b : ℕ) → b < n → slice_get (starts_to start k n) b ≡ Some (start (k + b))

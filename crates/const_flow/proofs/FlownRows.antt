@@ -1,7 +1,7 @@
 -- Rows that are joined, sent and begun, as the facts that they stand for.
-use Rattle.std.proofs.Common.{◌≡◌, inl, inr, refl, sym, ap, ◌∙◌, ℕ, suc, ◌-◌, ◌<◌, ◌≤◌, Bool, true, false, ◌&&◌, ◌||◌, nat_eq, nat_lt, if◌then◌else◌, List, [], ◌∷◌, map, length, Option, Some, None, slice_get, arith}
+use Rattle.std.proofs.Common.{◌≡◌, refl, sym, ap, ◌∙◌, subst, ℕ, ◌<◌, Bool, true, false, ◌||◌, nat_eq, nat_lt, if◌then◌else◌, List, [], ◌∷◌, map, length, Option, Some, None, slice_get, arith}
 use Rattle.std.specs.List.{Contains, list_any}
-use Rattle.std.proofs.lemmas.Bool.{eqb-true, or_cases, and_parts}
+use Rattle.std.proofs.lemmas.Bool.{eqb-true, and_parts}
 use Rattle.mir_syntax.specs.declared.body.Place.{Place}
 use Rattle.mir_syntax.specs.declared.body.Term.{Term}
 use Rattle.mir_syntax.specs.Crate.{TypedBlock, TypedBody}
@@ -13,9 +13,10 @@ use Rattle.const_flow.specs.declared.cell.Cell.TheVariants.{Nothing, Many}
 use Rattle.const_flow.specs.Facts.{Facts, join, after_all, after_term, leads}
 use Rattle.const_flow.specs.ConstAt.{join_each, join_reached, sent_if, is_arg, first_fact}
 use Rattle.const_flow.specs.Cells.{facts_of, reached_of}
-use Rattle.const_flow.specs.Nodes.{is_edge, block_at, gone_over, sent_out, along, flown, cells_of, row_of, IsRow, join_cells}
+use Rattle.const_flow.specs.Nodes.{is_start, node_block, is_edge, block_at, gone_over, sent_out, along, flown, cells_of, row_of, IsRow, join_cells}
 use Rattle.const_flow.specs.Carried.{joined_as, sent_as}
 use Rattle.const_flow.specs.Lattice.{cells_of_facts}
+use Rattle.const_flow.proofs.EachEdge.{any_there}
 
 abbrev pub joined : List Place → Option (List Cell) → Option (List Cell) → Option (List Cell)
 joined ps x y = joined_as (reached_of ps) row_of join_reached x y
@@ -58,43 +59,38 @@ module _ (h : Here) (blocks : List TypedBlock) (edges : List Edge) (ps : List Pl
   pub none_sent : (i : ℕ) → None ≡ sent_row i None
   none_sent i = go (slice_get edges i)
     where
-      out : (e : Edge) (c : Bool) → None ≡ row_of (if c then gone_over h (block_at blocks e.from) None else sent_out (block_at blocks (e.from - length blocks)).term e.to None)
+      out : (e : Edge) (c : Bool) → None ≡ row_of (if c then gone_over h (block_at blocks (node_block e.from)) None else sent_out (block_at blocks (node_block e.from)).term (node_block e.to) None)
       out e true = refl
       out e false = refl
 
       go : (o : Option Edge) → None ≡ row_of (along h blocks o None)
       go None = refl
-      go (Some e) = out e (nat_lt e.from (length blocks))
+      go (Some e) = out e (is_start e.from)
 
   pub no_edge_sent : (i : ℕ) (x : Option (List Cell)) → slice_get edges i ≡ None → None ≡ sent_row i x
   no_edge_sent i x e = sym (ap (λ o. row_of (along h blocks o (reached_of ps x))) e)
 
-  pub over_sent : (i : ℕ) (e : Edge) (ks : List Cell) → slice_get edges i ≡ Some e → e.from < length blocks → Some (cells_of (after_all h (block_at blocks e.from).stmts (facts_of ps ks))) ≡ sent_row i (Some ks)
+  pub over_sent : (i : ℕ) (e : Edge) (ks : List Cell) → slice_get edges i ≡ Some e → is_start e.from ≡ true → Some (cells_of (after_all h (block_at blocks (node_block e.from)).stmts (facts_of ps ks))) ≡ sent_row i (Some ks)
   over_sent i e ks at l =
       sym (ap (λ o. row_of (along h blocks o (Some (facts_of ps ks)))) at
-      ∙ ap (λ c. row_of (if c then gone_over h (block_at blocks e.from) (Some (facts_of ps ks)) else sent_out (block_at blocks (e.from - length blocks)).term e.to (Some (facts_of ps ks)))) (let z : nat_lt e.from (length blocks) ≡ true = grind arith in z))
+      ∙ ap (λ c. row_of (if c then gone_over h (block_at blocks (node_block e.from)) (Some (facts_of ps ks)) else sent_out (block_at blocks (node_block e.from)).term (node_block e.to) (Some (facts_of ps ks)))) l)
 
-  pub out_sent : (i : ℕ) (e : Edge) (ks : List Cell) → slice_get edges i ≡ Some e → length blocks ≤ e.from → row_of (sent_out (block_at blocks (e.from - length blocks)).term e.to (Some (facts_of ps ks))) ≡ sent_row i (Some ks)
+  pub out_sent : (i : ℕ) (e : Edge) (ks : List Cell) → slice_get edges i ≡ Some e → is_start e.from ≡ false → row_of (sent_out (block_at blocks (node_block e.from)).term (node_block e.to) (Some (facts_of ps ks))) ≡ sent_row i (Some ks)
   out_sent i e ks at l =
       sym (ap (λ o. row_of (along h blocks o (Some (facts_of ps ks)))) at
-      ∙ ap (λ c. row_of (if c then gone_over h (block_at blocks e.from) (Some (facts_of ps ks)) else sent_out (block_at blocks (e.from - length blocks)).term e.to (Some (facts_of ps ks)))) (let z : nat_lt e.from (length blocks) ≡ false = grind arith in z))
+      ∙ ap (λ c. row_of (if c then gone_over h (block_at blocks (node_block e.from)) (Some (facts_of ps ks)) else sent_out (block_at blocks (node_block e.from)).term (node_block e.to) (Some (facts_of ps ks)))) l)
 
--- an edge that begins at a block's end
-tested_out : (n : ℕ) (terms : List Term) (e : Edge) → is_edge n terms e ≡ true → n ≤ e.from → (nat_lt (e.from - n) n && list_any (nat_eq e.to) (exits terms (e.from - n))) ≡ true
-tested_out n terms e t l = ap (λ c. c || (nat_lt (e.from - n) n && list_any (nat_eq e.to) (exits terms (e.from - n)))) (let z : false ≡ nat_lt e.from n = grind arith in z) ∙ t
+-- an edge that passes the test begins at a node of a block
+pub edge_within : (n : ℕ) (terms : List Term) (e : Edge) → is_edge n terms e ≡ true → node_block e.from < n
+edge_within n terms e t = (let p = and_parts (nat_lt (node_block e.from) n) (is_start e.from || list_any (nat_eq (node_block e.to)) (exits terms (node_block e.from))) t in let q = p.0 in grind arith)
 
-pub end_within : (n : ℕ) (terms : List Term) (e : Edge) → is_edge n terms e ≡ true → n ≤ e.from → e.from - n < n
-end_within n terms e t l = (let p = and_parts (nat_lt (e.from - n) n) (list_any (nat_eq e.to) (exits terms (e.from - n))) (tested_out n terms e t l) in let q = p.0 in grind arith)
-
-any_there : (t : ℕ) (us : List ℕ) → list_any (nat_eq t) us ≡ true → Contains us t
-any_there t [] e = absurd (grind arith)
-any_there t (u ∷ us) e = elim (or_cases (nat_eq t u) (list_any (nat_eq t) us) e) [
-  | inl s ↦ (0, omega arith, sym (eqb-true t u s))
-  | inr r ↦ (let c = any_there t us r in (suc c.0, (let m = c.1 in omega arith), c.2))
-]
-
-pub end_leads : (n : ℕ) (terms : List Term) (e : Edge) → is_edge n terms e ≡ true → n ≤ e.from → Contains (exits terms (e.from - n)) e.to
-end_leads n terms e t l = (let p = and_parts (nat_lt (e.from - n) n) (list_any (nat_eq e.to) (exits terms (e.from - n))) (tested_out n terms e t l) in any_there e.to (exits terms (e.from - n)) p.1)
+-- and leads to a target of it from its end
+pub end_leads : (n : ℕ) (terms : List Term) (e : Edge) → is_edge n terms e ≡ true → is_start e.from ≡ false → Contains (exits terms (node_block e.from)) (node_block e.to)
+end_leads n terms e t l =
+    let p = and_parts (nat_lt (node_block e.from) n) (is_start e.from || list_any (nat_eq (node_block e.to)) (exits terms (node_block e.from))) t in
+    let any : list_any (nat_eq (node_block e.to)) (exits terms (node_block e.from)) ≡ true = ap (λ c. c || list_any (nat_eq (node_block e.to)) (exits terms (node_block e.from))) (sym l) ∙ p.1 in
+    let (u, c, s) = any_there (nat_eq (node_block e.to)) (exits terms (node_block e.from)) any in
+    subst (Contains (exits terms (node_block e.from))) (sym (eqb-true (node_block e.to) u s)) c
 
 -- ---- at first
 

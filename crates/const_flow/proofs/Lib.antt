@@ -7,6 +7,7 @@ pub mod Learning
 pub mod Types
 pub mod Valued
 pub mod Leading
+pub mod Numbering
 pub mod Halves
 pub mod CarriedLeast
 pub mod EachEdge

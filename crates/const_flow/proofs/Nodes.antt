@@ -1,5 +1,5 @@
 -- The problem over the nodes has the halves of the body's, so its least solution has what is known at the blocks' starts.
-use Rattle.std.proofs.Common.{◌≡◌, ◌⊎◌, inl, inr, refl, sym, ap, ◌∙◌, subst, ℕ, zero, suc, ◌+◌, ◌-◌, ◌<◌, true, false, nat_eq, nat_lt, if◌then◌else◌, List, [], ◌∷◌, ◌++◌, map, take, length, Option, Some, None, slice_get, arith}
+use Rattle.std.proofs.Common.{◌≡◌, ◌≢◌, ◌⊎◌, inl, inr, refl, sym, ap, ap₂, ◌∙◌, subst, ℕ, zero, suc, ◌+◌, ◌*◌, ◌<◌, false, nat_eq, if◌then◌else◌, List, [], ◌∷◌, ◌++◌, map, length, Option, Some, None, slice_get, arith}
 use Rattle.std.specs.List.{Contains}
 use Rattle.std.proofs.lemmas.Option.{slice_get_within, slice_get-get_or, get_or_from_slice_get}
 use Rattle.mir_syntax.proofs.Lists.{map_back, map_there}
@@ -18,13 +18,14 @@ use Rattle.const_flow.specs.declared.cell.Cell.{Cell}
 use Rattle.const_flow.specs.ConstAt.{Reached, join_reached, sent, text, tracked, first_fact, unreached, begins, arrow, arrows_from, const_flow, const_at}
 use Rattle.const_flow.specs.Order.{BelowReached, OkReached, rank, height}
 use Rattle.const_flow.specs.Cells.{reached_of}
-use Rattle.const_flow.specs.Nodes.{over, out, IsOf, HasEdges, no_block, block_at, gone_over, sent_out, along, flown, begun, row_of, IsRow}
+use Rattle.const_flow.specs.Nodes.{start_node, is_start, node_block, at_starts, over, out, IsOf, HasEdges, no_block, block_at, gone_over, sent_out, along, flown, begun, row_of, IsRow}
 use Rattle.const_flow.specs.Carried.{BelowAs, joined_as, started_as, sent_as}
 use Rattle.const_flow.specs.Rises.{same_reached, then_reached}
 use Rattle.const_flow.specs.Lattice.{over_ok, along_below, reached_lawful, rows_name}
 use Rattle.const_flow.proofs.EachEdge.{contains_at, at_contains}
 use Rattle.const_flow.proofs.CarriedLeast.{start_get, carried_least}
-use Rattle.const_flow.proofs.Halves.{IsOver, IsBehind, IsHalves, halves_least, least_one}
+use Rattle.const_flow.proofs.Numbering.{IsEnd, end_is, start_block, start_starts, end_block, end_ends}
+use Rattle.const_flow.proofs.Halves.{IsOver, IsBehind, IsWay, IsHalves, halves_least, least_one}
 use Rattle.const_flow.proofs.Rising.{begins_length, const_laws, const_least}
 
 -- ---- the body's arrows
@@ -77,7 +78,7 @@ arrow_of h a (k ∷ ks) i e q = elim (get_parts (map (arrow h a k) (targets k.te
 
 -- ---- the nodes
 
-module _ (D : List Shape) (b : TypedBody) (terms : List Term) (es : List Edge) (has : HasEdges (length b.blocks) terms (length b.blocks) es) (same_terms : (i : ℕ) (k : TypedBlock) → slice_get b.blocks i ≡ Some k → exits terms i ≡ targets k.term) (closed : (i t : ℕ) → i < length b.blocks → Contains (exits terms i) t → t < length b.blocks) where
+module _ (D : List Shape) (b : TypedBody) (terms : List Term) (es : List Edge) (has : HasEdges terms (length b.blocks) es) (same_terms : (i : ℕ) (k : TypedBlock) → slice_get b.blocks i ≡ Some k → exits terms i ≡ targets k.term) (closed : (i t : ℕ) → i < length b.blocks → Contains (exits terms i) t → t < length b.blocks) where
   abbrev H : Here
   H = text D b
 
@@ -95,34 +96,30 @@ module _ (D : List Shape) (b : TypedBody) (terms : List Term) (es : List Edge) (
   unreached_get (k ∷ ks) zero l = refl
   unreached_get (k ∷ ks) (suc i) l = unreached_get ks i (omega arith)
 
-  begun_later : (node : ℕ) → begun b (tracked D b) (suc node) ≡ None
-  begun_later node = ap (λ c. if c then Some (map (first_fact b) (tracked D b)) else None) (let z : nat_eq (suc node) 0 ≡ false = grind arith in z)
+  -- nothing is known at first but at bb0's start
+  begun_other : (node : ℕ) → node ≢ 1 → begun b (tracked D b) node ≡ None
+  begun_other node ne = ap (λ c. if c then Some (map (first_fact b) (tracked D b)) else None) (let z : nat_eq node 1 ≡ false = grind arith in z)
 
-  begins_get : (ks : List TypedBlock) (i : ℕ) → i < length ks → slice_get (begins D b ks) i ≡ Some (begun b (tracked D b) i)
+  begins_get : (ks : List TypedBlock) (i : ℕ) → i < length ks → slice_get (begins D b ks) i ≡ Some (begun b (tracked D b) (start_node i))
   begins_get [] i l = absurd (omega arith)
   begins_get (k ∷ ks) zero l = refl
-  begins_get (k ∷ ks) (suc i) l = unreached_get ks i (omega arith) ∙ ap Some (sym (begun_later i))
+  begins_get (k ∷ ks) (suc i) l = unreached_get ks i (omega arith) ∙ ap Some (sym (begun_other (start_node (suc i)) (λ e. omega arith)))
 
-  over_along : (i : ℕ) (x : Reached) → i < length b.blocks → along (text D b) b.blocks (Some (over (length b.blocks) i)) x ≡ half i x
-  over_along i x l = ap (λ c. if c then gone_over (text D b) (block_at b.blocks i) x else sent_out (block_at b.blocks (i - length b.blocks)).term (length b.blocks + i) x) (let z : nat_lt i (length b.blocks) ≡ true = grind arith in z)
+  along_start : (e : Edge) (i : ℕ) (x : Reached) → e.from ≡ start_node i → along (text D b) b.blocks (Some e) x ≡ half i x
+  along_start e i x s =
+      ap₂ (λ c j. if c then gone_over (text D b) (block_at b.blocks j) x else sent_out (block_at b.blocks j).term (node_block e.to) x) (ap is_start s ∙ start_starts i) (ap node_block s ∙ start_block i)
 
-  out_along : (i t : ℕ) (x : Reached) → along (text D b) b.blocks (Some (out (length b.blocks) i t)) x ≡ sent_out (block_at b.blocks i).term t x
-  out_along i t x =
-      ap (λ c. if c then gone_over (text D b) (block_at b.blocks (length b.blocks + i)) x else sent_out (block_at b.blocks (length b.blocks + i - length b.blocks)).term t x) (let z : nat_lt (length b.blocks + i) (length b.blocks) ≡ false = grind arith in z)
-      ∙ ap (λ j. sent_out (block_at b.blocks j).term t x) (let z : length b.blocks + i - length b.blocks ≡ i = omega arith in z)
+  along_end : (e : Edge) (i t : ℕ) (x : Reached) → IsEnd i e.from → e.to ≡ start_node t → along (text D b) b.blocks (Some e) x ≡ sent_out (block_at b.blocks i).term t x
+  along_end e i t x s u =
+      ap₂ (λ c j. if c then gone_over (text D b) (block_at b.blocks j) x else sent_out (block_at b.blocks j).term (node_block e.to) x) (end_ends i e.from s) (end_block i e.from s)
+      ∙ ap (λ u. sent_out (block_at b.blocks i).term u x) (ap node_block u ∙ start_block t)
 
   block_is : (i : ℕ) → i < length b.blocks → slice_get b.blocks i ≡ Some (block_at b.blocks i)
   block_is i l = slice_get-get_or b.blocks i no_block l
 
-  bottom : (i : ℕ) (s x : Reached) → slice_get (starts_to (begun b (tracked D b)) 0 (length b.blocks + length b.blocks)) (length b.blocks + i) ≡ Some s → BelowReached s x
-  bottom i s x is =
-      let low = slice_get_within (starts_to (begun b (tracked D b)) 0 (length b.blocks + length b.blocks)) (length b.blocks + i) s is in
-      let room : length b.blocks + i < length b.blocks + length b.blocks = omega (arith, length-starts (begun b (tracked D b)) 0 (length b.blocks + length b.blocks)) in
-      subst (λ s. BelowReached s x) (sym (start_at (begun b (tracked D b)) 0 (length b.blocks + length b.blocks) (length b.blocks + i) s is)) (later (0 + (length b.blocks + i)) (omega arith))
-    where
-      later : (node : ℕ) → 0 < node → BelowReached (begun b (tracked D b) node) x
-      later zero l = absurd (omega arith)
-      later (suc node) l = subst (λ s. BelowReached s x) (sym (begun_later node)) tt
+  bottom : (i m : ℕ) (s x : Reached) → IsEnd i m → slice_get (starts_to (begun b (tracked D b)) 0 (3 * length b.blocks)) m ≡ Some s → BelowReached s x
+  bottom i m s x k is =
+      subst (λ s. BelowReached s x) (sym (start_at (begun b (tracked D b)) 0 (3 * length b.blocks) m s is ∙ begun_other (0 + m) (λ e. elim k [ inl q ↦ (let r = q in omega arith) | inr q ↦ (let r = q in omega arith) ]))) tt
 
   only : (i : ℕ) (e : Arrow Reached) → slice_get (arrows_at (flown (text D b) b.blocks es) 0 es) i ≡ Some e → ((n : ℕ) × IsOver (length b.blocks) half n e) ⊎ ((j : ℕ) × (a : Arrow Reached) × (slice_get (arrows_from (text D b) 0 b.blocks) j ≡ Some a) × IsBehind (length b.blocks) half a e)
   only i e is = go (has.only w.edge (contains_at es i w.edge w.at))
@@ -130,22 +127,23 @@ module _ (D : List Shape) (b : TypedBody) (terms : List Term) (es : List Edge) (
       w : IsArrow (flown (text D b) b.blocks es) i es e
       w = arrow_is (flown (text D b) b.blocks es) es i e is
 
-      flows : (d : Edge) → w.edge ≡ d → (x : Reached) → e.flow x ≡ along (text D b) b.blocks (Some d) x
-      flows d s x = ap (λ (f : Reached → Reached). f x) w.flows ∙ ap (λ o. along (text D b) b.blocks o x) (w.at ∙ ap (λ (d : Edge). Some d) s)
+      flows : (x : Reached) → e.flow x ≡ along (text D b) b.blocks (Some w.edge) x
+      flows x = ap (λ (f : Reached → Reached). f x) w.flows ∙ ap (λ o. along (text D b) b.blocks o x) w.at
 
-      go : (n : ℕ) × (n < length b.blocks) × IsOf (length b.blocks) terms n w.edge → ((n : ℕ) × IsOver (length b.blocks) half n e) ⊎ ((j : ℕ) × (a : Arrow Reached) × (slice_get (arrows_from (text D b) 0 b.blocks) j ≡ Some a) × IsBehind (length b.blocks) half a e)
-      go (n, l, inl s) = inl (
+      go : (n : ℕ) × (n < length b.blocks) × IsOf terms n w.edge → ((n : ℕ) × IsOver (length b.blocks) half n e) ⊎ ((j : ℕ) × (a : Arrow Reached) × (slice_get (arrows_from (text D b) 0 b.blocks) j ≡ Some a) × IsBehind (length b.blocks) half a e)
+      go (n, l, (t, c, inl s)) = inl (
         n,
         record {
           low = l;
           from = w.from ∙ ap (λ (d : Edge). d.from) s;
-          to = w.to ∙ ap (λ (d : Edge). d.to) s;
-          flows = λ x. flows (over (length b.blocks) n) s x ∙ over_along n x l;
+          to = subst (IsEnd n) (sym (w.to ∙ ap (λ (d : Edge). d.to) s)) (end_is n t);
+          flows = λ x. flows x ∙ along_start w.edge n x (ap (λ (d : Edge). d.from) s);
         },
       )
-      go (n, l, inr (t, c, s)) =
+      go (n, l, (t, c, inr s)) =
           let k = block_at b.blocks n in
           let (j, g) = arrow_get (text D b) 0 b.blocks n k t (block_is n l) (subst (λ us. Contains us t) (same_terms n k (block_is n l)) c) in
+          let end : IsEnd n w.edge.from = subst (IsEnd n) (sym (ap (λ (d : Edge). d.from) s)) (end_is n t) in
           inr (
             j,
             arrow (text D b) n k t,
@@ -153,9 +151,9 @@ module _ (D : List Shape) (b : TypedBody) (terms : List Term) (es : List Edge) (
             record {
               low = l;
               low_to = closed n t l c;
-              from = w.from ∙ ap (λ (d : Edge). d.from) s;
+              from = subst (IsEnd n) (sym w.from) end;
               to = w.to ∙ ap (λ (d : Edge). d.to) s;
-              flows = λ x. sent_is (text D b) k t x ∙ sym (flows (out (length b.blocks) n t) s (half n x) ∙ out_along n t (half n x));
+              flows = λ x. sent_is (text D b) k t x ∙ sym (flows (half n x) ∙ along_end w.edge n t (half n x) end (ap (λ (d : Edge). d.to) s));
             },
           )
 
@@ -166,56 +164,60 @@ module _ (D : List Shape) (b : TypedBody) (terms : List Term) (es : List Edge) (
       let r : Arrow Reached = record { from = d.from; to = d.to; flow = flown (text D b) b.blocks es (0 + i) } in
       (i, r, arrow_to (flown (text D b) b.blocks es) 0 es i d at, refl, refl, λ x. ap (λ o. along (text D b) b.blocks o x) (ap (slice_get es) (let z : 0 + i ≡ i = omega arith in z) ∙ at))
 
-  overs : (n : ℕ) → n < length b.blocks → (i : ℕ) × (e : Arrow Reached) × (slice_get (arrows_at (flown (text D b) b.blocks es) 0 es) i ≡ Some e) × IsOver (length b.blocks) half n e
-  overs n l =
-      let (i, e, is, from, to, flows) = flown_at (over (length b.blocks) n) (has.overs n l) in
-      (i, e, is, record { low = l; from = from; to = to; flows = λ x. flows x ∙ over_along n x l })
-
-  outs : (j : ℕ) (a : Arrow Reached) → slice_get (arrows_from (text D b) 0 b.blocks) j ≡ Some a → a.from < length b.blocks → a.to < length b.blocks → (i : ℕ) × (e : Arrow Reached) × (slice_get (arrows_at (flown (text D b) b.blocks es) 0 es) i ≡ Some e) × IsBehind (length b.blocks) half a e
-  outs j a is low low_to =
+  way : (j : ℕ) (a : Arrow Reached) → slice_get (arrows_from (text D b) 0 b.blocks) j ≡ Some a → a.from < length b.blocks → a.to < length b.blocks → IsWay (length b.blocks) half (arrows_at (flown (text D b) b.blocks es) 0 es) a
+  way j a is low low_to =
       let r = arrow_of (text D b) 0 b.blocks j a is in
       let n = r.at in
-      let same : arrow (text D b) n r.block r.to ≡ a = ap (λ m. arrow (text D b) m r.block r.to) (let z : n ≡ 0 + n = omega arith in z) ∙ r.same in
+      let t = r.to in
+      let same : arrow (text D b) n r.block t ≡ a = ap (λ m. arrow (text D b) m r.block t) (let z : n ≡ 0 + n = omega arith in z) ∙ r.same in
       let inside = slice_get_within b.blocks n r.block r.there in
       let here : block_at b.blocks n ≡ r.block = get_or_from_slice_get b.blocks n r.block no_block r.there in
-      let (i, e, ie, from, to, flows) = flown_at (out (length b.blocks) n r.to) (has.outs n r.to inside (subst (λ us. Contains us r.to) (sym (same_terms n r.block r.there)) r.target)) in (
-        i,
-        e,
-        ie,
-        subst (λ a. IsBehind (length b.blocks) half a e) same (record {
+      let leads : Contains (exits terms n) t = subst (λ us. Contains us t) (sym (same_terms n r.block r.there)) r.target in
+      let (i, e, ie, from, to, flows) = flown_at (over n t) (has.overs n t inside leads) in
+      let (k, f, kf, from2, to2, flows2) = flown_at (out n t) (has.outs n t inside leads) in
+      subst (λ a. IsWay (length b.blocks) half (arrows_at (flown (text D b) b.blocks es) 0 es) a) same (record {
+        first = i;
+        over = e;
+        over_there = ie;
+        is_over = record { low = inside; from = from; to = subst (IsEnd n) (sym to) (end_is n t); flows = λ x. flows x ∙ along_start (over n t) n x refl };
+        second = k;
+        behind = f;
+        behind_there = kf;
+        is_behind = record {
           low = inside;
           low_to = subst (λ (a : Arrow Reached). a.to < length b.blocks) (sym same) low_to;
-          from = from;
-          to = to;
-          flows = λ x. sent_is (text D b) r.block r.to x ∙ ap (λ (k : TypedBlock). sent_out k.term r.to (gone_over (text D b) k x)) (sym here) ∙ sym (flows (half n x) ∙ out_along n r.to (half n x));
-        }),
-      )
+          from = subst (IsEnd n) (sym from2) (end_is n t);
+          to = to2;
+          flows = λ x. sent_is (text D b) r.block t x ∙ ap (λ (k : TypedBlock). sent_out k.term t (gone_over (text D b) k x)) (sym here) ∙ sym (flows2 (half n x) ∙ along_end (out n t) n t (half n x) (end_is n t) refl);
+        };
+        meets = to ∙ sym from2;
+      })
 
-  halves : IsHalves (OkReached (tracked D b)) BelowReached (length b.blocks) half (const_flow D b) (problem join_reached (begun b (tracked D b)) (flown (text D b) b.blocks es) (length b.blocks + length b.blocks) es)
+  halves : IsHalves (OkReached (tracked D b)) BelowReached (length b.blocks) half (const_flow D b) (problem join_reached (begun b (tracked D b)) (flown (text D b) b.blocks es) (3 * length b.blocks) es)
   unfolding const_flow problem
   halves = record {
     short = begins_length D b b.blocks;
-    long = length-starts (begun b (tracked D b)) 0 (length b.blocks + length b.blocks);
-    begin = λ i l. start_get (begun b (tracked D b)) 0 (length b.blocks + length b.blocks) i (omega arith) ∙ ap (λ n. Some (begun b (tracked D b) n)) (let z : 0 + i ≡ i = omega arith in z) ∙ sym (begins_get b.blocks i l);
+    long = length-starts (begun b (tracked D b)) 0 (3 * length b.blocks);
+    begin = λ i l. start_get (begun b (tracked D b)) 0 (3 * length b.blocks) (start_node i) (omega arith) ∙ ap (λ n. Some (begun b (tracked D b) n)) (let z : 0 + start_node i ≡ start_node i = omega arith in z) ∙ sym (begins_get b.blocks i l);
     bottom = bottom;
     same = λ x k. same_reached (tracked D b) x;
     then_below = then_reached (tracked D b);
     half_ok = λ i x k. over_ok (tracked D b) (text D b) (block_at b.blocks i) x k;
     rises = λ i e x y is k m le. (let w = arrow_is (flown (text D b) b.blocks es) es i e is in subst (λ (f : Reached → Reached). BelowReached (f x) (f y)) (sym w.flows) (along_below (text D b) b.blocks (slice_get es i) x y le));
     only = only;
-    over = overs;
-    out = outs;
+    way = way;
   }
 
-  take_map : {A B : Type 0} (f : A → B) (n : ℕ) (xs : List A) → map f (take n xs) ≡ take n (map f xs)
-  take_map f zero xs = refl
-  take_map f (suc n) [] = refl
-  take_map f (suc n) (x ∷ xs) = ap (λ ys. f x ∷ ys) (take_map f n xs)
+  starts_map : {A B : Type 0} (f : A → B) (xs : List A) → map f (at_starts xs) ≡ at_starts (map f xs)
+  starts_map f [] = refl
+  starts_map f (x ∷ []) = refl
+  starts_map f (x ∷ y ∷ []) = refl
+  starts_map f (x ∷ y ∷ z ∷ xs) = ap (λ ys. f y ∷ ys) (starts_map f xs)
 
   -- what is found by cells
-  pub starts_known : (ys : List (Option (List Cell))) → Least (IsRow (tracked D b)) (BelowAs (IsRow (tracked D b)) BelowReached (reached_of (tracked D b))) (problem (joined_as (reached_of (tracked D b)) row_of join_reached) (started_as row_of (begun b (tracked D b))) (sent_as (reached_of (tracked D b)) row_of (flown (text D b) b.blocks es)) (length b.blocks + length b.blocks) es) ys → map (reached_of (tracked D b)) (take (length b.blocks) ys) ≡ const_at D b
+  pub starts_known : (ys : List (Option (List Cell))) → Least (IsRow (tracked D b)) (BelowAs (IsRow (tracked D b)) BelowReached (reached_of (tracked D b))) (problem (joined_as (reached_of (tracked D b)) row_of join_reached) (started_as row_of (begun b (tracked D b))) (sent_as (reached_of (tracked D b)) row_of (flown (text D b) b.blocks es)) (3 * length b.blocks) es) ys → map (reached_of (tracked D b)) (at_starts ys) ≡ const_at D b
   starts_known ys l =
-      let carried = carried_least (IsRow (tracked D b)) (OkReached (tracked D b)) (reached_of (tracked D b)) row_of (rows_name (tracked D b)) BelowReached rank (height (tracked D b)) (begun b (tracked D b)) join_reached (flown (text D b) b.blocks es) (reached_lawful (text D b) b (tracked D b) es) (length b.blocks + length b.blocks) es ys l in
-      let least = halves_least (OkReached (tracked D b)) BelowReached (length b.blocks) half (const_flow D b) (problem join_reached (begun b (tracked D b)) (flown (text D b) b.blocks es) (length b.blocks + length b.blocks) es) halves (map (reached_of (tracked D b)) ys) carried in
-      take_map (reached_of (tracked D b)) (length b.blocks) ys
-      ∙ least_one (OkReached (tracked D b)) BelowReached rank (height (tracked D b)) (const_flow D b) (const_laws D b) (take (length b.blocks) (map (reached_of (tracked D b)) ys)) (const_at D b) least (const_least D b)
+      let carried = carried_least (IsRow (tracked D b)) (OkReached (tracked D b)) (reached_of (tracked D b)) row_of (rows_name (tracked D b)) BelowReached rank (height (tracked D b)) (begun b (tracked D b)) join_reached (flown (text D b) b.blocks es) (reached_lawful (text D b) b (tracked D b) es) (3 * length b.blocks) es ys l in
+      let least = halves_least (OkReached (tracked D b)) BelowReached (length b.blocks) half (const_flow D b) (problem join_reached (begun b (tracked D b)) (flown (text D b) b.blocks es) (3 * length b.blocks) es) halves (map (reached_of (tracked D b)) ys) carried in
+      starts_map (reached_of (tracked D b)) ys
+      ∙ least_one (OkReached (tracked D b)) BelowReached rank (height (tracked D b)) (const_flow D b) (const_laws D b) (at_starts (map (reached_of (tracked D b)) ys)) (const_at D b) least (const_least D b)

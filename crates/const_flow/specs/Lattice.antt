@@ -1,5 +1,5 @@
 -- What is known of places is a lattice, and the flow over the nodes rises: proofs alone, of the law that `solve` asks for.
-use Rattle.std.proofs.Common.{◌≡◌, refl, sym, ap, ◌∙◌, ℕ, suc, ◌-◌, Bool, true, false, nat_eq, nat_lt, if◌then◌else◌, List, [], ◌∷◌, map, length, Option, Some, None, slice_get, arith}
+use Rattle.std.proofs.Common.{◌≡◌, refl, sym, ap, ◌∙◌, ℕ, suc, Bool, true, false, nat_eq, if◌then◌else◌, List, [], ◌∷◌, map, length, Option, Some, None, slice_get, arith}
 use Rattle.mir_syntax.specs.declared.body.Place.{Place}
 use Rattle.mir_syntax.specs.declared.body.Term.{Term}
 use Rattle.mir_syntax.specs.Crate.{TypedBlock, TypedBody}
@@ -11,7 +11,7 @@ use Rattle.const_flow.specs.Facts.{Facts, after_term, leads}
 use Rattle.const_flow.specs.ConstAt.{Reached, join_reached, sent_if, first_fact}
 use Rattle.const_flow.specs.Order.{BelowReached, places, OkReached, rank, height}
 use Rattle.const_flow.specs.Cells.{facts_of, reached_of}
-use Rattle.const_flow.specs.Nodes.{block_at, gone_over, sent_out, along, flown, begun, cells_of, row_of, IsRow}
+use Rattle.const_flow.specs.Nodes.{is_start, node_block, block_at, gone_over, sent_out, along, flown, begun, cells_of, row_of, IsRow}
 use Rattle.const_flow.specs.Carried.{IsNaming, BelowAs, joined_as, started_as, sent_as, rank_as, carried_lawful}
 use Rattle.const_flow.specs.Rises.{all_below, term_below, leads_below, all_places, term_places, joined_ok, same_reached, then_reached, left_reached, right_reached, least_reached, rank_reached, rank_equal, rank_high, first_places}
 
@@ -46,23 +46,23 @@ out_below t b (Some fs) None le = absurd le
 
 pub along_ok : (ps : List Place) (h : Here) (ks : List TypedBlock) (o : Option Edge) (x : Reached) → OkReached ps x → OkReached ps (along h ks o x)
 along_ok ps h ks None x k = tt
-along_ok ps h ks (Some e) x k = go (nat_lt e.from (length ks))
+along_ok ps h ks (Some e) x k = go (is_start e.from)
   where
-    go : (c : Bool) → OkReached ps (if c then gone_over h (block_at ks e.from) x else sent_out (block_at ks (e.from - length ks)).term e.to x)
-    go true = over_ok ps h (block_at ks e.from) x k
-    go false = out_ok ps (block_at ks (e.from - length ks)).term e.to x k
+    go : (c : Bool) → OkReached ps (if c then gone_over h (block_at ks (node_block e.from)) x else sent_out (block_at ks (node_block e.from)).term (node_block e.to) x)
+    go true = over_ok ps h (block_at ks (node_block e.from)) x k
+    go false = out_ok ps (block_at ks (node_block e.from)).term (node_block e.to) x k
 
 pub along_below : (h : Here) (ks : List TypedBlock) (o : Option Edge) (x y : Reached) → BelowReached x y → BelowReached (along h ks o x) (along h ks o y)
 along_below h ks None x y b = tt
-along_below h ks (Some e) x y b = go (nat_lt e.from (length ks))
+along_below h ks (Some e) x y b = go (is_start e.from)
   where
-    go : (c : Bool) → BelowReached (if c then gone_over h (block_at ks e.from) x else sent_out (block_at ks (e.from - length ks)).term e.to x) (if c then gone_over h (block_at ks e.from) y else sent_out (block_at ks (e.from - length ks)).term e.to y)
-    go true = over_below h (block_at ks e.from) x y b
-    go false = out_below (block_at ks (e.from - length ks)).term e.to x y b
+    go : (c : Bool) → BelowReached (if c then gone_over h (block_at ks (node_block e.from)) x else sent_out (block_at ks (node_block e.from)).term (node_block e.to) x) (if c then gone_over h (block_at ks (node_block e.from)) y else sent_out (block_at ks (node_block e.from)).term (node_block e.to) y)
+    go true = over_below h (block_at ks (node_block e.from)) x y b
+    go false = out_below (block_at ks (node_block e.from)).term (node_block e.to) x y b
 
 module _ (h : Here) (b : TypedBody) (ps : List Place) (es : List Edge) where
   begun_ok : (node : ℕ) → OkReached ps (begun b ps node)
-  begun_ok node = go (nat_eq node 0)
+  begun_ok node = go (nat_eq node 1)
     where
       go : (c : Bool) → OkReached ps (if c then Some (map (first_fact b) ps) else None)
       go true = first_places b ps

@@ -1,6 +1,7 @@
--- The flow of constants as it is solved: its nodes are the blocks' starts, and behind them the blocks' ends, so that a block's statements are gone
--- over once for all its targets.
-use Rattle.std.specs.Prelude.{◌≡◌, ◌⊎◌, ℕ, ◌+◌, ◌-◌, ◌<◌, Bool, ◌&&◌, ◌||◌, nat_eq, nat_lt, if◌then◌else◌, List, [], ◌∷◌, map, length, get_or, Option, Some, None, option_map, slice_get}
+-- The flow of constants as it is solved. Each block has three nodes side by side: its start, and its end before it and behind it, from where
+-- the targets up to the block are reached and those behind it. So what is known goes along all of a way that leads up or down the blocks in one
+-- sweep over the nodes, and a block's statements are gone over at most twice for all its targets.
+use Rattle.std.specs.Prelude.{◌≡◌, ◌⊎◌, ℕ, ◌+◌, ◌*◌, ◌/◌, ◌%◌, ◌<◌, Bool, ◌&&◌, ◌||◌, nat_eq, nat_lt, if◌then◌else◌, List, [], ◌∷◌, ◌++◌, map, length, get_or, Option, Some, None, option_map, slice_get}
 use Rattle.std.specs.List.{Contains, list_any}
 use Rattle.mir_syntax.specs.declared.body.Place.{Place}
 use Rattle.mir_syntax.specs.declared.body.Term.{Term}
@@ -15,32 +16,63 @@ use Rattle.const_flow.specs.declared.sight.Sight.{Sight}
 use Rattle.const_flow.specs.ConstAt.{Reached, sent_if, first_fact}
 use Rattle.const_flow.specs.Sights.{trees_in}
 
+-- ---- the nodes
+
+abbrev pub start_node : ℕ → ℕ
+start_node b = 3 * b + 1
+
+-- a block's end, on the way to a target
+abbrev pub end_node : ℕ → ℕ → ℕ
+end_node b t = if nat_lt b t then 3 * b + 2 else 3 * b
+
+abbrev pub is_start : ℕ → Bool
+is_start node = nat_eq (node % 3) 1
+
+-- the block of a node
+abbrev pub node_block : ℕ → ℕ
+node_block node = node / 3
+
+-- what stands at the starts, of what stands at the nodes
+abbrev pub at_starts : {A : Type 0} → List A → List A
+at_starts [] = []
+at_starts (x ∷ []) = []
+at_starts (x ∷ y ∷ []) = y ∷ []
+at_starts (x ∷ y ∷ z ∷ xs) = y ∷ at_starts xs
+
 -- ---- the edges
 
 abbrev pub edge_to : ℕ → ℕ → Edge
 edge_to a b = record { from = a; to = b }
 
--- over a block, from its start to its end
+-- over a block, on the way to a target
 abbrev pub over : ℕ → ℕ → Edge
-over blocks b = edge_to b (blocks + b)
+over b t = edge_to (start_node b) (end_node b t)
 
--- from a block's end to the start of another
-abbrev pub out : ℕ → ℕ → ℕ → Edge
-out blocks b t = edge_to (blocks + b) t
+-- and from its end to the target's start
+abbrev pub out : ℕ → ℕ → Edge
+out b t = edge_to (end_node b t) (start_node t)
 
--- the edges over a block and out of it
-abbrev pub IsOf : ℕ → List Term → ℕ → Edge → Type 0
-IsOf blocks terms b e = (e ≡ over blocks b) ⊎ ((t : ℕ) × Contains (exits terms b) t × (e ≡ out blocks b t))
+-- the edge over a block to one of its ends, if a target is reached from there
+abbrev pub overs_to : ℕ → ℕ → List ℕ → List Edge
+overs_to b end targets = if list_any (λ t. nat_eq (end_node b t) end) targets then edge_to (start_node b) end ∷ [] else []
+
+-- the edges of a block with these targets
+abbrev pub edges_of : ℕ → List ℕ → List Edge
+edges_of b targets = overs_to b (3 * b) targets ++ overs_to b (3 * b + 2) targets ++ map (out b) targets
+
+-- an edge on the way from a block to a target
+abbrev pub IsOf : List Term → ℕ → Edge → Type 0
+IsOf terms b e = (t : ℕ) × Contains (exits terms b) t × ((e ≡ over b t) ⊎ (e ≡ out b t))
 
 -- these are the edges of the first so many blocks
-pub record HasEdges (blocks : ℕ) (terms : List Term) (count : ℕ) (edges : List Edge) : Type 0 where
-  pub only : (e : Edge) → Contains edges e → (b : ℕ) × (b < count) × IsOf blocks terms b e
-  pub overs : (b : ℕ) → b < count → Contains edges (over blocks b)
-  pub outs : (b t : ℕ) → b < count → Contains (exits terms b) t → Contains edges (out blocks b t)
+pub record HasEdges (terms : List Term) (count : ℕ) (edges : List Edge) : Type 0 where
+  pub only : (e : Edge) → Contains edges e → (b : ℕ) × (b < count) × IsOf terms b e
+  pub overs : (b t : ℕ) → b < count → Contains (exits terms b) t → Contains edges (over b t)
+  pub outs : (b t : ℕ) → b < count → Contains (exits terms b) t → Contains edges (out b t)
 
--- an edge over a block, or from a block's end to one of its targets
+-- an edge that begins at a block's start, or leads to one of its targets
 abbrev pub is_edge : ℕ → List Term → Edge → Bool
-is_edge blocks terms e = nat_lt e.from blocks || (nat_lt (e.from - blocks) blocks && list_any (nat_eq e.to) (exits terms (e.from - blocks)))
+is_edge blocks terms e = nat_lt (node_block e.from) blocks && (is_start e.from || list_any (nat_eq (node_block e.to)) (exits terms (node_block e.from)))
 
 -- ---- what is known at the nodes
 
@@ -65,7 +97,7 @@ sent_out t b (Some fs) = sent_if (leads fs t b) (after_term t fs)
 
 abbrev pub along : Here → List TypedBlock → Option Edge → Reached → Reached
 along h blocks None x = None
-along h blocks (Some e) x = if nat_lt e.from (length blocks) then gone_over h (block_at blocks e.from) x else sent_out (block_at blocks (e.from - length blocks)).term e.to x
+along h blocks (Some e) x = if is_start e.from then gone_over h (block_at blocks (node_block e.from)) x else sent_out (block_at blocks (node_block e.from)).term (node_block e.to) x
 
 -- what an edge makes of what is known where it begins
 abbrev pub flown : Here → List TypedBlock → List Edge → ℕ → Reached → Reached
@@ -73,7 +105,7 @@ flown h blocks edges i x = along h blocks (slice_get edges i) x
 
 -- what is known at first of a node: at bb0's start, of the tracked places
 abbrev pub begun : TypedBody → List Place → ℕ → Reached
-begun b places node = if nat_eq node 0 then Some (map (first_fact b) places) else None
+begun b places node = if nat_eq node 1 then Some (map (first_fact b) places) else None
 
 -- ---- the same by cells
 

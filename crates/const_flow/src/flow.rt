@@ -14,15 +14,12 @@ use flow_engine::{Analysis, Edge};
 use mir_syntax::{Block, List, OutOfMemory, Term};
 use std::alloc::Global;
 
-/// Constants that are known, as a flow problem. Its nodes are the blocks' starts, and behind them their ends. A fact is a cell for each tracked
-/// place, and none where the node is unreached.
+/// Constants that are known, as a flow problem. Each block has three nodes side by side: its end on the way to targets up to it, its start, and its
+/// end on the way to targets behind it. A fact is a cell for each tracked place, and none where the node is unreached.
 #[derive(Drop)]
 pub(crate) struct ConstFlow<'a> {
     pub sight: Sight<'a>,
-    pub blocks: u32,
     pub edges: List<Edge>,
-    pub ghost all_blocks: { blocks ≡ length sight.body.now.blocks },
-    pub ghost few_blocks: { length sight.body.now.blocks < 2 ^ 30 },
     pub ghost all_edges: { (i : ℕ) (e : EdgeData) → slice_get edges i ≡ Some e → IsTrue (is_edge (length sight.body.now.blocks) (terms_of sight.body.now) e) },
 }
 
@@ -77,7 +74,7 @@ fn sent_out(
 
 /// What is known of the tracked places where the body begins.
 fn first_cells(alloc: Global, sight: Sight<'_>) -> Result<List<Cell>, OutOfMemory>
-    ensures { IfOk result (λ cells. Some cells ≡ row_of (begun (body_in sight.entry) sight.entry.paths.now 0)) }
+    ensures { IfOk result (λ cells. Some cells ≡ row_of (begun (body_in sight.entry) sight.entry.paths.now 1)) }
 {
     let places = sight.paths.places();
     let mut cells = List::new(alloc);
@@ -139,7 +136,7 @@ impl Analysis for ConstFlow<'_> {
     ghost most = { λ a. height a.sight.paths.now };
 
     fn start(&self, alloc: Global, node: u32) -> Result<Option<List<Cell>>, OutOfMemory> {
-        if node == 0 {
+        if node == 1 {
             return Ok(Some(first_cells(alloc, self.sight)?));
         }
         Ok(None)
@@ -171,13 +168,18 @@ impl Analysis for ConstFlow<'_> {
             return Ok(None);
         };
         let blocks = self.sight.body.blocks.as_slice();
-        if edge.from < self.blocks {
-            let block = &blocks[edge.from as usize];
+        let block = &blocks[(edge.from / 3) as usize];
+        if edge.from % 3 == 1 {
             let end = gone_over(alloc, self.sight, cells.as_slice(), block)?;
             return Ok(Some(end));
         }
-        let block = &blocks[(edge.from - self.blocks) as usize];
-        sent_out(alloc, self.sight, cells.as_slice(), &block.term, edge.to)
+        sent_out(
+            alloc,
+            self.sight,
+            cells.as_slice(),
+            &block.term,
+            edge.to / 3,
+        )
     }
 
     fn height(&self) -> u64 {

@@ -7,7 +7,7 @@
 //! `Facts` carries what is known from statement to statement: `pass` makes of it what `after_stmt` says, and `operand`, `scalar` and `pair` tell
 //! what `known` and `value_known` say, or that the block is unreached (`told` of `specs/Cells.antt`).
 //!
-//! `consts` solves that problem over the blocks' starts and ends (`specs/Nodes.antt`), and its rows are exactly `const_at`. `ConstRows::at` tells what
+//! `consts` solves that problem over nodes for each block's start and its two ends (`specs/Nodes.antt`), and its rows are exactly `const_at`. `ConstRows::at` tells what
 //! is known of one tracked place at a block's start, and `ConstRows::facts` gives the `Facts` that stand there. `taken_arm`, `scalar_of` and `scalar_ty`
 //! are for passes that read what is known.
 #![tactic(auto)]

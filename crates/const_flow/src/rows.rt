@@ -1,4 +1,4 @@
-ghost use Rattle.std.specs.Prelude.{◌≡◌, ◌<◌, ◌^◌, ◌∷◌, None, Some, map, take, length, get_or, option_map, MatchOption, IfOk};
+ghost use Rattle.std.specs.Prelude.{◌≡◌, ◌<◌, ◌*◌, ◌^◌, None, Some, map, length, get_or, option_map, MatchOption, IfOk};
 ghost use Rattle.std.specs.List.{All};
 ghost use Rattle.mir_syntax.specs.Drops.{KnowsDrops};
 ghost use Rattle.mir_syntax.specs.Ids.{IdsInTable, BodyInTable};
@@ -10,7 +10,7 @@ ghost use Rattle.const_flow.specs.declared.cell.Cell.TheVariants.{Many};
 ghost use Rattle.const_flow.specs.ConstAt.{tracked, const_at};
 ghost use Rattle.const_flow.specs.Cells.{facts_of, reached_of, told};
 ghost use Rattle.const_flow.specs.Compact.{reached_in, IsCompact};
-ghost use Rattle.const_flow.specs.Nodes.{cells_of, IsRow};
+ghost use Rattle.const_flow.specs.Nodes.{at_starts, cells_of, IsRow};
 
 use crate::cell::{Cell, Known};
 use crate::edges::edges;
@@ -47,19 +47,21 @@ impl Model for ConstRows {
     ghost invariant = { λ made. IsCompact made.paths made.cells made.rows };
 }
 
-/// The rows of blocks one after another.
+/// The rows at the starts of so many blocks, one after another, of the facts at their nodes.
 fn gathered(
     alloc: Global,
     paths: PathMap,
+    blocks: usize,
     facts: &[Option<List<Cell>>],
 ) -> Result<ConstRows, OutOfMemory>
-    requires { All (IsRow paths) facts.now }
-    ensures { IfOk result (λ rows. rows ≡ map (reached_of paths) facts.now) }
+    requires nodes { length facts.now ≡ 3 * blocks }
+    requires rows { All (IsRow paths) facts.now }
+    ensures { IfOk result (λ rows. rows ≡ map (reached_of paths) (at_starts facts.now)) }
 {
-    let mut rows = List::with_capacity(alloc, facts.len())?;
+    let mut rows = List::with_capacity(alloc, blocks)?;
     let mut cells = List::new(alloc);
-    for fact in facts {
-        let Some(row) = fact else {
+    for block in 0..blocks {
+        let Some(row) = &facts[3 * block + 1] else {
             rows.push(None)?;
             continue;
         };
@@ -69,7 +71,7 @@ fn gathered(
     Ok(ConstRows { paths, rows, cells })
 }
 
-/// What is known of the tracked places at the start of each block, and then at its end.
+/// What is known of the tracked places at the nodes of each block.
 fn solved(
     alloc: Global,
     program: &Program,
@@ -79,8 +81,9 @@ fn solved(
     requires closed { Closed (terms_of body.now) }
     requires few_blocks { length body.now.blocks < 2 ^ 30 }
     requires places { paths.now ≡ tracked (shapes_of (crate_of program.now)) (body_of (trees_of program.now.types) body.now) }
+    ensures nodes { IfOk result (λ facts. length facts ≡ 3 * length body.now.blocks) }
     ensures rows { IfOk result (λ facts. All (IsRow paths.now) facts) }
-    ensures starts { IfOk result (λ facts. map (reached_of paths.now) (take (length body.now.blocks) facts) ≡ const_at (shapes_of (crate_of program.now)) (body_of (trees_of program.now.types) body.now)) }
+    ensures starts { IfOk result (λ facts. map (reached_of paths.now) (at_starts facts) ≡ const_at (shapes_of (crate_of program.now)) (body_of (trees_of program.now.types) body.now)) }
 {
     let edges = edges(alloc, body.blocks.as_slice())?;
     let blocks = body.blocks.len() as u32;
@@ -90,10 +93,9 @@ fn solved(
             body,
             paths,
         },
-        blocks,
         edges,
     };
-    solve(alloc, &flow, 2 * blocks, flow.edges.as_slice())
+    solve(alloc, &flow, 3 * blocks, flow.edges.as_slice())
 }
 
 /// What is known at the start of each block, as the least solution of the flow of constants.
@@ -109,9 +111,8 @@ pub fn consts(alloc: Global, program: &Program, body: &Body) -> Result<ConstRows
 {
     let taken = address_taken(alloc, program, body)?;
     let paths = paths(alloc, program, body, &taken)?;
-    let mut facts = solved(alloc, program, body, &paths)?;
-    facts.truncate(body.blocks.len());
-    gathered(alloc, paths, facts.as_slice())
+    let facts = solved(alloc, program, body, &paths)?;
+    gathered(alloc, paths, body.blocks.len(), facts.as_slice())
 }
 
 /// The cells at a block's start. `None` where the block is unreached, and where there is no such block.

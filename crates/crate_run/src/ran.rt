@@ -1,8 +1,6 @@
 ghost use Rattle.std.specs.Prelude.{◌≡◌, ◌<◌, length, Some, slice_get, IfOk, IsErrOf};
 ghost use Rattle.mir_syntax.specs.declared.body.Function as spec;
 ghost use Rattle.mir_syntax.specs.Crate.{TypedFunction, crate_of};
-ghost use Rattle.mir_syntax.specs.Drops.{KnowsDrops};
-ghost use Rattle.mir_rules.specs.Valid.{Valid, Within};
 ghost use Rattle.mir_semantics.specs.Run.{Entry};
 ghost use Rattle.mir_machine.specs.Runs.{entry_in};
 ghost use Rattle.crate_run.specs.Ran.{IsCall, IsRunText, HasNoFunction, IsNoEntry};
@@ -11,6 +9,7 @@ use crate::fault::RunFault;
 use mir_entry::{EntryFault, entry, function_at};
 use mir_machine::{EntryCall, run};
 use mir_syntax::{FnId, List, Number, Program, TyId};
+use mir_validate::Valid;
 use run_text::run_text;
 use std::alloc::Global;
 
@@ -41,7 +40,7 @@ fn call_of(
     }
 }
 
-/// The text of a run of the function with a path: of so many steps with these answers of the outside functions, or of as many as there
+/// The text of a run of the function of a valid program with a path: of so many steps with these answers of the outside functions, or of as many as there
 /// are. The function is called from outside, and its arguments are given by their flat form.
 ///
 /// # Errors
@@ -50,19 +49,17 @@ fn call_of(
 /// form of no arguments of its types.
 pub fn run_function(
     alloc: Global,
-    program: &Program,
+    valid: &Valid,
     path: &[u8],
     args: &[Number],
     answers: &[u128],
     steps: u64,
 ) -> Result<List<u8>, RunFault>
-    requires knows { KnowsDrops program.now }
-    requires valid { Valid (crate_of program.now) }
-    requires within { Within (crate_of program.now) }
-    ensures text { IfOk result (λ text. IsRunText (crate_of program.now) path.now args.now answers.now steps text) }
-    ensures no_function { IsErrOf result RunFault.NoFunction → HasNoFunction (crate_of program.now) path.now }
-    ensures no_entry { IsErrOf result RunFault.NoEntry → IsNoEntry (crate_of program.now) path.now args.now }
+    ensures text { IfOk result (λ text. IsRunText (crate_of valid.now) path.now args.now answers.now steps text) }
+    ensures no_function { IsErrOf result RunFault.NoFunction → HasNoFunction (crate_of valid.now) path.now }
+    ensures no_entry { IsErrOf result RunFault.NoEntry → IsNoEntry (crate_of valid.now) path.now args.now }
 {
+    let program = valid.program();
     let Some(f) = function_at(program, path) else {
         return Err(RunFault::NoFunction);
     };

@@ -1,16 +1,17 @@
 -- How the facts go on their way to the least solution.
 use Rattle.std.proofs.Common.{◌≡◌, ◌≢◌, ◌⊎◌, inl, inr, refl, sym, ap, ap₂, ◌∙◌, subst, ℕ, suc, ◌+◌, ◌*◌, ◌<◌, ◌≤◌, Bool, true, false, List, [], ◌∷◌, ◌++◌, length, get_or, set, replicate, Some, slice_get, sum_by, IsTrue, ◌↔◌, if◌then◌else◌, arith}
 use Rattle.std.specs.List.{All, Contains}
-use Rattle.std.proofs.lemmas.Bool.{cases_eq, cases_Bool, both_ways, false≢true}
-use Rattle.std.proofs.lemmas.List.{length-set, get_or-set_same, get_or-set_other, get_or-replicate}
+use Rattle.std.proofs.lemmas.Bool.{cases_eq, both_ways, false≢true}
+use Rattle.std.proofs.lemmas.List.{length-set, length-replicate, get_or-set_same, get_or-set_other, get_or-replicate}
 use Rattle.std.proofs.lemmas.List.Elements.{Contains-push_cases}
 use Rattle.std.proofs.lemmas.Option.{slice_get_within, slice_get-get_or, get_or_from_slice_get}
 use Rattle.std.proofs.lemmas.List.Sums.{sum_by-set, sum_by-cons}
 use Rattle.mir_syntax.proofs.Lists.{set_there, set_same}
 use Rattle.flow_engine.specs.declared.edges.Edge.{Edge}
 use Rattle.flow_engine.specs.Flow.{Arrow, Flow, Solves, AllFacts, Least, Lawful, starts_to, problem}
-use Rattle.flow_engine.specs.Solving.{IsUnder, IsWork, IsSent, IsGoing, IsLeaving}
+use Rattle.flow_engine.specs.Solving.{SleepAll, waiting, IsUnder, IsSent, IsGoing, IsLeaving}
 use Rattle.flow_engine.proofs.Lists.{some_one, get_set_other, none_in_empty, length-starts, arrow_is, arrow_to}
+use Rattle.flow_engine.proofs.Waiting.{one_more}
 use Rattle.flow_engine.proofs.Laws.{Laws, laws_of, absorbs, climbs}
 
 module _ {A : Type 0} (Ok : A → Type 0) (Below : A → A → Type 0) (rank : A → ℕ) (h : ℕ) (p : Flow A) (laws : Laws Ok Below rank h p) where
@@ -120,23 +121,20 @@ module _ {A : Type 0} (Ok : A → Type 0) (Below : A → A → Type 0) (rank : A
     under = λ ys ok s b x y g gy. s.start b x y g gy;
   }
 
-  pub ends_least : (xs : List A) (marks : List Bool) (block : ℕ) → IsGoing Ok Below p xs [] marks block [] → ((i : ℕ) (e : Arrow A) → slice_get p.arrows i ≡ Some e → e.from ≢ block) → Least Ok Below p xs
-  ends_least xs marks block g outside = record {
+  pub ends_least : (xs : List A) (marks : List Bool) (block : ℕ) → SleepAll marks → IsGoing Ok Below p xs marks block [] → ((i : ℕ) (e : Arrow A) → slice_get p.arrows i ≡ Some e → e.from ≢ block) → Least Ok Below p xs
+  ends_least xs marks block asleep g outside = record {
     solves = record {
       same_length = g.under.long;
       start = g.under.above;
-      edge = λ i e x y is gx gy. subst (Below (e.flow x)) (g.sent_on i e x y is (unmarked e.from) (λ f. absurd (outside i e is f)) gx gy) (laws.right y (e.flow x) (g.under.facts e.to y gy) (laws.flow_ok i e x is (g.under.facts e.from x gx)));
+      edge = λ i e x y is gx gy. subst (Below (e.flow x)) (g.sent_on i e x y is (asleep e.from) (λ f. absurd (outside i e is f)) gx gy) (laws.right y (e.flow x) (g.under.facts e.to y gy) (laws.flow_ok i e x is (g.under.facts e.from x gx)));
     };
     facts = g.under.facts;
     least = g.under.under;
   }
-    where
-      unmarked : (b : ℕ) → get_or marks b false ≡ false
-      unmarked b = elim (cases_Bool (get_or marks b false)) [ inl t ↦ absurd (none_in_empty b (g.work.listed b t)) | inr f ↦ f ]
 
   -- ---- a block's turn
-  pub turn_begins : (xs : List A) (queue : List ℕ) (marks : List Bool) (n block : ℕ) → block < length marks → ((i : ℕ) (e : Arrow A) → slice_get p.arrows i ≡ Some e → e.from ≢ n) → IsSent p xs marks n [] → IsSent p xs (set marks block false) block []
-  turn_begins xs queue marks n block l outside all j d v w isd unmarked listed gv gw = elim (cases_eq d.from block) [
+  pub turn_begins : (xs : List A) (marks : List Bool) (n block : ℕ) → ((i : ℕ) (e : Arrow A) → slice_get p.arrows i ≡ Some e → e.from ≢ n) → IsSent p xs marks n [] → IsSent p xs (set marks block false) block []
+  turn_begins xs marks n block outside all j d v w isd unmarked listed gv gw = elim (cases_eq d.from block) [
     | inl s ↦ absurd (none_in_empty j (listed s))
     | inr ne ↦ all j d v w isd (sym (get_or-set_other marks block d.from false false ne) ∙ unmarked) (λ f. absurd (outside j d isd f)) gv gw
   ]
@@ -186,11 +184,11 @@ module _ {A : Type 0} (Ok : A → Type 0) (Below : A → A → Type 0) (rank : A
       let r : Arrow A = record { from = e.from; to = e.to; flow = flow i } in
       (r, arrow_to flow 0 es i e at ∙ ap (λ k. Some (let r : Arrow A = record { from = e.from; to = e.to; flow = flow k } in r)) (let z : 0 + i ≡ i = omega arith in z), refl, refl, refl)
 
-  pub record Sent (xs xs2 : List A) (queue queue2 : List ℕ) (marks2 : List Bool) (block : ℕ) (sent : List ℕ) : Type 0 where
-    pub going : IsGoing Ok Below P xs2 queue2 marks2 block sent
-    pub climbs : length queue2 + 2 * sum_by rank xs ≤ length queue + 2 * sum_by rank xs2
+  pub record Sent (xs xs2 : List A) (marks marks2 : List Bool) (block : ℕ) (sent : List ℕ) : Type 0 where
+    pub going : IsGoing Ok Below P xs2 marks2 block sent
+    pub climbs : waiting marks2 + 2 * sum_by rank xs ≤ waiting marks + 2 * sum_by rank xs2
 
-  module _ (xs : List A) (queue : List ℕ) (marks : List Bool) (block : ℕ) (sent : List ℕ) (g : IsGoing Ok Below P xs queue marks block sent) (i : ℕ) (e : Edge) (at : slice_get es i ≡ Some e) (from_is : e.from ≡ block) (x y y2 : A) (at_from : slice_get xs block ≡ Some x) (at_to : slice_get xs e.to ≡ Some y) (is : y2 ≡ join y (flow i x)) where
+  module _ (xs : List A) (marks : List Bool) (block : ℕ) (sent : List ℕ) (g : IsGoing Ok Below P xs marks block sent) (i : ℕ) (e : Edge) (at : slice_get es i ≡ Some e) (from_is : e.from ≡ block) (x y y2 : A) (at_from : slice_get xs block ≡ Some x) (at_to : slice_get xs e.to ≡ Some y) (is : y2 ≡ join y (flow i x)) where
     a : Arrow A
     a = (arrow_at i e at).0
 
@@ -215,31 +213,32 @@ module _ {A : Type 0} (Ok : A → Type 0) (Below : A → A → Type 0) (rank : A
     sum_next : sum_by rank (set xs e.to y2) + rank y ≡ sum_by rank xs + rank y2
     sum_next = subst (λ v. sum_by rank (set xs e.to y2) + rank v ≡ sum_by rank xs + rank y2) (get_or_from_slice_get xs e.to y y at_to) (sum_by-set rank xs e.to y2 y (slice_get_within xs e.to y at_to))
 
-    pub sent_kept : (queue2 : List ℕ) (marks2 : List Bool) → y2 ≡ y → marks2 ≡ marks → IsWork (length marks) queue2 marks2 → length queue2 ≤ length queue + 0 → Sent xs (set xs e.to y2) queue queue2 marks2 block (sent ++ i ∷ [])
-    sent_kept queue2 marks2 same m w q = record {
+    pub sent_kept : y2 ≡ y → Sent xs (set xs e.to y2) marks marks block (sent ++ i ∷ [])
+    sent_kept same = record {
       going = record {
         under = sent_under;
-        work = subst (λ n. IsWork n queue2 marks2) g.work.long w;
-        sent_on = subst (λ zs. IsSent P zs marks2 block (sent ++ i ∷ [])) (sym (ap (set xs e.to) same ∙ set_same xs e.to y at_to)) (subst (λ ms. IsSent P xs ms block (sent ++ i ∷ [])) (sym m) (sent_still Ok Below rank h P laws xs g.under i ((arrow_at i e at).0) x y a_is x_at y_at marks block sent g.sent_on (y2_is ∙ same)));
+        marked = g.marked;
+        sent_on = subst (λ zs. IsSent P zs marks block (sent ++ i ∷ [])) (sym (ap (set xs e.to) same ∙ set_same xs e.to y at_to)) (sent_still Ok Below rank h P laws xs g.under i ((arrow_at i e at).0) x y a_is x_at y_at marks block sent g.sent_on (y2_is ∙ same));
       };
       climbs = (let s = sum_next in let r : rank y2 ≡ rank y = ap rank same in omega arith);
     }
 
-    pub sent_new : (queue2 : List ℕ) (marks2 : List Bool) → y2 ≢ y → marks2 ≡ set marks e.to true → IsWork (length marks) queue2 marks2 → length queue2 ≤ length queue + 1 → Sent xs (set xs e.to y2) queue queue2 marks2 block (sent ++ i ∷ [])
-    sent_new queue2 marks2 ne m w q = record {
+    pub sent_new : y2 ≢ y → Sent xs (set xs e.to y2) marks (set marks e.to true) block (sent ++ i ∷ [])
+    sent_new ne = record {
       going = record {
         under = sent_under;
-        work = subst (λ n. IsWork n queue2 marks2) g.work.long w;
-        sent_on = subst (λ ms. IsSent P (set xs e.to y2) ms block (sent ++ i ∷ [])) (sym (m ∙ ap (λ t. set marks t true) (sym ((arrow_at i e at).3)))) (subst (λ zs. IsSent P zs (set marks ((arrow_at i e at).0).to true) block (sent ++ i ∷ [])) next_is (sent_changed Ok Below rank h P laws xs g.under i ((arrow_at i e at).0) x y a_is x_at y_at marks block sent g.work.long g.sent_on));
+        marked = length-set marks e.to true ∙ g.marked;
+        sent_on = subst (λ t. IsSent P (set xs e.to y2) (set marks t true) block (sent ++ i ∷ [])) ((arrow_at i e at).3) (subst (λ zs. IsSent P zs (set marks ((arrow_at i e at).0).to true) block (sent ++ i ∷ [])) next_is (sent_changed Ok Below rank h P laws xs g.under i ((arrow_at i e at).0) x y a_is x_at y_at marks block sent g.marked g.sent_on));
       };
       climbs = (let s = sum_next in
+          let w = one_more marks e.to in
           let r : rank y + 1 ≤ rank y2 = subst (λ z. rank y + 1 ≤ rank z) y2_is (joined_climbs Ok Below rank h P laws xs g.under i ((arrow_at i e at).0) x y a_is x_at y_at (λ s. ne (sym y2_is ∙ s))) in omega arith);
     }
 
-    pub sent_if : (queue2 : List ℕ) (marks2 : List Bool) (changed : Bool) → (IsTrue changed ↔ (y2 ≢ y)) → marks2 ≡ (if changed then set marks e.to true else marks) → IsWork (length marks) queue2 marks2 → length queue2 ≤ length queue + (if changed then 1 else 0) → Sent xs (set xs e.to y2) queue queue2 marks2 block (sent ++ i ∷ [])
-    sent_if queue2 marks2 true tells m w q = sent_new queue2 marks2 (tells.0 refl) m w q
-    sent_if queue2 marks2 false tells m w q = elim (same_or_not (rank y2) (rank y)) [
-      | inl s ↦ sent_kept queue2 marks2 (sym (laws.rank_same y y2 low (sym s))) m w q
+    pub sent_if : (changed : Bool) → (IsTrue changed ↔ (y2 ≢ y)) → Sent xs (set xs e.to y2) marks (if changed then set marks e.to true else marks) block (sent ++ i ∷ [])
+    sent_if true tells = sent_new (tells.0 refl)
+    sent_if false tells = elim (same_or_not (rank y2) (rank y)) [
+      | inl s ↦ sent_kept (sym (laws.rank_same y y2 low (sym s)))
       | inr ne ↦ absurd (false≢true (tells.1 (λ s. ne (ap rank s))))
     ]
       where
@@ -250,29 +249,29 @@ module _ {A : Type 0} (Ok : A → Type 0) (Below : A → A → Type 0) (rank : A
         same_or_not a b = cases_eq a b
 
   -- ---- the loop over the blocks that wait
-  pub begins_going : (xs : List A) (queue : List ℕ) (marks : List Bool) → All (λ e. (e.from < n) × (e.to < n)) es → xs ≡ starts_to start 0 n → IsWork n queue marks → marks ≡ replicate n true → IsGoing Ok Below P xs queue marks n []
-  begins_going xs queue marks all e w m = record {
+  pub begins_going : (xs : List A) (marks : List Bool) → All (λ e. (e.from < n) × (e.to < n)) es → xs ≡ starts_to start 0 n → marks ≡ replicate n true → IsGoing Ok Below P xs marks n []
+  begins_going xs marks all e m = record {
     under = subst (IsUnder Ok Below P) (sym (e ∙ starts_are)) (starts_under Ok Below rank h P laws);
-    work = subst (λ k. IsWork k queue marks) (sym starts_count) w;
+    marked = ap length m ∙ length-replicate n true ∙ sym starts_count;
     sent_on = λ i a x y is unmarked listed gx gy. absurd (both_ways (get_or marks a.from false) unmarked (ap (λ ms. get_or ms a.from false) m ∙ get_or-replicate n a.from true false (low_from all i a is)));
   }
 
-  pub turn_going : (xs : List A) (queue rest : List ℕ) (marks marks2 : List Bool) (block : ℕ) → All (λ e. (e.from < n) × (e.to < n)) es → IsGoing Ok Below P xs queue marks n [] → block < length marks → marks2 ≡ set marks block false → IsWork (length marks) rest marks2 → IsGoing Ok Below P xs rest marks2 block []
-  turn_going xs queue rest marks marks2 block all g low m w = record {
+  pub turn_going : (xs : List A) (marks marks2 : List Bool) (block : ℕ) → All (λ e. (e.from < n) × (e.to < n)) es → IsGoing Ok Below P xs marks n [] → marks2 ≡ set marks block false → IsGoing Ok Below P xs marks2 block []
+  turn_going xs marks marks2 block all g m = record {
     under = g.under;
-    work = subst (λ k. IsWork k rest marks2) g.work.long w;
-    sent_on = subst (λ ms. IsSent P xs ms block []) (sym m) (turn_begins Ok Below rank h P laws xs queue marks n block low (from_inside all) g.sent_on);
+    marked = ap length m ∙ length-set marks block false ∙ g.marked;
+    sent_on = subst (λ ms. IsSent P xs ms block []) (sym m) (turn_begins Ok Below rank h P laws xs marks n block (from_inside all) g.sent_on);
   }
 
-  pub turn_over : (xs : List A) (queue : List ℕ) (marks : List Bool) (block : ℕ) (sent : List ℕ) (lists : List (List ℕ)) → IsLeaving es n lists → slice_get lists block ≡ Some sent → IsGoing Ok Below P xs queue marks block sent → IsGoing Ok Below P xs queue marks n []
-  turn_over xs queue marks block sent lists v at g = record {
+  pub turn_over : (xs : List A) (marks : List Bool) (block : ℕ) (sent : List ℕ) (lists : List (List ℕ)) → IsLeaving es n lists → slice_get lists block ≡ Some sent → IsGoing Ok Below P xs marks block sent → IsGoing Ok Below P xs marks n []
+  turn_over xs marks block sent lists v at g = record {
     under = g.under;
-    work = g.work;
+    marked = g.marked;
     sent_on = turn_ends Ok Below rank h P laws xs marks n block sent (has_all lists v block sent at) g.sent_on;
   }
 
-  pub over : (xs : List A) (queue : List ℕ) (marks : List Bool) → All (λ e. (e.from < n) × (e.to < n)) es → IsGoing Ok Below P xs queue marks n [] → queue ≡ [] → Least Ok Below P xs
-  over xs queue marks all g e = ends_least Ok Below rank h P laws xs marks n (subst (λ q. IsGoing Ok Below P xs q marks n []) e g) (from_inside all)
+  pub over : (xs : List A) (marks : List Bool) → All (λ e. (e.from < n) × (e.to < n)) es → IsGoing Ok Below P xs marks n [] → SleepAll marks → Least Ok Below P xs
+  over xs marks all g asleep = ends_least Ok Below rank h P laws xs marks n asleep g (from_inside all)
 
   -- no list of facts is higher than this
   pub low_total : (xs : List A) → IsUnder Ok Below P xs → sum_by rank xs ≤ n * h

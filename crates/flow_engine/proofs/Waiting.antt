@@ -1,52 +1,19 @@
--- The blocks that wait, as one is taken out and as one is added.
-use Rattle.std.proofs.Common.{◌≡◌, inl, inr, sym, ap, ◌∙◌, subst, ℕ, ◌<◌, Bool, true, false, List, [], ◌∷◌, ◌++◌, length, get_or, set, arith}
-use Rattle.std.specs.List.{Contains}
-use Rattle.std.proofs.lemmas.Bool.{cases_eq, both_ways}
-use Rattle.std.proofs.lemmas.Grind.{get_or_default_zero}
-use Rattle.std.proofs.lemmas.List.{length-set, get_or-set_same, get_or-set_other}
-use Rattle.std.proofs.lemmas.List.Elements.{Contains-get_or, Contains-push, Contains-push_cases, Contains-append_left, Contains-append_right, Contains-append_cases}
-use Rattle.flow_engine.specs.Solving.{IsWork}
+-- How many blocks wait, as one is taken out and as one is added.
+use Rattle.std.proofs.Common.{◌≡◌, ℕ, zero, suc, ◌+◌, ◌≤◌, Bool, true, false, List, [], ◌∷◌, set, arith}
+use Rattle.std.proofs.lemmas.List.Sums.{sum_by-cons}
+use Rattle.flow_engine.specs.Solving.{one_if, Waits, waiting}
 
-waits_within : (n : ℕ) (queue : List ℕ) (marks : List Bool) → IsWork n queue marks → (b : ℕ) → Contains queue b → b < n
-waits_within n queue marks w b c = omega (arith, w.within c.0 c.1, get_or_default_zero queue c.0 b c.1, c.2)
+one_low : (mark : Bool) → one_if mark ≤ 1
+one_low true = omega arith
+one_low false = omega arith
 
-pub last_within : (n block : ℕ) (queue rest : List ℕ) (marks : List Bool) → queue ≡ rest ++ block ∷ [] → IsWork n queue marks → block < n
-last_within n block queue rest marks e w = waits_within n queue marks w block (subst (λ xs. Contains xs block) (sym e) (Contains-push rest block))
+pub one_more : (marks : List Bool) (b : ℕ) → waiting (set marks b true) ≤ waiting marks + 1
+one_more [] b = omega arith
+one_more (m ∷ marks) zero = omega (arith, sum_by-cons one_if m marks, sum_by-cons one_if true marks)
+one_more (m ∷ marks) (suc b) = omega (arith, sum_by-cons one_if m marks, sum_by-cons one_if m (set marks b true), one_more marks b)
 
-pub without_last : (n block : ℕ) (queue rest : List ℕ) (marks : List Bool) → queue ≡ rest ++ block ∷ [] → IsWork n queue marks → IsWork n rest (set marks block false)
-without_last n block queue rest marks e w = record {
-  long = length-set marks block false ∙ w.long;
-  within = λ k l. waits_within n queue marks w (get_or rest k 0) (subst (λ xs. Contains xs (get_or rest k 0)) (sym e) (Contains-append_left rest (block ∷ []) (get_or rest k 0) (Contains-get_or rest k 0 l)));
-  listed = λ b t. elim (cases_eq b block) [
-    | inl s ↦ absurd (both_ways (get_or (set marks block false) b false) (ap (λ k. get_or (set marks block false) k false) s ∙ get_or-set_same marks block false false in_marks) t)
-    | inr ne ↦ elim (Contains-push_cases rest block b (subst (λ xs. Contains xs b) e (w.listed b (sym (get_or-set_other marks block b false false ne) ∙ t)))) [
-      | inl c ↦ c
-      | inr same ↦ absurd (ne (sym same))
-    ]
-  ];
-}
-  where
-    in_marks : block < length marks
-    in_marks = omega (arith, w.long, last_within n block queue rest marks e w)
-
-pub with_one : (n block : ℕ) (later sweep : List ℕ) (marks : List Bool) → block < n → IsWork n (later ++ sweep) marks → IsWork n ((later ++ block ∷ []) ++ sweep) (set marks block true)
-with_one n block later sweep marks low w = record {
-  long = length-set marks block true ∙ w.long;
-  within = λ k l. within (get_or ((later ++ block ∷ []) ++ sweep) k 0) (Contains-get_or ((later ++ block ∷ []) ++ sweep) k 0 l);
-  listed = λ b t. elim (cases_eq b block) [
-    | inl s ↦ Contains-append_left (later ++ block ∷ []) sweep b (subst (Contains (later ++ block ∷ [])) (sym s) (Contains-push later block))
-    | inr ne ↦ elim (Contains-append_cases later sweep b (w.listed b (sym (get_or-set_other marks block b true false ne) ∙ t))) [
-      | inl c ↦ Contains-append_left (later ++ block ∷ []) sweep b (Contains-append_left later (block ∷ []) b c)
-      | inr c ↦ Contains-append_right (later ++ block ∷ []) sweep b c
-    ]
-  ];
-}
-  where
-    within : (b : ℕ) → Contains ((later ++ block ∷ []) ++ sweep) b → b < n
-    within b c = elim (Contains-append_cases (later ++ block ∷ []) sweep b c) [
-      | inl c ↦ elim (Contains-push_cases later block b c) [
-        | inl c ↦ waits_within n (later ++ sweep) marks w b (Contains-append_left later sweep b c)
-        | inr same ↦ omega (arith, low, same)
-      ]
-      | inr c ↦ waits_within n (later ++ sweep) marks w b (Contains-append_right later sweep b c)
-    ]
+pub one_less : (marks : List Bool) (b : ℕ) → Waits marks b → waiting (set marks b false) + 1 ≡ waiting marks
+one_less [] b w = absurd (let l = w.0 in omega arith)
+one_less (true ∷ marks) zero w = omega (arith, sum_by-cons one_if true marks, sum_by-cons one_if false marks)
+one_less (false ∷ marks) zero w = absurd (let e = w.1 in grind arith)
+one_less (m ∷ marks) (suc b) w = omega (arith, sum_by-cons one_if m marks, sum_by-cons one_if m (set marks b false), one_less marks b ((let l = w.0 in omega arith), w.1))

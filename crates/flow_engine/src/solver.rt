@@ -53,7 +53,7 @@ fn send_all<A: Analysis>(
     alloc: Global,
     analysis: &A,
     edges: &[Edge],
-    block: u32,
+    block: usize,
     leaving: &[usize],
     facts: &mut Vec<A::Fact>,
     work: &mut Worklist,
@@ -61,16 +61,16 @@ fn send_all<A: Analysis>(
     requires inside { All (λ e. (e.from < length facts.old.items) × (e.to < length facts.old.items)) edges.now }
     requires within { block < length facts.old.items }
     requires leaves { (i : ℕ) → Contains leaving.now i → (e : Edge) × (slice_get edges.now i ≡ Some e) × (e.from ≡ block) }
-    requires going { IsGoing (A.is_fact analysis.now) (A.below analysis.now) (problem (A.joined analysis.now) (A.begun analysis.now) (A.sent analysis.now) (length facts.old.items) edges.now) facts.old.items (waiting work.old) work.old.waits.items block [] }
+    requires going { IsGoing (A.is_fact analysis.now) (A.below analysis.now) (problem (A.joined analysis.now) (A.begun analysis.now) (A.sent analysis.now) (length facts.old.items) edges.now) facts.old.items work.old.waits.items block [] }
     ensures same { length facts.new.items ≡ length facts.old.items }
-    ensures going { OnOk result (IsGoing (A.is_fact analysis.now) (A.below analysis.now) (problem (A.joined analysis.now) (A.begun analysis.now) (A.sent analysis.now) (length facts.old.items) edges.now) facts.new.items (waiting work.new) work.new.waits.items block leaving.now) }
-    ensures climbs { OnOk result (length (waiting work.new) + 2 * sum_by (A.rank analysis.now) facts.old.items ≤ length (waiting work.old) + 2 * sum_by (A.rank analysis.now) facts.new.items) }
+    ensures going { OnOk result (IsGoing (A.is_fact analysis.now) (A.below analysis.now) (problem (A.joined analysis.now) (A.begun analysis.now) (A.sent analysis.now) (length facts.old.items) edges.now) facts.new.items work.new.waits.items block leaving.now) }
+    ensures climbs { OnOk result (waiting work.new.waits.items + 2 * sum_by (A.rank analysis.now) facts.old.items ≤ waiting work.old.waits.items + 2 * sum_by (A.rank analysis.now) facts.new.items) }
 {
     for edge in leaving {
         let to = edges[*edge].to;
-        let flown = analysis.flow(alloc, *edge, &facts[block as usize])?;
+        let flown = analysis.flow(alloc, *edge, &facts[block])?;
         let changed = analysis.join(alloc, &mut facts[to as usize], &flown)?;
-        work.add_if(changed, to)?;
+        work.add_if(changed, to);
     }
     Ok(())
 }
@@ -90,7 +90,7 @@ pub fn solve<A: Analysis>(
     let mut facts = starts(alloc, analysis, blocks)?;
     let mut work = Worklist::all(alloc, blocks)?;
     while let Some(block) = work.next() {
-        let edges_out = leaving[block as usize].as_slice();
+        let edges_out = leaving[block].as_slice();
         send_all(
             alloc, analysis, edges, block, edges_out, &mut facts, &mut work,
         )?;

@@ -1,5 +1,5 @@
 -- Parsing arguments is the grammar's rule, both ways.
-use Rattle.std.proofs.Common.{◌≡◌, ℕ, false, List, [], ◌∷◌, Ok, Option, Some, None, refl, ap, subst, arith}
+use Rattle.std.proofs.Common.{◌≡◌, ℕ, false, List, [], ◌∷◌, Ok, None, refl, ap, subst, arith}
 use Rattle.mir_text.specs.declared.symbol.Symbol.{Symbol}
 use Rattle.mir_text.specs.declared.symbol.Symbol.TheVariants as s
 use Rattle.mir_text.specs.Grammar.{Items, items_put, AllItems}
@@ -11,7 +11,7 @@ use Rattle.mir_tree.specs.declared.Lined.{Lined}
 use Rattle.mir_tree.specs.declared.item.ArgText.{ArgText}
 use Rattle.mir_parse.specs.Promises.{starts_colons}
 use Rattle.mir_parse.specs.Lists.{closing_paren}
-use Rattle.mir_parse.proofs.Laws.{in_steps, ok_same}
+use Rattle.mir_parse.proofs.Laws.{in_steps, ok_same, paren_closes}
 use Rattle.mir_parse.proofs.TypesRead.{type_grows}
 use Rattle.mir_items.specs.Lines.{line_of}
 use Rattle.mir_items.specs.Decls.{with_line, arg, args}
@@ -36,32 +36,13 @@ arg-sound lines ts x rest h =
     let P : Lined ArgText × List Symbol → Type 0 = λ y. IsReadAt arg_put (arg_here lines) ArgGood ts y.0 y.1 in
     subst P (ok_same _ _ same_h) (record { rule = t.rule; reads = ap (with_line (line_of lines ts)) t.reads; yields = t.yields; good = t.good }))
 
-closes_paren : (rest : List Symbol) → closing_paren (s.Close ∷ rest) ≡ Some rest
-unfolding closing_paren
-closes_paren rest = refl
-
-some_same : (a b : List Symbol) → ◌≡◌ {A = Option (List Symbol)} (Some a) (Some b) → a ≡ b
-some_same a b h = cc
-
-closes_paren_only : (ts rest : List Symbol) → closing_paren ts ≡ Some rest → ts ≡ s.Close ∷ rest
-unfolding closing_paren
-closes_paren_only [] rest h = absurd cc
-closes_paren_only (s.Close ∷ ts) rest h = ap (λ l. s.Close ∷ l) (some_same ts rest h)
-closes_paren_only (x ∷ ts) rest h = absurd cc
-
-comma_no_paren : (rest : List Symbol) → closing_paren (s.Comma ∷ rest) ≡ None
-unfolding closing_paren
-comma_no_paren rest = refl
-
 local_no_paren : (n : ℕ) (rest : List Symbol) → closing_paren (s.Local n ∷ rest) ≡ None
 unfolding closing_paren
 local_no_paren n rest = refl
 
 pub arg_laws : (lines : List ℕ) → ItemLawsAt closing_paren (arg lines) arg_put (arg_here lines) ArgGood s.Close
 arg_laws lines = record {
-  closes = closes_paren;
-  closes_only = closes_paren_only;
-  no_comma = comma_no_paren;
+  closes = paren_closes;
   no_item = (λ a rest. local_no_paren a.0 (s.Colon ∷ type_put a.1 rest));
   before_comma = (λ a rest good. arg-complete lines a (s.Comma ∷ rest) good refl);
   before_sign = (λ a rest good. arg-complete lines a (s.Close ∷ rest) good refl);

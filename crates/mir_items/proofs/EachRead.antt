@@ -4,7 +4,7 @@ use Rattle.mir_text.specs.declared.symbol.Symbol.{Symbol}
 use Rattle.mir_text.specs.Grammar.{Put, each_put, AllOf}
 use Rattle.mir_parse.specs.declared.fault.SyntaxFault.{SyntaxFault}
 use Rattle.mir_parse.specs.Parser.{Found, Parse, and_then}
-use Rattle.mir_parse.proofs.Laws.{in_steps, ok_same, on}
+use Rattle.mir_parse.proofs.Laws.{in_steps, ok_same, on, Grows}
 use Rattle.mir_items.specs.Each.{each_from, each_at}
 
 -- a rule stands at the front of symbols, and its tree there was found
@@ -32,7 +32,7 @@ pub record EachLaws {R A : Type 0} (most : ℕ) (begins : List Symbol → Bool) 
   pub begin : (r : R) (rest : List Symbol) → begins (put r rest) ≡ true
   pub complete : (r : R) (rest : List Symbol) → Good r → length (put r rest) ≤ most → item (put r rest) ≡ Ok (of r (put r rest), rest)
   pub sound : (ts : List Symbol) (x : A) (rest : List Symbol) → length ts ≤ most → item ts ≡ Ok (x, rest) → IsReadAt put of Good ts x rest
-  pub grows : (r : R) (rest : List Symbol) → length rest < length (put r rest)
+  pub grows : Grows put
 
 module _ {R A : Type 0} (most : ℕ) (begins : List Symbol → Bool) (item : Parse A) (put : Put R) (of : R → List Symbol → A) (Good : R → Type 0) (laws : EachLaws most begins item put of Good) where
   few : (rs : List R) (rest : List Symbol) → length rs ≤ length (each_put put rs rest)

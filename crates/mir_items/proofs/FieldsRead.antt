@@ -1,5 +1,5 @@
 -- Parsing fields and variants is the grammar's rule, both ways.
-use Rattle.std.proofs.Common.{◌≡◌, ℕ, false, ◌<◌, ◌≤◌, List, [], ◌∷◌, length, Ok, Option, Some, None, refl, ap, subst, ◌∙◌, arith}
+use Rattle.std.proofs.Common.{◌≡◌, ℕ, false, ◌<◌, ◌≤◌, List, [], ◌∷◌, length, Ok, None, refl, ap, subst, ◌∙◌, arith}
 use Rattle.mir_text.specs.declared.symbol.Symbol.{Symbol}
 use Rattle.mir_text.specs.declared.symbol.Symbol.TheVariants as s
 use Rattle.mir_text.specs.Grammar as g
@@ -20,7 +20,7 @@ use Rattle.mir_tree.specs.Rules.{field_rule, fields_rule, variant_rule}
 use Rattle.mir_parse.specs.Promises.{starts_colons}
 use Rattle.mir_parse.specs.Signs.{name, colon, semicolon}
 use Rattle.mir_parse.specs.Lists.{closing_brace}
-use Rattle.mir_parse.proofs.Laws.{in_steps, ok_same, IsRead, ItemLaws, items_text, items-complete, items-sound, items-back, name-sound, colon-sound, semicolon-sound}
+use Rattle.mir_parse.proofs.Laws.{in_steps, ok_same, IsRead, brace_closes, ItemLaws, items_text, items-complete, items-sound, items-back, name-sound, colon-sound, semicolon-sound}
 use Rattle.mir_parse.proofs.TypesRead.{types_text, type_grows, types_grow, type-complete, type-sound, type_rule-back, types-complete, types-sound, types_rule-back}
 use Rattle.mir_items.specs.Fields.{field, fields, struct_end, variant_end, variant, variants}
 
@@ -55,32 +55,13 @@ field-sound ts x rest h =
       good = t.good;
     }))))
 
-closes_brace : (rest : List Symbol) → closing_brace (s.CloseBrace ∷ rest) ≡ Some rest
-unfolding closing_brace
-closes_brace rest = refl
-
-closes_brace_only : (ts rest : List Symbol) → closing_brace ts ≡ Some rest → ts ≡ s.CloseBrace ∷ rest
-unfolding closing_brace
-closes_brace_only [] rest h = absurd cc
-closes_brace_only (s.CloseBrace ∷ ts) rest h = ap (λ l. s.CloseBrace ∷ l) (some_same ts rest h)
-  where
-    some_same : (a b : List Symbol) → ◌≡◌ {A = Option (List Symbol)} (Some a) (Some b) → a ≡ b
-    some_same a b h = cc
-closes_brace_only (x ∷ ts) rest h = absurd cc
-
-comma_no_brace : (rest : List Symbol) → closing_brace (s.Comma ∷ rest) ≡ None
-unfolding closing_brace
-comma_no_brace rest = refl
-
 name_no_brace : (n : ℕ) (rest : List Symbol) → closing_brace (s.Name n ∷ rest) ≡ None
 unfolding closing_brace
 name_no_brace n rest = refl
 
 pub field_laws : ItemLaws closing_brace field field_decl_put field_text FieldGood s.CloseBrace
 field_laws = record {
-  closes = closes_brace;
-  closes_only = closes_brace_only;
-  no_comma = comma_no_brace;
+  closes = brace_closes;
   no_item = (λ r rest. name_no_brace r.0 (s.Colon ∷ type_put r.1 rest));
   before_comma = (λ r rest good. field-complete r (s.Comma ∷ rest) good refl);
   before_sign = (λ r rest good. field-complete r (s.CloseBrace ∷ rest) good refl);
@@ -230,9 +211,7 @@ fields_grow (m.labelled fs) rest = omega (arith, list_grows fs rest)
 
 pub variant_laws : ItemLaws closing_brace variant variant_decl_put variant_text VariantGood s.CloseBrace
 variant_laws = record {
-  closes = closes_brace;
-  closes_only = closes_brace_only;
-  no_comma = comma_no_brace;
+  closes = brace_closes;
   no_item = (λ r rest. name_no_brace r.0 (fields_put r.1 rest));
   before_comma = (λ r rest good. variant-complete r (s.Comma ∷ rest) good (before_comma rest));
   before_sign = (λ r rest good. variant-complete r (s.CloseBrace ∷ rest) good (before_brace rest));

@@ -8,14 +8,13 @@ use Rattle.mir_text.specs.GrammarItems.{ArgRule, arg_put, AttrRule, attr_put, dr
 use Rattle.mir_text.specs.Nesting.{TypeGood, ArgGood, DeclsGood}
 use Rattle.mir_tree.specs.declared.item.FnText.{FnText}
 use Rattle.mir_tree.specs.Types.{path_text, type_text}
-use Rattle.mir_parse.specs.Signs.{open_brace, arrow}
-use Rattle.mir_parse.proofs.TypesRead.{type-complete}
+use Rattle.mir_parse.specs.Signs.{open_brace}
 use Rattle.mir_items.specs.Attrs.{attr, drop_at}
 use Rattle.mir_items.specs.Items.{fn_word, fn_path, result_open, head, fn_head, fn_front}
 use Rattle.mir_items.proofs.AttrsRead.{attr_text, NoAttr, NoDrop, attr-complete, drop-complete}
 use Rattle.mir_items.proofs.ArgsRead.{args_text, args-complete}
 use Rattle.mir_items.proofs.DeclsRead.{lets_text, EndsDecls, decls_at-complete}
-use Rattle.mir_items.proofs.OthersRead.{path_open-complete}
+use Rattle.mir_items.proofs.OthersRead.{path_open-complete, result_type-complete}
 
 -- the parts of a function up to its blocks
 pub record HeadRule : Type 0 where
@@ -45,8 +44,8 @@ head_text lines f rest =
     head (attr_text f.attr) f.is_drop (path_text f.path) (args_text lines f.args (body_put f rest)) (type_text f.result) (lets_text lines f.locals (decls_put f.locals rest))
 
 result_open-complete : (u : TypeRule) (rest : List Symbol) → TypeGood u → result_open (result_put u rest) ≡ Ok (type_text u, rest)
-unfolding result_open arrow open_brace
-result_open-complete u rest good = rw (type-complete u 65 (s.OpenBrace ∷ rest) good refl) refl
+unfolding result_open open_brace
+result_open-complete u rest good = rw (result_type-complete u (s.OpenBrace ∷ rest) good refl) refl
 
 fn_path-complete : (p : PathRule) (rest : List Symbol) → fn_path (s.Fn ∷ path_put p (s.Open ∷ rest)) ≡ Ok (path_text p, rest)
 unfolding fn_path fn_word

@@ -13,16 +13,16 @@ use Rattle.mir_tree.specs.declared.ty.PathText.{PathText}
 use Rattle.mir_tree.specs.declared.ty.TypeText.{TypeText}
 use Rattle.mir_tree.specs.declared.item.FnText.{FnText}
 use Rattle.mir_tree.specs.Types.{path_text, type_text}
-use Rattle.mir_parse.proofs.Laws.{in_steps, ok_same, arrow-sound, open_brace-sound}
+use Rattle.mir_parse.proofs.Laws.{in_steps, ok_same, open_brace-sound}
 use Rattle.mir_parse.proofs.PathsRead.{path_grows}
-use Rattle.mir_parse.proofs.TypesRead.{type_grows, type-sound}
+use Rattle.mir_parse.proofs.TypesRead.{type_grows}
 use Rattle.mir_items.specs.Attrs.{drop_at}
 use Rattle.mir_items.specs.Items.{fn_path, result_open, head, fn_head, fn_front}
 use Rattle.mir_items.proofs.AttrsRead.{attr-sound, drop-sound}
 use Rattle.mir_items.proofs.ArgsRead.{args_text, args-sound}
 use Rattle.mir_items.proofs.DeclsRead.{lets_text}
 use Rattle.mir_items.proofs.DeclsSound.{decls-sound}
-use Rattle.mir_items.proofs.OthersRead.{fn_word-sound, path_open-sound}
+use Rattle.mir_items.proofs.OthersRead.{fn_word-sound, path_open-sound, result_type_put, result_type-sound}
 use Rattle.mir_items.proofs.HeadsRead.{HeadRule, head_put, HeadGood, head_text}
 
 -- a function is its head and its blocks
@@ -53,17 +53,16 @@ record IsResultOpen (ts : List Symbol) (x : TypeText) (rest : List Symbol) : Typ
 result_open-sound : (ts : List Symbol) (x : TypeText) (rest : List Symbol) → result_open ts ≡ Ok (x, rest) → IsResultOpen ts x rest
 unfolding result_open
 result_open-sound ts x rest h =
-    in_steps _ _ (x, rest) h (λ a past is_arrow went.
-    in_steps _ _ (x, rest) went (λ u over typed went2.
-    in_steps _ _ (x, rest) went2 (λ b after opened same_h.
-    let t = type-sound 65 past u over typed in
+    in_steps _ _ (x, rest) h (λ u over typed went.
+    in_steps _ _ (x, rest) went (λ a after opened same_h.
+    let t = result_type-sound ts u over typed in
     let P : TypeText × List Symbol → Type 0 = λ y. IsResultOpen ts y.0 y.1 in
     subst P (ok_same _ _ same_h) (record {
       rule = t.rule;
       reads = t.reads;
-      yields = arrow-sound ts (a, past) is_arrow ∙ ap (λ l. s.Arrow ∷ l) (t.yields ∙ ap (type_put t.rule) (open_brace-sound over (b, after) opened));
+      yields = t.yields ∙ ap (result_type_put t.rule) (open_brace-sound over (a, after) opened);
       good = t.good;
-    }))))
+    })))
 
 args_grow : (xs : Items ArgRule) (rest : List Symbol) → length rest ≤ length (items_put arg_put s.Close xs rest)
 args_grow end rest = omega arith

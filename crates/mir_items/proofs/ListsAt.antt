@@ -1,27 +1,23 @@
 -- Lists with commas are read by the grammar's rule, both ways, where what an item is read as depends on where it stands.
-use Rattle.std.proofs.Common.{◌≡◌, ℕ, zero, suc, ◌<◌, true, false, List, [], ◌∷◌, ◌++◌, length, Ok, Option, Some, None, refl, sym, ap, subst, ◌∙◌, arith, append_assoc, append-nil}
+use Rattle.std.proofs.Common.{◌≡◌, ℕ, zero, suc, ◌<◌, true, false, List, [], ◌∷◌, ◌++◌, length, Ok, Option, Some, None, refl, sym, ap, ◌∙◌, arith, append_assoc, append-nil}
 use Rattle.mir_text.specs.declared.symbol.Symbol.{Symbol}
 use Rattle.mir_text.specs.declared.symbol.Symbol.TheVariants as s
 use Rattle.mir_text.specs.Grammar.{Put, Items, end, last, more, items_put, AllItems}
 use Rattle.mir_tree.specs.declared.Items.{Items as ItemsText}
-use Rattle.mir_parse.specs.declared.list.Turn.{Turn}
-use Rattle.mir_parse.specs.declared.list.Turn.TheVariants as turn
 use Rattle.mir_parse.specs.Parser.{Parse, and_then}
 use Rattle.mir_parse.specs.Signs.{comma}
 use Rattle.mir_parse.specs.Lists.{Closing, after_by, after_item, turn_by, turn_of, goes_on, items_from, items_at}
-use Rattle.mir_parse.proofs.Laws.{in_steps, ok_same, comma-sound, count, ends_in_comma}
+use Rattle.mir_parse.proofs.Laws.{in_steps, ok_same, Grows, Closes, count, ends_in_comma, after-sound}
 use Rattle.mir_items.proofs.EachRead.{IsReadAt}
 
 -- an item's parser reads what its rule puts, and nothing else, and no item begins with the sign that closes the list
 pub record ItemLawsAt {R A : Type 0} (closing : Closing) (item : Parse A) (put : Put R) (of : R → List Symbol → A) (Good : R → Type 0) (sign : Symbol) : Type 0 where
-  pub closes : (rest : List Symbol) → closing (sign ∷ rest) ≡ Some rest
-  pub closes_only : (ts rest : List Symbol) → closing ts ≡ Some rest → ts ≡ sign ∷ rest
-  pub no_comma : (rest : List Symbol) → closing (s.Comma ∷ rest) ≡ None
+  pub closes : Closes closing sign
   pub no_item : (r : R) (rest : List Symbol) → closing (put r rest) ≡ None
   pub before_comma : (r : R) (rest : List Symbol) → Good r → item (put r (s.Comma ∷ rest)) ≡ Ok (of r (put r (s.Comma ∷ rest)), s.Comma ∷ rest)
   pub before_sign : (r : R) (rest : List Symbol) → Good r → item (put r (sign ∷ rest)) ≡ Ok (of r (put r (sign ∷ rest)), sign ∷ rest)
   pub sound : (ts : List Symbol) (x : A) (rest : List Symbol) → item ts ≡ Ok (x, rest) → IsReadAt put of Good ts x rest
-  pub grows : (r : R) (rest : List Symbol) → length rest < length (put r rest)
+  pub grows : Grows put
 
 module _ {R A : Type 0} (put : Put R) (of : R → List Symbol → A) (sign : Symbol) where
   -- what is read of the items of a list before the rest
@@ -44,15 +40,15 @@ module _ {R A : Type 0} (closing : Closing) (item : Parse A) (put : Put R) (of :
       → items_from closing item n before (items_put put sign rs rest) ≡ Ok (list_behind put of sign before rs rest, rest)
   unfolding items_from turn_of after_item comma
   list_from-complete rs zero before rest g h = absurd (omega arith)
-  list_from-complete end (suc n) before rest g h = rw (laws.closes rest, append-nil before) refl
-  list_from-complete (last r) (suc n) before rest g h = rw (laws.no_item r (sign ∷ rest), laws.before_sign r rest g, laws.closes rest) refl
+  list_from-complete end (suc n) before rest g h = rw (laws.closes.here rest, append-nil before) refl
+  list_from-complete (last r) (suc n) before rest g h = rw (laws.no_item r (sign ∷ rest), laws.before_sign r rest g, laws.closes.here rest) refl
   list_from-complete (more r rs) (suc n) before rest g h =
       let after = s.Comma ∷ items_put put sign rs rest in
       let x = of r (put r after) in
       rw (
         laws.no_item r after,
         laws.before_comma r (items_put put sign rs rest) g.0,
-        laws.no_comma (items_put put sign rs rest),
+        laws.closes.no_comma (items_put put sign rs rest),
         list_from-complete rs n (before ++ x ∷ []) rest g.1 (omega arith),
         append_assoc before (x ∷ []) (items_read put of sign rs rest),
       ) refl
@@ -66,14 +62,6 @@ module _ {R A : Type 0} (closing : Closing) (item : Parse A) (put : Put R) (of :
     pub reads : list_behind put of sign before rule rest ≡ us
     pub yields : ts ≡ items_put put sign rule rest
     pub good : AllItems Good rule
-
-  after-sound : {Q : Type 0} (o : Option (List Symbol)) (ts : List Symbol) (t : Turn) (rest : List Symbol) → closing ts ≡ o → after_by o ts ≡ Ok (t, rest)
-      → (closing ts ≡ Some rest → t ≡ turn.Ends false → Q) → (ts ≡ s.Comma ∷ rest → t ≡ turn.More → Q) → Q
-  after-sound (Some past) ts t rest e h close_k comma_k = let same = ok_same _ _ h in close_k (e ∙ ap (λ q. Some q.1) same) (sym (ap (λ q. q.0) same))
-  after-sound None ts t rest e h close_k comma_k =
-      in_steps _ _ (t, rest) h (λ nothing past is_comma went.
-      let same = ok_same _ _ went in
-      comma_k (comma-sound ts (nothing, past) is_comma ∙ ap (λ q. s.Comma ∷ q.1) same) (sym (ap (λ q. q.0) same)))
 
   last-item : (ts past rest : List Symbol) (before : List A) (us : ItemsText A) (x : A) → IsReadAt put of Good ts x past → past ≡ sign ∷ rest
       → ◌≡◌ {A = ItemsText A} (record { items = before ++ x ∷ []; trailing = false }) us → IsList ts before us rest
@@ -107,16 +95,16 @@ module _ {R A : Type 0} (closing : Closing) (item : Parse A) (put : Put R) (of :
   list-first n more_sound ts before us rest (Some past) e h =
       let same = ok_same _ _ h in
       let f : List A → ItemsText A = λ ys. record { items = ys; trailing = true } in
-      record { rule = end; reads = ap f (append-nil before) ∙ ap (λ q. q.0) same; yields = laws.closes_only ts past e ∙ ap (λ q. sign ∷ q.1) same; good = tt }
+      record { rule = end; reads = ap f (append-nil before) ∙ ap (λ q. q.0) same; yields = laws.closes.only ts past e ∙ ap (λ q. sign ∷ q.1) same; good = tt }
   list-first n more_sound ts before us rest None e h =
       in_steps _ _ (us, rest) h (λ q after found went.
       in_steps _ _ (q, after) found (λ x past first turned.
       in_steps _ _ (q, after) turned (λ t past2 is_after same.
       let e2 = ok_same _ _ same in
-      let went2 = subst (λ (y : (Turn × List A) × List Symbol). goes_on (items_from closing item n) y.0 y.1 ≡ Ok (us, rest)) (sym e2) went in
-      after-sound (closing past) past t past2 refl is_after
+      let went2 = ap (λ y. goes_on (items_from closing item n) y.0 y.1) e2 ∙ went in
+      after-sound closing (closing past) past t past2 refl is_after
       (λ closed is. let e3 = ok_same _ _ (ap (λ c. goes_on (items_from closing item n) (c, before ++ x ∷ []) past2) (sym is) ∙ went2) in
-      last-item ts past rest before us x (laws.sound ts x past first) (laws.closes_only past past2 closed ∙ ap (λ q. sign ∷ q.1) e3) (ap (λ q. q.0) e3))
+      last-item ts past rest before us x (laws.sound ts x past first) (laws.closes.only past past2 closed ∙ ap (λ q. sign ∷ q.1) e3) (ap (λ q. q.0) e3))
       (λ comma_is is. more-items ts past past2 rest before us x (laws.sound ts x past first) comma_is
       (more_sound past2 (before ++ x ∷ []) us rest (ap (λ c. goes_on (items_from closing item n) (c, before ++ x ∷ []) past2) (sym is) ∙ went2))))))
 

@@ -2,7 +2,7 @@
 use Rattle.std.proofs.Common.{◌≡◌, false, List, [], ◌∷◌, Ok, refl, ap, subst, ◌∙◌}
 use Rattle.mir_text.specs.declared.symbol.Symbol.{Symbol}
 use Rattle.mir_text.specs.declared.symbol.Symbol.TheVariants as s
-use Rattle.mir_text.specs.Grammar.{Items, items_put, AllItems}
+use Rattle.mir_text.specs.Grammar.{Put, Items, items_put, AllItems}
 use Rattle.mir_text.specs.GrammarTypes.{PathRule, path_put, TypeRule, type_put, TypesRule, types_put}
 use Rattle.mir_text.specs.GrammarItems as m
 use Rattle.mir_text.specs.GrammarItems.{FieldsRule, VariantRule, variant_decl_put, struct_put}
@@ -17,7 +17,7 @@ use Rattle.mir_parse.specs.Signs.{open_paren, open_brace, semicolon, arrow}
 use Rattle.mir_parse.proofs.Laws.{in_steps, ok_same, IsRead, items_text, open_paren-sound, open_brace-sound, semicolon-sound, arrow-sound}
 use Rattle.mir_parse.proofs.PathsRead.{path-complete, path-sound}
 use Rattle.mir_parse.proofs.TypesRead.{types_text, type-complete, type-sound, types-complete, types-sound}
-use Rattle.mir_items.specs.Items.{fn_word, struct_item, enum_item, result_end, path_open, extern_item}
+use Rattle.mir_items.specs.Items.{fn_word, struct_item, enum_item, result_type, result_end, path_open, extern_item}
 use Rattle.mir_items.proofs.FieldsRead.{fields_text, struct-complete, struct-sound, variant_text, variants-complete, variants-sound}
 
 -- ---- structs, past the first word
@@ -126,9 +126,35 @@ path_open-sound ts x rest h =
     let P : PathText × List Symbol → Type 0 = λ y. IsPathOpen ts y.0 y.1 in
     subst P (ok_same _ _ same_h) (record { rule = q.rule; reads = q.reads; yields = q.yields ∙ ap (path_put q.rule) (open_paren-sound past (a, over) opened) })))
 
+-- an arrow and a type
+abbrev pub result_type_put : Put TypeRule
+result_type_put u rest = s.Arrow ∷ type_put u rest
+
+pub result_type-complete : (u : TypeRule) (rest : List Symbol) → TypeGood u → starts_colons rest ≡ false
+    → result_type (result_type_put u rest) ≡ Ok (type_text u, rest)
+unfolding result_type arrow
+result_type-complete u rest good e = rw (type-complete u 65 rest good e) refl
+
+abbrev pub IsResultType : List Symbol → TypeText → List Symbol → Type 0
+IsResultType = IsRead result_type_put type_text TypeGood
+
+pub result_type-sound : (ts : List Symbol) (x : TypeText) (rest : List Symbol) → result_type ts ≡ Ok (x, rest) → IsResultType ts x rest
+unfolding result_type
+result_type-sound ts x rest h =
+    in_steps _ _ (x, rest) h (λ a past is_arrow went.
+    in_steps _ _ (x, rest) went (λ u over typed same_h.
+    let t = type-sound 65 past u over typed in
+    let P : TypeText × List Symbol → Type 0 = λ y. IsResultType ts y.0 y.1 in
+    subst P (ok_same _ _ same_h) (record {
+      rule = t.rule;
+      reads = t.reads;
+      yields = arrow-sound ts (a, past) is_arrow ∙ ap (λ l. s.Arrow ∷ l) t.yields;
+      good = t.good;
+    })))
+
 result_end-complete : (u : TypeRule) (rest : List Symbol) → TypeGood u → result_end (s.Arrow ∷ type_put u (s.Semicolon ∷ rest)) ≡ Ok (type_text u, rest)
-unfolding result_end arrow semicolon
-result_end-complete u rest good = rw (type-complete u 65 (s.Semicolon ∷ rest) good refl) refl
+unfolding result_end semicolon
+result_end-complete u rest good = rw (result_type-complete u (s.Semicolon ∷ rest) good refl) refl
 
 -- an arrow, a type and a semicolon
 record IsResultEnd (ts : List Symbol) (x : TypeText) (rest : List Symbol) : Type 0 where
@@ -140,17 +166,16 @@ record IsResultEnd (ts : List Symbol) (x : TypeText) (rest : List Symbol) : Type
 result_end-sound : (ts : List Symbol) (x : TypeText) (rest : List Symbol) → result_end ts ≡ Ok (x, rest) → IsResultEnd ts x rest
 unfolding result_end
 result_end-sound ts x rest h =
-    in_steps _ _ (x, rest) h (λ a past is_arrow went.
-    in_steps _ _ (x, rest) went (λ u over typed went2.
-    in_steps _ _ (x, rest) went2 (λ b after closed same_h.
-    let t = type-sound 65 past u over typed in
+    in_steps _ _ (x, rest) h (λ u over typed went.
+    in_steps _ _ (x, rest) went (λ a after closed same_h.
+    let t = result_type-sound ts u over typed in
     let P : TypeText × List Symbol → Type 0 = λ y. IsResultEnd ts y.0 y.1 in
     subst P (ok_same _ _ same_h) (record {
       rule = t.rule;
       reads = t.reads;
-      yields = arrow-sound ts (a, past) is_arrow ∙ ap (λ l. s.Arrow ∷ l) (t.yields ∙ ap (type_put t.rule) (semicolon-sound over (b, after) closed));
+      yields = t.yields ∙ ap (result_type_put t.rule) (semicolon-sound over (a, after) closed);
       good = t.good;
-    }))))
+    })))
 
 abbrev pub ExternRule : Type 0
 ExternRule = PathRule × TypesRule × TypeRule

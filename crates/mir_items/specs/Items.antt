@@ -31,9 +31,13 @@ struct_item ts = and_then (path ts) (λ p ts. and_then (struct_end ts) (λ fs ts
 unfoldable pub enum_item : Parse ItemText
 enum_item ts = and_then (path ts) (λ p ts. and_then (open_brace ts) (λ _ ts. and_then (variants ts) (λ vs ts. Ok (i.Enum p vs, ts))))
 
+-- -> type
+unfoldable pub result_type : Parse TypeText
+result_type ts = and_then (arrow ts) (λ _ ts. and_then (type_text_at 65 ts) (λ u ts. Ok (u, ts)))
+
 -- -> type ;
 unfoldable pub result_end : Parse TypeText
-result_end ts = and_then (arrow ts) (λ _ ts. and_then (type_text_at 65 ts) (λ u ts. and_then (semicolon ts) (λ _ ts. Ok (u, ts))))
+result_end ts = and_then (result_type ts) (λ u ts. and_then (semicolon ts) (λ _ ts. Ok (u, ts)))
 
 -- path (
 unfoldable pub path_open : Parse PathText
@@ -52,7 +56,7 @@ fn_path ts = and_then (fn_word ts) (λ _ ts. and_then (path_open ts) (λ p ts. O
 
 -- -> type {
 unfoldable pub result_open : Parse TypeText
-result_open ts = and_then (arrow ts) (λ _ ts. and_then (type_text_at 65 ts) (λ u ts. and_then (open_brace ts) (λ _ ts. Ok (u, ts))))
+result_open ts = and_then (result_type ts) (λ u ts. and_then (open_brace ts) (λ _ ts. Ok (u, ts)))
 
 abbrev pub head : Inline → Bool → PathText → Items (Lined ArgText) → TypeText → List (Lined ArgText) → FnText
 head inline is_drop p xs u ls = record { inline = inline; is_drop = is_drop; path = p; args = xs; result = u; lets = ls; blocks = [] }

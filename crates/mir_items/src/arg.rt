@@ -1,13 +1,9 @@
 ghost use Rattle.std.specs.Prelude.{◌≡◌, ◌<◌, ◌≤◌, length, IfOk};
 ghost use Rattle.mir_parse.specs.Parser.{Gives};
-ghost use Rattle.mir_parse.specs.Lists.{closing_paren, turn_of};
 ghost use Rattle.mir_items.specs.Decls as spec;
 
 use crate::line::{fault_within, line_at};
-use mir_parse::{
-    ParseRefused, Turn, after_item_paren, closing_paren, parse_type, read_colon, read_local,
-};
-use mir_syntax::List;
+use mir_parse::{Bracket, ParseRefused, ReadItem, parse_type, read_colon, read_items, read_local};
 use mir_text::Symbol;
 use mir_tree::{ArgText, Items, Lined};
 use std::alloc::Global;
@@ -53,30 +49,27 @@ fn read_arg<'a>(
     }
 }
 
-/// The next argument, or the parenthesis that closes the list.
-#[tactic(auto, unfolding(mir_parse::specs::Lists::turn_of))]
-fn read_args_turn<'a>(
-    alloc: Global,
-    args: &mut List<Lined<ArgText>>,
-    lines: &[u32],
-    symbols: &'a [Symbol],
-) -> Result<(Turn, &'a [Symbol]), ParseRefused>
-    ensures read { Gives (λ f. ((f.0, args.new), f.1.now)) result (turn_of closing_paren (spec.arg lines.now) args.old symbols.now) }
-    ensures shorter { IfOk result (λ f. length f.1.now < length symbols.now) }
-{
-    match closing_paren(symbols) {
-        Some(rest) => Ok((Turn::Ends(true), rest)),
-        None => {
-            let (arg, rest) = read_arg(alloc, lines, symbols)?;
-            args.push(arg)?;
-            let (turn, rest) = after_item_paren(rest)?;
-            Ok((turn, rest))
-        }
+/// Reads the arguments of a list, with their lines.
+#[derive(Drop)]
+struct ArgReader<'l> {
+    lines: &'l [u32],
+}
+
+impl<'l> ReadItem for ArgReader<'l> {
+    type Item = Lined<ArgText>;
+
+    ghost item = { λ reader. spec.arg reader.lines.now };
+
+    fn read<'a>(
+        &self,
+        alloc: Global,
+        symbols: &'a [Symbol],
+    ) -> Result<(Lined<ArgText>, &'a [Symbol]), ParseRefused> {
+        read_arg(alloc, self.lines, symbols)
     }
 }
 
 /// Parses `arg,*` and the parenthesis that closes it, and answers what stands past that.
-#[tactic(auto, unfolding(mir_parse::specs::Lists::items_from))]
 pub fn read_args<'a>(
     alloc: Global,
     lines: &[u32],
@@ -85,13 +78,5 @@ pub fn read_args<'a>(
     ensures read { Gives (λ f. (f.0, f.1.now)) result (spec.args lines.now symbols.now) }
     ensures shorter { IfOk result (λ f. length f.1.now < length symbols.now) }
 {
-    let mut items = List::new(alloc);
-    let mut rest = symbols;
-    'turns: loop {
-        let (turn, past) = read_args_turn(alloc, &mut items, lines, rest)?;
-        match turn {
-            Turn::Ends(trailing) => return Ok((Items { items, trailing }, past)),
-            Turn::More => rest = past,
-        }
-    }
+    read_items(alloc, &ArgReader { lines }, Bracket::Paren, symbols)
 }

@@ -1,6 +1,5 @@
 ghost use Rattle.std.specs.Prelude.{◌≡◌, ◌<◌, ◌≤◌, length, IfOk};
 ghost use Rattle.mir_parse.specs.Parser.{Gives};
-ghost use Rattle.mir_parse.specs.Lists.{closing_brace, turn_of};
 ghost use Rattle.mir_parse.specs.Promises.{IsParsed, NoneStands, Any};
 ghost use Rattle.mir_text.specs.declared.symbol.Symbol.TheVariants as symbol;
 ghost use Rattle.mir_text.specs.Grammar.{items_put, AllItems};
@@ -11,10 +10,9 @@ ghost use Rattle.mir_tree.specs.Rules.{field_rule, fields_rule};
 ghost use Rattle.mir_items.specs.Fields as spec;
 
 use mir_parse::{
-    ParseRefused, Turn, after_item_brace, closing_brace, parse_type, parse_types, read_colon,
-    read_name, read_semicolon, refuse,
+    Bracket, ParseRefused, ReadItem, parse_type, parse_types, read_colon, read_items, read_name,
+    read_semicolon, refuse,
 };
-use mir_syntax::List;
 use mir_text::Symbol;
 use mir_tree::{FieldText, FieldsText, Items};
 use std::alloc::Global;
@@ -34,29 +32,25 @@ fn read_field<'a>(
     Ok((FieldText { name, ty }, rest))
 }
 
-/// The next field of a list, or the brace that closes it.
-#[tactic(auto, unfolding(mir_parse::specs::Lists::turn_of))]
-fn read_fields_turn<'a>(
-    alloc: Global,
-    fields: &mut List<FieldText>,
-    symbols: &'a [Symbol],
-) -> Result<(Turn, &'a [Symbol]), ParseRefused>
-    ensures read { Gives (λ f. ((f.0, fields.new), f.1.now)) result (turn_of closing_brace spec.field fields.old symbols.now) }
-    ensures shorter { IfOk result (λ f. length f.1.now < length symbols.now) }
-{
-    match closing_brace(symbols) {
-        Some(rest) => Ok((Turn::Ends(true), rest)),
-        None => {
-            let (field, rest) = read_field(alloc, symbols)?;
-            fields.push(field)?;
-            let (turn, rest) = after_item_brace(rest)?;
-            Ok((turn, rest))
-        }
+/// Reads the fields of a list.
+#[derive(Drop)]
+struct FieldReader;
+
+impl ReadItem for FieldReader {
+    type Item = FieldText;
+
+    ghost item = { λ _. spec.field };
+
+    fn read<'a>(
+        &self,
+        alloc: Global,
+        symbols: &'a [Symbol],
+    ) -> Result<(FieldText, &'a [Symbol]), ParseRefused> {
+        read_field(alloc, symbols)
     }
 }
 
 /// `field,*` and the brace that closes it.
-#[tactic(auto, unfolding(mir_parse::specs::Lists::items_from))]
 pub(crate) fn read_fields<'a>(
     alloc: Global,
     symbols: &'a [Symbol],
@@ -64,15 +58,7 @@ pub(crate) fn read_fields<'a>(
     ensures read { Gives (λ f. (f.0, f.1.now)) result (spec.fields symbols.now) }
     ensures shorter { IfOk result (λ f. length f.1.now < length symbols.now) }
 {
-    let mut items = List::new(alloc);
-    let mut rest = symbols;
-    'turns: loop {
-        let (turn, past) = read_fields_turn(alloc, &mut items, rest)?;
-        match turn {
-            Turn::Ends(trailing) => return Ok((Items { items, trailing }, past)),
-            Turn::More => rest = past,
-        }
-    }
+    read_items(alloc, &FieldReader, Bracket::Brace, symbols)
 }
 
 /// What stands behind a struct's path.

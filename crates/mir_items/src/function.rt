@@ -7,8 +7,8 @@ use crate::arg::read_args;
 use crate::attr::{read_attr, read_drop};
 use crate::block::read_fn_blocks;
 use crate::decl::read_decls;
-use crate::item::{read_fn_word, read_path_open};
-use mir_parse::{ParseRefused, parse_type, read_arrow, read_open_brace};
+use crate::item::{read_fn_word, read_path_open, read_result};
+use mir_parse::{ParseRefused, read_open_brace};
 use mir_syntax::{Inline, List};
 use mir_text::Symbol;
 use mir_tree::{FnText, PathText, TypeText};
@@ -37,8 +37,7 @@ fn read_result_open<'a>(
     ensures read { Gives (λ f. (f.0, f.1.now)) result (spec.result_open symbols.now) }
     ensures shorter { IfOk result (λ f. length f.1.now < length symbols.now) }
 {
-    let rest = read_arrow(symbols)?;
-    let (ty, rest) = parse_type(alloc, rest, 65)?;
+    let (ty, rest) = read_result(alloc, symbols)?;
     let rest = read_open_brace(rest)?;
     Ok((ty, rest))
 }

@@ -53,6 +53,20 @@ pub fn read_enum<'a>(
     Ok((ItemText::Enum(path, variants), rest))
 }
 
+/// `-> type`
+#[tactic(auto, unfolding(crate::specs::Items::result_type))]
+pub fn read_result<'a>(
+    alloc: Global,
+    symbols: &'a [Symbol],
+) -> Result<(TypeText, &'a [Symbol]), ParseRefused>
+    ensures read { Gives (λ f. (f.0, f.1.now)) result (spec.result_type symbols.now) }
+    ensures shorter { IfOk result (λ f. length f.1.now < length symbols.now) }
+{
+    let rest = read_arrow(symbols)?;
+    let (ty, rest) = parse_type(alloc, rest, 65)?;
+    Ok((ty, rest))
+}
+
 /// `-> type ;`
 #[tactic(auto, unfolding(crate::specs::Items::result_end))]
 fn read_result_end<'a>(
@@ -62,8 +76,7 @@ fn read_result_end<'a>(
     ensures read { Gives (λ f. (f.0, f.1.now)) result (spec.result_end symbols.now) }
     ensures shorter { IfOk result (λ f. length f.1.now < length symbols.now) }
 {
-    let rest = read_arrow(symbols)?;
-    let (ty, rest) = parse_type(alloc, rest, 65)?;
+    let (ty, rest) = read_result(alloc, symbols)?;
     let rest = read_semicolon(rest)?;
     Ok((ty, rest))
 }

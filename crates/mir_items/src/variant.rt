@@ -1,6 +1,5 @@
 ghost use Rattle.std.specs.Prelude.{◌≡◌, ◌<◌, ◌≤◌, length, IfOk};
 ghost use Rattle.mir_parse.specs.Parser.{Gives};
-ghost use Rattle.mir_parse.specs.Lists.{closing_brace, turn_of};
 ghost use Rattle.mir_parse.specs.Promises.{IsParsed, NoneStands, Any};
 ghost use Rattle.mir_text.specs.declared.symbol.Symbol.TheVariants as symbol;
 ghost use Rattle.mir_text.specs.Grammar.{items_put, AllItems};
@@ -11,8 +10,7 @@ ghost use Rattle.mir_tree.specs.Rules.{variant_rule};
 ghost use Rattle.mir_items.specs.Fields as spec;
 
 use crate::field::read_fields;
-use mir_parse::{ParseRefused, Turn, after_item_brace, closing_brace, parse_types, read_name};
-use mir_syntax::List;
+use mir_parse::{Bracket, ParseRefused, ReadItem, parse_types, read_items, read_name};
 use mir_text::Symbol;
 use mir_tree::{FieldsText, Items, VariantText};
 use std::alloc::Global;
@@ -53,29 +51,25 @@ fn read_variant<'a>(
     Ok((VariantText { name, fields }, rest))
 }
 
-/// The next variant of a list, or the brace that closes it.
-#[tactic(auto, unfolding(mir_parse::specs::Lists::turn_of))]
-fn read_variants_turn<'a>(
-    alloc: Global,
-    variants: &mut List<VariantText>,
-    symbols: &'a [Symbol],
-) -> Result<(Turn, &'a [Symbol]), ParseRefused>
-    ensures read { Gives (λ f. ((f.0, variants.new), f.1.now)) result (turn_of closing_brace spec.variant variants.old symbols.now) }
-    ensures shorter { IfOk result (λ f. length f.1.now < length symbols.now) }
-{
-    match closing_brace(symbols) {
-        Some(rest) => Ok((Turn::Ends(true), rest)),
-        None => {
-            let (variant, rest) = read_variant(alloc, symbols)?;
-            variants.push(variant)?;
-            let (turn, rest) = after_item_brace(rest)?;
-            Ok((turn, rest))
-        }
+/// Reads the variants of a list.
+#[derive(Drop)]
+struct VariantReader;
+
+impl ReadItem for VariantReader {
+    type Item = VariantText;
+
+    ghost item = { λ _. spec.variant };
+
+    fn read<'a>(
+        &self,
+        alloc: Global,
+        symbols: &'a [Symbol],
+    ) -> Result<(VariantText, &'a [Symbol]), ParseRefused> {
+        read_variant(alloc, symbols)
     }
 }
 
 /// `variant,*` and the brace that closes it.
-#[tactic(auto, unfolding(mir_parse::specs::Lists::items_from))]
 pub(crate) fn read_variants<'a>(
     alloc: Global,
     symbols: &'a [Symbol],
@@ -83,15 +77,7 @@ pub(crate) fn read_variants<'a>(
     ensures read { Gives (λ f. (f.0, f.1.now)) result (spec.variants symbols.now) }
     ensures shorter { IfOk result (λ f. length f.1.now < length symbols.now) }
 {
-    let mut items = List::new(alloc);
-    let mut rest = symbols;
-    'turns: loop {
-        let (turn, past) = read_variants_turn(alloc, &mut items, rest)?;
-        match turn {
-            Turn::Ends(trailing) => return Ok((Items { items, trailing }, past)),
-            Turn::More => rest = past,
-        }
-    }
+    read_items(alloc, &VariantReader, Bracket::Brace, symbols)
 }
 
 /// Parses `variant,*` and the brace that closes it, and answers what stands past that.

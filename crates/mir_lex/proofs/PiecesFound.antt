@@ -31,7 +31,7 @@ run-rest p xs rest h e = rw (run-len p xs rest h e) (drop-append_seam xs rest)
 
 -- ---- a token by its first byte
 
-by_digit : (d : ℕ) (bs : List ℕ) → is_ascii_digit d ≡ true → found_at d bs ≡ found_token (number_at (d ∷ bs))
+pub by_digit : (d : ℕ) (bs : List ℕ) → is_ascii_digit d ≡ true → found_at d bs ≡ found_token (number_at (d ∷ bs))
 unfolding found_at token_at
 by_digit d bs h =
     let a : is_blank d ≡ false = grind (arith, nat_tests) in

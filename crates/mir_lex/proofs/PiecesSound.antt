@@ -26,7 +26,7 @@ use Rattle.mir_lex.specs.Pieces.{mark_place, found_of, tokens_of, Front, IsFound
 
 -- ---- tests
 
-on : {R : Type 0} (c : Bool) → (c ≡ true → R) → (c ≡ false → R) → R
+pub on : {R : Type 0} (c : Bool) → (c ≡ true → R) → (c ≡ false → R) → R
 on true k_true k_false = k_true refl
 on false k_true k_false = k_false refl
 
@@ -47,11 +47,11 @@ run-more p b bs e = let one : 1 + prefix_len p bs ≡ suc (prefix_len p bs) = om
 run-past : (p : ℕ → Bool) (b : ℕ) (bs : List ℕ) → p b ≡ true → drop (prefix_len p (b ∷ bs)) (b ∷ bs) ≡ drop (prefix_len p bs) bs
 run-past p b bs e = let one : 1 + prefix_len p bs ≡ suc (prefix_len p bs) = omega arith in rw (e, one) refl
 
-run-all : (p : ℕ → Bool) (bs : List ℕ) → AreAll p (take (prefix_len p bs) bs)
+pub run-all : (p : ℕ → Bool) (bs : List ℕ) → AreAll p (take (prefix_len p bs) bs)
 run-all p [] = tt
 run-all p (b ∷ bs) = on (p b) (λ e. rw (run-more p b bs e) (e, run-all p bs)) (λ e. rw e tt)
 
-run-stops : (p : ℕ → Bool) (bs : List ℕ) → begins p (drop (prefix_len p bs) bs) ≡ false
+pub run-stops : (p : ℕ → Bool) (bs : List ℕ) → begins p (drop (prefix_len p bs) bs) ≡ false
 run-stops p [] = refl
 run-stops p (b ∷ bs) = on (p b) (λ e. rw (run-past p b bs e) (run-stops p bs)) (λ e. rw e e)
 

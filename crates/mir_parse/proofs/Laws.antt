@@ -14,7 +14,7 @@ use Rattle.mir_parse.specs.declared.fault.ParseRefused.TheVariants as refused
 use Rattle.mir_parse.specs.Promises.{IsParsed, NoneStands}
 use Rattle.mir_parse.specs.Parser.{Found, Parse, and_then, Gives}
 use Rattle.mir_parse.specs.Signs.{comma, open_paren, close, open_brace, close_brace, open_bracket, close_bracket, semicolon, colon, colons, dot, equals, arrow, returns, otherwise, unwind, name, local, block, string, this_name, small_number}
-use Rattle.mir_parse.specs.Lists.{Closing, after_by, after_item, turn_by, turn_of, goes_on, items_from}
+use Rattle.mir_parse.specs.Lists.{Closing, closing_paren, closing_brace, after_by, after_item, turn_by, turn_of, goes_on, items_from}
 
 -- a rule stands at the front of symbols, and its tree was found
 pub record IsRead {R A : Type 0} (put : Put R) (of : R → A) (Good : R → Type 0) (ts : List Symbol) (x : A) (rest : List Symbol) : Type 0 where
@@ -207,16 +207,44 @@ small_number-sound (x ∷ ts) q h k = absurd cc
 
 -- ---- lists
 
+-- a rule puts symbols
+abbrev pub Grows : {R : Type 0} → Put R → Type 0
+Grows {R} put = (r : R) (rest : List Symbol) → length rest < length (put r rest)
+
+-- a sign closes a list: it is found where it comes next and nowhere else
+pub record Closes (closing : Closing) (sign : Symbol) : Type 0 where
+  pub here : (rest : List Symbol) → closing (sign ∷ rest) ≡ Some rest
+  pub only : (ts rest : List Symbol) → closing ts ≡ Some rest → ts ≡ sign ∷ rest
+  pub no_comma : (rest : List Symbol) → closing (s.Comma ∷ rest) ≡ None
+
+paren_only : (ts rest : List Symbol) → closing_paren ts ≡ Some rest → ts ≡ s.Close ∷ rest
+unfolding closing_paren
+paren_only [] rest h = absurd cc
+paren_only (s.Close ∷ ts) rest h = let same : ts ≡ rest = cc in ap (λ l. s.Close ∷ l) same
+paren_only (x ∷ ts) rest h = absurd cc
+
+pub paren_closes : Closes closing_paren s.Close
+unfolding closing_paren
+paren_closes = record { here = λ rest. refl; only = paren_only; no_comma = λ rest. refl }
+
+brace_only : (ts rest : List Symbol) → closing_brace ts ≡ Some rest → ts ≡ s.CloseBrace ∷ rest
+unfolding closing_brace
+brace_only [] rest h = absurd cc
+brace_only (s.CloseBrace ∷ ts) rest h = let same : ts ≡ rest = cc in ap (λ l. s.CloseBrace ∷ l) same
+brace_only (x ∷ ts) rest h = absurd cc
+
+pub brace_closes : Closes closing_brace s.CloseBrace
+unfolding closing_brace
+brace_closes = record { here = λ rest. refl; only = brace_only; no_comma = λ rest. refl }
+
 -- an item's parser reads what its rule puts, and nothing else, and no item begins with the sign that closes the list
 pub record ItemLaws {R A : Type 0} (closing : Closing) (item : Parse A) (put : Put R) (of : R → A) (Good : R → Type 0) (sign : Symbol) : Type 0 where
-  pub closes : (rest : List Symbol) → closing (sign ∷ rest) ≡ Some rest
-  pub closes_only : (ts rest : List Symbol) → closing ts ≡ Some rest → ts ≡ sign ∷ rest
-  pub no_comma : (rest : List Symbol) → closing (s.Comma ∷ rest) ≡ None
+  pub closes : Closes closing sign
   pub no_item : (r : R) (rest : List Symbol) → closing (put r rest) ≡ None
   pub before_comma : (r : R) (rest : List Symbol) → Good r → item (put r (s.Comma ∷ rest)) ≡ Ok (of r, s.Comma ∷ rest)
   pub before_sign : (r : R) (rest : List Symbol) → Good r → item (put r (sign ∷ rest)) ≡ Ok (of r, sign ∷ rest)
   pub sound : (ts : List Symbol) (x : A) (rest : List Symbol) → item ts ≡ Ok (x, rest) → IsRead put of Good ts x rest
-  pub grows : (r : R) (rest : List Symbol) → length rest < length (put r rest)
+  pub grows : Grows put
 
 abbrev pub count : {R : Type 0} → Items R → ℕ
 count end = 0
@@ -254,15 +282,15 @@ items_from-complete : {R A : Type 0} (closing : Closing) (item : Parse A) (put :
     → (rs : Items R) (n : ℕ) (before : List A) (rest : List Symbol) → AllItems Good rs → count rs < n → items_from closing item n before (items_put put sign rs rest) ≡ Ok (items_behind of before rs, rest)
 unfolding items_from turn_of after_item comma
 items_from-complete closing item put of Good sign laws rs zero before rest g h = absurd (omega arith)
-items_from-complete closing item put of Good sign laws end (suc n) before rest g h = rw (laws.closes rest, append-nil before) refl
+items_from-complete closing item put of Good sign laws end (suc n) before rest g h = rw (laws.closes.here rest, append-nil before) refl
 items_from-complete closing item put of Good sign laws (last r) (suc n) before rest g h =
-    rw (laws.no_item r (sign ∷ rest), laws.before_sign r rest g, laws.closes rest) refl
+    rw (laws.no_item r (sign ∷ rest), laws.before_sign r rest g, laws.closes.here rest) refl
 items_from-complete closing item put of Good sign laws (more r rs) (suc n) before rest g h =
     let after = s.Comma ∷ items_put put sign rs rest in
     rw (
       laws.no_item r after,
       laws.before_comma r (items_put put sign rs rest) g.0,
-      laws.no_comma (items_put put sign rs rest),
+      laws.closes.no_comma (items_put put sign rs rest),
       items_from-complete closing item put of Good sign laws rs n (before ++ of r ∷ []) rest g.1 (omega arith),
       append_assoc before (of r ∷ []) (items_of of rs),
     ) refl
@@ -277,7 +305,7 @@ pub record AreItems {R A : Type 0} (put : Put R) (of : R → A) (Good : R → Ty
   pub yields : ts ≡ items_put put sign rule rest
   pub good : AllItems Good rule
 
-after-sound : {R : Type 0} (closing : Closing) (o : Option (List Symbol)) (ts : List Symbol) (t : Turn) (rest : List Symbol) → closing ts ≡ o → after_by o ts ≡ Ok (t, rest)
+pub after-sound : {R : Type 0} (closing : Closing) (o : Option (List Symbol)) (ts : List Symbol) (t : Turn) (rest : List Symbol) → closing ts ≡ o → after_by o ts ≡ Ok (t, rest)
     → (closing ts ≡ Some rest → t ≡ turn.Ends false → R) → (ts ≡ s.Comma ∷ rest → t ≡ turn.More → R) → R
 after-sound closing (Some past) ts t rest e h close_k comma_k = let same = ok_same _ _ h in close_k (e ∙ ap (λ q. Some q.1) same) (sym (ap (λ q. q.0) same))
 after-sound closing None ts t rest e h close_k comma_k =
@@ -318,7 +346,7 @@ unfolding after_item
 items-first {A = A} closing item put of Good sign laws n more_sound ts before us rest (Some past) e h =
     let same = ok_same _ _ h in
     let f : List A → ItemsText A = λ ys. record { items = ys; trailing = true } in
-    record { rule = end; reads = ap f (append-nil before) ∙ ap (λ q. q.0) same; yields = laws.closes_only ts past e ∙ ap (λ q. sign ∷ q.1) same; good = tt }
+    record { rule = end; reads = ap f (append-nil before) ∙ ap (λ q. q.0) same; yields = laws.closes.only ts past e ∙ ap (λ q. sign ∷ q.1) same; good = tt }
 items-first closing item put of Good sign laws n more_sound ts before us rest None e h =
     in_steps _ _ (us, rest) h (λ q after found went.
     in_steps _ _ (q, after) found (λ x past first turned.
@@ -327,7 +355,7 @@ items-first closing item put of Good sign laws n more_sound ts before us rest No
     let went2 = subst (λ (y : (Turn × List _) × List Symbol). goes_on (items_from closing item n) y.0 y.1 ≡ Ok (us, rest)) (sym e2) went in
     after-sound closing (closing past) past t past2 refl is_after
     (λ closed is. let e3 = ok_same _ _ (ap (λ c. goes_on (items_from closing item n) (c, before ++ x ∷ []) past2) (sym is) ∙ went2) in
-    last-item put of Good sign ts past rest before us x (laws.sound ts x past first) (laws.closes_only past past2 closed ∙ ap (λ q. sign ∷ q.1) e3) (ap (λ q. q.0) e3))
+    last-item put of Good sign ts past rest before us x (laws.sound ts x past first) (laws.closes.only past past2 closed ∙ ap (λ q. sign ∷ q.1) e3) (ap (λ q. q.0) e3))
     (λ comma_is is. more-items put of Good sign ts past past2 rest before us x (laws.sound ts x past first) comma_is
     (more_sound past2 (before ++ x ∷ []) us rest (ap (λ c. goes_on (items_from closing item n) (c, before ++ x ∷ []) past2) (sym is) ∙ went2))))))
 

@@ -1,5 +1,5 @@
 -- Parsing constants, operands and named operands is the grammar's rule, both ways.
-use Rattle.std.proofs.Common.{◌≡◌, ℕ, ◌<◌, ◌==◌, Bool, true, false, List, [], ◌∷◌, length, Ok, Some, None, refl, ap, ap₂, ◌∙◌, arith}
+use Rattle.std.proofs.Common.{◌≡◌, ℕ, ◌<◌, ◌==◌, Bool, true, false, List, [], ◌∷◌, length, Ok, None, refl, ap, ap₂, ◌∙◌, arith}
 use Rattle.std.proofs.lemmas.Bool.{eqb-true}
 use Rattle.mir_syntax.specs.declared.types.IntTy.{IntTy}
 use Rattle.mir_text.specs.declared.symbol.Symbol.{Symbol}
@@ -21,9 +21,8 @@ use Rattle.mir_parse.specs.Signs.{close, colon, colons, name as name_at}
 use Rattle.mir_parse.specs.Places.{place_at}
 use Rattle.mir_parse.specs.Operands.{number as number_at, bound, bound_end, value, operand, named, operands_at, nameds_at}
 use Rattle.mir_parse.specs.Lists.{closing_paren, closing_brace}
-use Rattle.mir_parse.proofs.TypesRead.{paren_only, paren_closes, paren_comma}
 use Rattle.mir_parse.proofs.PlacesRead.{place_text, place-back, place-complete, place-sound, place_grows}
-use Rattle.mir_parse.proofs.Laws.{in_steps, ok_same, on, IsRead, ItemLaws, items_text, items-complete, items-sound, close-sound, colon-sound, colons-sound, name-sound}
+use Rattle.mir_parse.proofs.Laws.{in_steps, ok_same, on, IsRead, paren_closes, brace_closes, ItemLaws, items_text, items-complete, items-sound, close-sound, colon-sound, colons-sound, name-sound}
 
 -- ---- the trees
 
@@ -199,7 +198,7 @@ no_paren (bare (field q n t)) rest = refl
 no_paren (bare (variant_field q name_no n t)) rest = refl
 
 pub operand_laws : ItemLaws closing_paren operand operand_put operand_text OperandGood s.Close
-operand_laws = record { closes = paren_closes; closes_only = paren_only; no_comma = paren_comma; no_item = no_paren; before_comma = λ x rest h. operand-complete x (s.Comma ∷ rest) h; before_sign = λ x rest h. operand-complete x (s.Close ∷ rest) h; sound = operand-sound; grows = operand_grows }
+operand_laws = record { closes = paren_closes; no_item = no_paren; before_comma = λ x rest h. operand-complete x (s.Comma ∷ rest) h; before_sign = λ x rest h. operand-complete x (s.Close ∷ rest) h; sound = operand-sound; grows = operand_grows }
 
 -- ---- named operands
 
@@ -223,26 +222,12 @@ named-sound ts x rest h =
       good = inner.good;
     })))
 
-pub brace_only : (ts rest : List Symbol) → closing_brace ts ≡ Some rest → ts ≡ s.CloseBrace ∷ rest
-unfolding closing_brace
-brace_only [] rest h = absurd cc
-brace_only (s.CloseBrace ∷ ts) rest h = let same : ts ≡ rest = cc in ap (λ l. s.CloseBrace ∷ l) same
-brace_only (x ∷ ts) rest h = absurd cc
-
-pub brace_closes : (rest : List Symbol) → closing_brace (s.CloseBrace ∷ rest) ≡ Some rest
-unfolding closing_brace
-brace_closes rest = refl
-
-pub brace_comma : (rest : List Symbol) → closing_brace (s.Comma ∷ rest) ≡ None
-unfolding closing_brace
-brace_comma rest = refl
-
 no_brace : (x : NamedRule) (rest : List Symbol) → closing_brace (named_put x rest) ≡ None
 unfolding closing_brace
 no_brace x rest = refl
 
 pub named_laws : ItemLaws closing_brace named named_put named_text NamedGood s.CloseBrace
-named_laws = record { closes = brace_closes; closes_only = brace_only; no_comma = brace_comma; no_item = no_brace; before_comma = λ x rest h. named-complete x (s.Comma ∷ rest) h; before_sign = λ x rest h. named-complete x (s.CloseBrace ∷ rest) h; sound = named-sound; grows = named_grows }
+named_laws = record { closes = brace_closes; no_item = no_brace; before_comma = λ x rest h. named-complete x (s.Comma ∷ rest) h; before_sign = λ x rest h. named-complete x (s.CloseBrace ∷ rest) h; sound = named-sound; grows = named_grows }
 
 -- ---- lists of them
 

@@ -23,7 +23,7 @@ use Rattle.mir_parse.specs.Terms.{action, goes_end, return_target, success_targe
 use Rattle.mir_parse.proofs.PlacesRead.{place_text, place-back, place-complete}
 use Rattle.mir_parse.proofs.OperandsRead.{operand_text, operand-back, operand_grows, operand-complete, operand-sound}
 use Rattle.mir_parse.proofs.RvaluesRead.{single-sound, place_single-sound}
-use Rattle.mir_parse.proofs.Laws.{in_steps, id_steps, ok_same, IsRead, items_text, items-back, comma-sound, open_paren-sound, close-sound, open_bracket-sound, close_bracket-sound, colon-sound, arrow-sound, returns-sound, otherwise-sound, unwind-sound, this_name-sound, block-sound, string-sound}
+use Rattle.mir_parse.proofs.Laws.{in_steps, id_steps, ok_same, IsRead, Grows, items_text, items-back, comma-sound, open_paren-sound, close-sound, open_bracket-sound, close_bracket-sound, colon-sound, arrow-sound, returns-sound, otherwise-sound, unwind-sound, this_name-sound, block-sound, string-sound}
 
 -- ---- the trees
 
@@ -133,7 +133,7 @@ pub data Turned {R A : Type 0} (put : Put R) (of : R → A) (Good : R → Type 0
 pub record EachLaws {R A : Type 0} (turn : Turns A) (put : Put R) (of : R → A) (Good : R → Type 0) : Type 0 where
   pub complete : (r : R) (before : List A) (rest : List Symbol) → Good r → turn before (put r rest) ≡ Ok ((false, before ++ of r ∷ []), rest)
   pub sound : (before : List A) (ts : List Symbol) (q : Bool × List A) (rest : List Symbol) → turn before ts ≡ Ok (q, rest) → Turned put of Good before ts q rest
-  pub grows : (r : R) (rest : List Symbol) → length rest < length (put r rest)
+  pub grows : Grows put
 
 -- no item begins here
 abbrev Stops : {A : Type 0} → Turns A → List Symbol → Type 0

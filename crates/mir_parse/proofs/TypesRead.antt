@@ -1,5 +1,5 @@
 -- Parsing types is the grammar's rule, both ways.
-use Rattle.std.proofs.Common.{◌≡◌, ℕ, zero, suc, ◌+◌, ◌<◌, ◌≤◌, Bool, true, false, List, [], ◌∷◌, ◌++◌, length, Ok, Some, None, refl, sym, ap, subst, ◌∙◌, arith, append_assoc}
+use Rattle.std.proofs.Common.{◌≡◌, ℕ, zero, suc, ◌+◌, ◌<◌, ◌≤◌, Bool, true, false, List, [], ◌∷◌, ◌++◌, length, Ok, None, refl, sym, ap, subst, ◌∙◌, arith, append_assoc}
 use Rattle.mir_text.specs.declared.symbol.Symbol.{Symbol}
 use Rattle.mir_text.specs.declared.symbol.Symbol.TheVariants as s
 use Rattle.mir_text.specs.Grammar as g
@@ -20,7 +20,7 @@ use Rattle.mir_parse.specs.Signs.{comma}
 use Rattle.mir_parse.specs.Lists.{closing_paren, after_item}
 use Rattle.mir_parse.specs.Paths.{path as path_at}
 use Rattle.mir_parse.specs.Types.{ParseType, mut_at, tuple_turn, tuple_goes_on, tuple_from, tuple_at, parens_with, type_with, type_at, type_text_at, types_at}
-use Rattle.mir_parse.proofs.Laws.{in_steps, ok_same, IsRead, ItemLaws, items-complete, items-sound, items_text, comma-sound}
+use Rattle.mir_parse.proofs.Laws.{in_steps, ok_same, IsRead, paren_closes, ItemLaws, items-complete, items-sound, items_text, comma-sound}
 use Rattle.mir_parse.proofs.PathsRead.{path-complete, path-sound, path_grows}
 
 -- a type doesn't begin with `mut`
@@ -325,25 +325,9 @@ type_rule-back t = type-back t
 
 -- ---- type,*
 
-pub paren_only : (ts rest : List Symbol) → closing_paren ts ≡ Some rest → ts ≡ s.Close ∷ rest
-unfolding closing_paren
-paren_only [] rest h = absurd cc
-paren_only (s.Close ∷ ts) rest h = let same : ts ≡ rest = cc in ap (λ l. s.Close ∷ l) same
-paren_only (x ∷ ts) rest h = absurd cc
-
-pub paren_closes : (rest : List Symbol) → closing_paren (s.Close ∷ rest) ≡ Some rest
-unfolding closing_paren
-paren_closes rest = refl
-
-pub paren_comma : (rest : List Symbol) → closing_paren (s.Comma ∷ rest) ≡ None
-unfolding closing_paren
-paren_comma rest = refl
-
 type_laws : (d : ℕ) → ItemLaws closing_paren (type_text_at d) type_put type_text (Nests d) s.Close
 type_laws d = record {
   closes = paren_closes;
-  closes_only = paren_only;
-  no_comma = paren_comma;
   no_item = no_paren;
   before_comma = λ t rest h. type-complete t d (s.Comma ∷ rest) h refl;
   before_sign = λ t rest h. type-complete t d (s.Close ∷ rest) h refl;

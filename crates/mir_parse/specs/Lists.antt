@@ -3,6 +3,8 @@ use Rattle.std.specs.Prelude.{ℕ, zero, suc, true, false, List, [], ◌∷◌, 
 use Rattle.mir_text.specs.declared.symbol.Symbol.{Symbol}
 use Rattle.mir_text.specs.declared.symbol.Symbol.TheVariants as s
 use Rattle.mir_tree.specs.declared.Items.{Items}
+use Rattle.mir_parse.specs.declared.list.Bracket.{Bracket}
+use Rattle.mir_parse.specs.declared.list.Bracket.TheVariants as bracket
 use Rattle.mir_parse.specs.declared.list.Turn.{Turn}
 use Rattle.mir_parse.specs.declared.list.Turn.TheVariants as turn
 use Rattle.mir_parse.specs.Faults.{no_reading}
@@ -20,6 +22,10 @@ closing_paren ts = None
 unfoldable pub closing_brace : Closing
 closing_brace (s.CloseBrace ∷ ts) = Some ts
 closing_brace ts = None
+
+abbrev pub closing : Bracket → Closing
+closing bracket.Paren = closing_paren
+closing bracket.Brace = closing_brace
 
 abbrev pub after_by : Option (List Symbol) → Parse Turn
 after_by (Some past) ts = Ok (turn.Ends false, past)

@@ -21,7 +21,7 @@ mod ty;
 pub use block::parse_block;
 pub use fault::{ParseRefused, SyntaxFault, fault_at, refuse, refuse_with};
 pub use line::{LineText, in_part, parse_line};
-pub use list::{Turn, after_item_brace, after_item_paren, closing_brace, closing_paren};
+pub use list::{Bracket, ReadItem, read_items};
 pub use operand::{parse_operand, parse_value};
 pub use path::parse_path;
 pub use place::parse_place;

@@ -1,7 +1,6 @@
 ghost use Rattle.std.specs.Prelude.{◌≡◌, ◌<◌, ◌≤◌, length, IfOk};
 ghost use Rattle.mir_text.specs.Numbers as numbers;
 ghost use Rattle.mir_parse.specs.Parser.{Gives};
-ghost use Rattle.mir_parse.specs.Lists.{turn_of, closing_paren, closing_brace};
 ghost use Rattle.mir_parse.specs.Operands as spec;
 ghost use Rattle.mir_parse.specs.Promises.{IsParsed, NoneStands, Any};
 ghost use Rattle.mir_text.specs.GrammarPlaces.{value_put, operand_put};
@@ -10,10 +9,10 @@ ghost use Rattle.mir_tree.specs.Bodies.{value_rule, operand_rule};
 
 use crate::ParseRefused;
 use crate::fault::{refuse, refuse_with};
-use crate::list::{Turn, after_item_brace, after_item_paren, closing_brace, closing_paren};
+use crate::list::{Bracket, ReadItem, read_items};
 use crate::place::read_place;
 use crate::sign::{read_close, read_colon, read_colons, read_name};
-use mir_syntax::{IntTy, List};
+use mir_syntax::IntTy;
 use mir_text::Symbol;
 use mir_tree::{Items, NamedText, OperandText, ValueText};
 use std::alloc::Global;
@@ -171,29 +170,25 @@ fn read_named<'a>(
     Ok((NamedText { name, operand }, rest))
 }
 
-/// The next operand of a list, or the parenthesis that closes it.
-#[tactic(auto, unfolding(crate::specs::Lists::turn_of))]
-fn read_operands_turn<'a>(
-    alloc: Global,
-    items: &mut List<OperandText>,
-    symbols: &'a [Symbol],
-) -> Result<(Turn, &'a [Symbol]), ParseRefused>
-    ensures read { Gives (λ f. ((f.0, items.new), f.1.now)) result (turn_of closing_paren spec.operand items.old symbols.now) }
-    ensures shorter { IfOk result (λ f. length f.1.now < length symbols.now) }
-{
-    match closing_paren(symbols) {
-        Some(rest) => Ok((Turn::Ends(true), rest)),
-        None => {
-            let (next, rest) = read_operand(alloc, symbols)?;
-            items.push(next)?;
-            let (turn, rest) = after_item_paren(rest)?;
-            Ok((turn, rest))
-        }
+/// Reads the operands of a list.
+#[derive(Drop)]
+struct OperandReader;
+
+impl ReadItem for OperandReader {
+    type Item = OperandText;
+
+    ghost item = { λ _. spec.operand };
+
+    fn read<'a>(
+        &self,
+        alloc: Global,
+        symbols: &'a [Symbol],
+    ) -> Result<(OperandText, &'a [Symbol]), ParseRefused> {
+        read_operand(alloc, symbols)
     }
 }
 
 /// `operand,*` and the parenthesis that closes it.
-#[tactic(auto, unfolding(crate::specs::Lists::items_from))]
 pub(crate) fn read_operands<'a>(
     alloc: Global,
     symbols: &'a [Symbol],
@@ -201,40 +196,28 @@ pub(crate) fn read_operands<'a>(
     ensures read { Gives (λ f. (f.0, f.1.now)) result (spec.operands_at symbols.now) }
     ensures shorter { IfOk result (λ f. length f.1.now < length symbols.now) }
 {
-    let mut items = List::new(alloc);
-    let mut rest = symbols;
-    'turns: loop {
-        let (turn, past) = read_operands_turn(alloc, &mut items, rest)?;
-        match turn {
-            Turn::Ends(trailing) => return Ok((Items { items, trailing }, past)),
-            Turn::More => rest = past,
-        }
-    }
+    read_items(alloc, &OperandReader, Bracket::Paren, symbols)
 }
 
-/// The next named operand of a list, or the brace that closes it.
-#[tactic(auto, unfolding(crate::specs::Lists::turn_of))]
-fn read_nameds_turn<'a>(
-    alloc: Global,
-    items: &mut List<NamedText>,
-    symbols: &'a [Symbol],
-) -> Result<(Turn, &'a [Symbol]), ParseRefused>
-    ensures read { Gives (λ f. ((f.0, items.new), f.1.now)) result (turn_of closing_brace spec.named items.old symbols.now) }
-    ensures shorter { IfOk result (λ f. length f.1.now < length symbols.now) }
-{
-    match closing_brace(symbols) {
-        Some(rest) => Ok((Turn::Ends(true), rest)),
-        None => {
-            let (next, rest) = read_named(alloc, symbols)?;
-            items.push(next)?;
-            let (turn, rest) = after_item_brace(rest)?;
-            Ok((turn, rest))
-        }
+/// Reads the named operands of a list.
+#[derive(Drop)]
+struct NamedReader;
+
+impl ReadItem for NamedReader {
+    type Item = NamedText;
+
+    ghost item = { λ _. spec.named };
+
+    fn read<'a>(
+        &self,
+        alloc: Global,
+        symbols: &'a [Symbol],
+    ) -> Result<(NamedText, &'a [Symbol]), ParseRefused> {
+        read_named(alloc, symbols)
     }
 }
 
 /// `named,*` and the brace that closes it.
-#[tactic(auto, unfolding(crate::specs::Lists::items_from))]
 pub(crate) fn read_nameds<'a>(
     alloc: Global,
     symbols: &'a [Symbol],
@@ -242,15 +225,7 @@ pub(crate) fn read_nameds<'a>(
     ensures read { Gives (λ f. (f.0, f.1.now)) result (spec.nameds_at symbols.now) }
     ensures shorter { IfOk result (λ f. length f.1.now < length symbols.now) }
 {
-    let mut items = List::new(alloc);
-    let mut rest = symbols;
-    'turns: loop {
-        let (turn, past) = read_nameds_turn(alloc, &mut items, rest)?;
-        match turn {
-            Turn::Ends(trailing) => return Ok((Items { items, trailing }, past)),
-            Turn::More => rest = past,
-        }
-    }
+    read_items(alloc, &NamedReader, Bracket::Brace, symbols)
 }
 
 /// Parses a constant behind the word `const`, and answers what stands past it.

@@ -1,6 +1,5 @@
 ghost use Rattle.std.specs.Prelude.{◌≡◌, ◌+◌, ◌-◌, ◌<◌, ◌≤◌, length, Err, IfOk};
 ghost use Rattle.mir_parse.specs.Parser.{Gives, GivesValue};
-ghost use Rattle.mir_parse.specs.Lists.{closing_paren, turn_of};
 ghost use Rattle.mir_parse.specs.Types as spec;
 ghost use Rattle.mir_parse.specs.Promises.{IsParsed, NoneStands, NoColons, Any};
 ghost use Rattle.mir_text.specs.GrammarTypes.{TypeRule, TypesRule, type_put, types_put};
@@ -8,7 +7,7 @@ ghost use Rattle.mir_text.specs.Nesting.{type_depth, types_depth};
 ghost use Rattle.mir_tree.specs.Types.{type_rule, types_rule};
 
 use crate::fault::{fault_at, no_reading, refuse};
-use crate::list::{Turn, after_item_paren, closing_paren};
+use crate::list::{Bracket, ReadItem, Turn, after_item, read_items};
 use crate::path::read_path;
 use crate::sign::read_comma;
 use crate::{ParseRefused, SyntaxFault};
@@ -156,7 +155,7 @@ fn read_tuple_turn<'a>(
         [Symbol::Close, rest @ ..] => Ok(((Turn::Ends(true), count), rest)),
         _ => {
             let rest = read_parts(alloc, parts, symbols, depth)?;
-            let (turn, rest) = after_item_paren(rest)?;
+            let (turn, rest) = after_item(Bracket::Paren, rest)?;
             let count = one_more(count)?;
             Ok(((turn, count), rest))
         }
@@ -207,30 +206,27 @@ pub(crate) fn read_type<'a>(
     Ok((TypeText { parts }, rest))
 }
 
-/// The next type of a list, or the parenthesis that closes it.
-#[tactic(auto, unfolding(crate::specs::Lists::turn_of))]
-fn read_types_turn<'a>(
-    alloc: Global,
-    types: &mut List<TypeText>,
-    symbols: &'a [Symbol],
+/// Reads the types of a list, which nest no deeper than `depth`.
+#[derive(Drop)]
+struct TypeReader {
     depth: u32,
-) -> Result<(Turn, &'a [Symbol]), ParseRefused>
-    ensures read { Gives (λ f. ((f.0, types.new), f.1.now)) result (turn_of closing_paren (spec.type_text_at depth) types.old symbols.now) }
-    ensures shorter { IfOk result (λ f. length f.1.now < length symbols.now) }
-{
-    match closing_paren(symbols) {
-        Some(rest) => Ok((Turn::Ends(true), rest)),
-        None => {
-            let (ty, rest) = read_type(alloc, symbols, depth)?;
-            types.push(ty)?;
-            let (turn, rest) = after_item_paren(rest)?;
-            Ok((turn, rest))
-        }
+}
+
+impl ReadItem for TypeReader {
+    type Item = TypeText;
+
+    ghost item = { λ reader. spec.type_text_at reader.depth };
+
+    fn read<'a>(
+        &self,
+        alloc: Global,
+        symbols: &'a [Symbol],
+    ) -> Result<(TypeText, &'a [Symbol]), ParseRefused> {
+        read_type(alloc, symbols, self.depth)
     }
 }
 
 /// `type,*` and the parenthesis that closes it; each type nests no deeper than `depth`.
-#[tactic(auto, unfolding(crate::specs::Lists::items_from))]
 fn read_types<'a>(
     alloc: Global,
     symbols: &'a [Symbol],
@@ -239,15 +235,7 @@ fn read_types<'a>(
     ensures read { Gives (λ f. (f.0, f.1.now)) result (spec.types_at depth symbols.now) }
     ensures shorter { IfOk result (λ f. length f.1.now < length symbols.now) }
 {
-    let mut items = List::new(alloc);
-    let mut rest = symbols;
-    'turns: loop {
-        let (turn, past) = read_types_turn(alloc, &mut items, rest, depth)?;
-        match turn {
-            Turn::Ends(trailing) => return Ok((Items { items, trailing }, past)),
-            Turn::More => rest = past,
-        }
-    }
+    read_items(alloc, &TypeReader { depth }, Bracket::Paren, symbols)
 }
 
 /// Parses a type that nests at most `depth` deep, itself counted, and answers what stands past it.

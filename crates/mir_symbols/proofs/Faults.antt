@@ -12,34 +12,10 @@ use Rattle.mir_text.specs.ReadFaults.{NoPiece, LargeNumber, OpenString, IsByteFa
 use Rattle.mir_lex.specs.declared.scan.Found.{Found}
 use Rattle.mir_lex.specs.Tokens.{number_of, number_with, number_at, text_past, text_with, token_at, found_token, found_at, found_from}
 use Rattle.mir_lex.specs.Pieces.{FaultAt}
-use Rattle.mir_lex.proofs.PiecesFound.{run-front}
-use Rattle.mir_lex.proofs.PiecesSound.{found_sound, fault_sound}
-
-on : {R : Type 0} (c : Bool) → (c ≡ true → R) → (c ≡ false → R) → R
-on true k_true k_false = k_true refl
-on false k_true k_false = k_false refl
+use Rattle.mir_lex.proofs.PiecesFound.{run-front, by_digit}
+use Rattle.mir_lex.proofs.PiecesSound.{on, run-all, run-stops, found_sound, fault_sound}
 
 -- ---- a fault that is found is one
-
-run-all : (p : ℕ → Bool) (bs : List ℕ) → AreAll p (take (prefix_len p bs) bs)
-run-all p [] = tt
-run-all p (b ∷ bs) = on (p b)
-    (λ e. let one : 1 + prefix_len p bs ≡ suc (prefix_len p bs) = omega arith in rw (e, one) (e, run-all p bs))
-    (λ e. rw e tt)
-
-run-stops : (p : ℕ → Bool) (bs : List ℕ) → begins p (drop (prefix_len p bs) bs) ≡ false
-run-stops p [] = refl
-run-stops p (b ∷ bs) = on (p b)
-    (λ e. let one : 1 + prefix_len p bs ≡ suc (prefix_len p bs) = omega arith in rw (e, one) (run-stops p bs))
-    (λ e. rw e e)
-
-by_digit : (d : ℕ) (bs : List ℕ) → is_ascii_digit d ≡ true → found_at d bs ≡ found_token (number_at (d ∷ bs))
-unfolding found_at token_at
-by_digit d bs h =
-    let a : is_blank d ≡ false = grind (arith, nat_tests) in
-    let b : (d == 10) ≡ false = grind (arith, nat_tests) in
-    let c : (d == 47) ≡ false = grind (arith, nat_tests) in
-    rw (a, b, c, h) refl
 
 too-large : (ds bs : List ℕ) (code : ℕ) → found_token (number_with (number_of ds) bs) ≡ Err code → 2 ^ 128 ≤ digits_value 10 ds
 unfolding number_of

@@ -13,12 +13,9 @@ use Rattle.mir_lex.specs.declared.scan.Found.{Found}
 use Rattle.mir_lex.specs.Tokens.{number_of, local_of, block_of, kind_by, kind_of, found_from}
 use Rattle.mir_lex.specs.Pieces.{mark_place, found_of}
 use Rattle.mir_lex.proofs.PiecesFound.{piece-found, some_bytes}
+use Rattle.mir_lex.proofs.PiecesSound.{on}
 use Rattle.mir_symbols.specs.declared.scan.Symbols.{Symbols}
 use Rattle.mir_symbols.specs.Scan.{sign_symbol, large_symbol, plain_symbol, inside, kind_token, with_token, taking, goes_on, scan_from}
-
-on : {R : Type 0} (c : Bool) → (c ≡ true → R) → (c ≡ false → R) → R
-on true k_true k_false = k_true refl
-on false k_true k_false = k_false refl
 
 -- ---- a token of a piece
 

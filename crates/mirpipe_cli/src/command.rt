@@ -2,9 +2,6 @@ ghost use Rattle.std.specs.Prelude.{◌≡◌, ◌≤◌, List, ℕ, Some, IfOk,
 ghost use Rattle.std.specs.Io.KnownBytes.{IsAtEnd};
 ghost use Rattle.pipe_io.specs.Causes.{Rose};
 ghost use Rattle.mir_syntax.specs.Crate.{Crate, crate_of};
-ghost use Rattle.mir_syntax.specs.Drops.{KnowsDrops};
-ghost use Rattle.mir_syntax.specs.Ids.{IdsInTable};
-ghost use Rattle.mir_rules.specs.Valid.{Valid, Within};
 ghost use Rattle.mir_print.specs.Prints.{Prints};
 ghost use Rattle.pipe_words.specs.declared.command.Command.TheVariants.{Check, Seq, Run};
 ghost use Rattle.mirpipe_cli.specs.Refused.{IsAccepted, IsFaulty, OfInput};
@@ -45,30 +42,26 @@ fn counted(alloc: Global, program: &Program) -> Result<List<u8>, OutOfMemory>
 }
 
 fn check(alloc: Global, accepted: Accepted) -> Result<Output, Refusal>
-    ensures writes { (input : List ℕ) → IsAccepted input (crate_of accepted.program) accepted.lines → IfOk result (λ output. Writes Check input (bytes_of output)) }
+    ensures writes { (input : List ℕ) → IsAccepted input (crate_of accepted.valid) accepted.lines → IfOk result (λ output. Writes Check input (bytes_of output)) }
     ensures refused { IfErr result (OfInput (λ _. ⊥)) }
     ensures no_source { IsErrOf result Refusal.ReadFault → ⊥ }
 {
-    match counted(alloc, &accepted.program) {
+    match counted(alloc, accepted.valid.program()) {
         Ok(line) => Ok(Output::Line(line)),
         Err(OutOfMemory) => Err(Refusal::OutOfMemory),
     }
 }
 
 fn seq(alloc: Global, accepted: Accepted) -> Result<Output, Refusal>
-    requires knows { KnowsDrops accepted.program }
-    requires ids { IdsInTable accepted.program }
-    requires valid { Valid (crate_of accepted.program) }
-    requires within { Within (crate_of accepted.program) }
-    ensures writes { (input : List ℕ) → IsAccepted input (crate_of accepted.program) accepted.lines → IfOk result (λ output. Writes Seq input (bytes_of output)) }
-    ensures refines { (input : List ℕ) → IsAccepted input (crate_of accepted.program) accepted.lines → IfOk result (λ output. IsOptimised input (bytes_of output)) }
-    ensures refused { (input : List ℕ) → IsAccepted input (crate_of accepted.program) accepted.lines → IfErr result (OfInput (IsFaulty input)) }
+    ensures writes { (input : List ℕ) → IsAccepted input (crate_of accepted.valid) accepted.lines → IfOk result (λ output. Writes Seq input (bytes_of output)) }
+    ensures refines { (input : List ℕ) → IsAccepted input (crate_of accepted.valid) accepted.lines → IfOk result (λ output. IsOptimised input (bytes_of output)) }
+    ensures refused { (input : List ℕ) → IsAccepted input (crate_of accepted.valid) accepted.lines → IfErr result (OfInput (IsFaulty input)) }
     ensures no_source { IsErrOf result Refusal.ReadFault → ⊥ }
 {
-    if let Some(line) = first_drop(&accepted.program, &accepted.lines) {
+    if let Some(line) = first_drop(accepted.valid.program(), &accepted.lines) {
         return Err(Refusal::Input(InputFault::Drops { line }));
     }
-    match optimised(alloc, accepted.program) {
+    match optimised(alloc, accepted.valid) {
         Ok(program) => Ok(Output::Crate(program)),
         Err(OutOfMemory) => Err(Refusal::OutOfMemory),
     }
@@ -82,16 +75,13 @@ fn run(
     answers: List<u128>,
     steps: u64,
 ) -> Result<Output, Refusal>
-    requires knows { KnowsDrops accepted.program }
-    requires valid { Valid (crate_of accepted.program) }
-    requires within { Within (crate_of accepted.program) }
-    ensures writes { (input : List ℕ) → IsAccepted input (crate_of accepted.program) accepted.lines → IfOk result (λ output. Writes (Run path args answers steps) input (bytes_of output)) }
-    ensures refused { (input : List ℕ) → IsAccepted input (crate_of accepted.program) accepted.lines → IfErr result (OfInput (Refuses (Run path args answers steps) input)) }
+    ensures writes { (input : List ℕ) → IsAccepted input (crate_of accepted.valid) accepted.lines → IfOk result (λ output. Writes (Run path args answers steps) input (bytes_of output)) }
+    ensures refused { (input : List ℕ) → IsAccepted input (crate_of accepted.valid) accepted.lines → IfErr result (OfInput (Refuses (Run path args answers steps) input)) }
     ensures no_source { IsErrOf result Refusal.ReadFault → ⊥ }
 {
     let ran = run_function(
         alloc,
-        &accepted.program,
+        &accepted.valid,
         path.as_slice(),
         args.as_slice(),
         answers.as_slice(),

@@ -1,8 +1,5 @@
 ghost use Rattle.std.specs.Prelude.{List, ℕ, IfOk, IfErr, IsErrOf};
 ghost use Rattle.mir_syntax.specs.Crate.{crate_of};
-ghost use Rattle.mir_syntax.specs.Drops.{KnowsDrops};
-ghost use Rattle.mir_syntax.specs.Ids.{IdsInTable};
-ghost use Rattle.mir_rules.specs.Valid.{Valid, Within};
 ghost use Rattle.pass_order.specs.Stages.{HasStep};
 ghost use Rattle.pipe_words.specs.declared.command.Command.TheVariants.{Dump};
 ghost use Rattle.mirpipe_cli.specs.Refused.{IsAccepted, OfInput};
@@ -21,22 +18,19 @@ use std::alloc::Global;
 /// The function with a path as it is at a stage, whose step is there.
 pub fn dump(alloc: Global, accepted: Accepted, stage: Stage, path: Name) -> Result<Output, Refusal>
     requires step { HasStep stage }
-    requires knows { KnowsDrops accepted.program }
-    requires ids { IdsInTable accepted.program }
-    requires valid { Valid (crate_of accepted.program) }
-    requires within { Within (crate_of accepted.program) }
-    ensures writes { (input : List ℕ) → IsAccepted input (crate_of accepted.program) accepted.lines → IfOk result (λ output. Writes (Dump stage path) input (bytes_of output)) }
-    ensures refused { (input : List ℕ) → IsAccepted input (crate_of accepted.program) accepted.lines → IfErr result (OfInput (Refuses (Dump stage path) input)) }
+    ensures writes { (input : List ℕ) → IsAccepted input (crate_of accepted.valid) accepted.lines → IfOk result (λ output. Writes (Dump stage path) input (bytes_of output)) }
+    ensures refused { (input : List ℕ) → IsAccepted input (crate_of accepted.valid) accepted.lines → IfErr result (OfInput (Refuses (Dump stage path) input)) }
     ensures no_source { IsErrOf result Refusal.ReadFault → ⊥ }
 {
-    if let Some(line) = first_drop(&accepted.program, &accepted.lines) {
+    let program = accepted.valid.program();
+    if let Some(line) = first_drop(program, &accepted.lines) {
         return Err(Refusal::Input(InputFault::Drops { line }));
     }
-    let Some(id) = function_at(&accepted.program, path.as_slice()) else {
+    let Some(id) = function_at(program, path.as_slice()) else {
         return Err(Refusal::Input(InputFault::NoFunction));
     };
-    match dumped(alloc, &accepted.program, id, stage) {
-        Ok(function) => Ok(Output::Function(accepted.program, function)),
+    match dumped(alloc, &accepted.valid, id, stage) {
+        Ok(function) => Ok(Output::Function(accepted.valid.into_program(), function)),
         Err(OutOfMemory) => Err(Refusal::OutOfMemory),
     }
 }

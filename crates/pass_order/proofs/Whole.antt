@@ -12,10 +12,11 @@ use Rattle.mir_syntax.specs.Drops.{own_destructor, KnowsDrops}
 use Rattle.mir_syntax.specs.Table.{IsTable}
 use Rattle.mir_syntax.specs.Ids.{function_below, IdsInTable}
 use Rattle.mir_syntax.proofs.Lists.{map_back}
-use Rattle.mir_rules.specs.Valid.{Valid, Within, with_body}
+use Rattle.mir_rules.specs.Valid.{with_body}
 use Rattle.mir_rules.proofs.Lists.{list_all_true, list_all_true-at}
 use Rattle.mir_rules.proofs.Bodies.{Alike, AllAlike, shapes_alike}
 use Rattle.mir_rules.proofs.Terminators.{slice_get_there}
+use Rattle.mir_validate.specs.Checked.{IsChecked}
 use Rattle.pass_order.specs.Passes.{after_passes, optimised}
 use Rattle.pass_order.specs.Fits.{FitsAt}
 use Rattle.pass_order.specs.Programs.{CanPass, PassesTo, header_function}
@@ -37,7 +38,7 @@ each_same f h (y ∷ ys) (x ∷ xs) e s = ap₂ (λ z zs. z ∷ zs) (s 0 x y ref
 each_same f h [] (x ∷ xs) e s = absurd (omega (arith, e))
 each_same f h (y ∷ ys) [] e s = absurd (omega (arith, e))
 
-module _ (p : Program) (valid : Valid (crate_of p)) (within : Within (crate_of p)) (knows : KnowsDrops p) (ids : IdsInTable p) where
+module _ (p : Program) (checked : IsChecked p) where
   abbrev trees : List Tree
   trees = trees_of p.types
 
@@ -50,8 +51,8 @@ module _ (p : Program) (valid : Valid (crate_of p)) (within : Within (crate_of p
 
   knows_with : (fs : List Function) (t : IsTable p.types) → shapes_of (crate_of (with_functions fs t)) ≡ D → KnowsDrops (with_functions fs t)
   knows_with fs t e = record {
-    needs = knows.needs ∙ ap (λ (D : List Shape). map (needs_drop D) (trees_of p.types)) (sym e);
-    destructors = knows.destructors ∙ ap (λ (D : List Shape). map own_destructor D) (sym e);
+    needs = checked.drops.needs ∙ ap (λ (D : List Shape). map (needs_drop D) (trees_of p.types)) (sym e);
+    destructors = checked.drops.destructors ∙ ap (λ (D : List Shape). map own_destructor D) (sym e);
   }
 
   -- ---- the headers alone
@@ -61,20 +62,20 @@ module _ (p : Program) (valid : Valid (crate_of p)) (within : Within (crate_of p
     alone = with_functions headers t
 
     alone_shapes : shapes_of (crate_of (with_functions headers t)) ≡ D
-    alone_shapes = ap (λ (hs : List Function). shapes_of (crate_of (with_functions hs t))) are ∙ shapes_alone (crate_of p) trees p.functions refl valid within
+    alone_shapes = ap (λ (hs : List Function). shapes_of (crate_of (with_functions hs t))) are ∙ shapes_alone (crate_of p) trees p.functions refl checked.valid checked.within
 
     pub knows_alone : KnowsDrops (with_functions headers t)
     knows_alone = knows_with headers t alone_shapes
 
     pub ids_alone : IdsInTable (with_functions headers t)
-    ids_alone = record { defs = ids.defs; outsides = ids.outsides; functions = ap (list_all (function_below (length p.types))) are ∙ headers_below (length p.types) p.functions ids.functions }
+    ids_alone = record { defs = checked.ids.defs; outsides = checked.ids.outsides; functions = ap (list_all (function_below (length p.types))) are ∙ headers_below (length p.types) p.functions checked.ids.functions }
 
     fits_alone : (i : ℕ) (g : Function) → slice_get p.functions i ≡ Some g → FitsAt (crate_of (with_functions headers t)) i (function_of trees (header_function g)) (body_of trees g.body)
-    fits_alone i g e = subst (λ (hs : List Function). FitsAt (crate_of (with_functions hs t)) i (function_of trees (header_function g)) (body_of trees g.body)) (sym are) (body_fits (crate_of p) trees p.functions refl valid within i g e)
+    fits_alone i g e = subst (λ (hs : List Function). FitsAt (crate_of (with_functions hs t)) i (function_of trees (header_function g)) (body_of trees g.body)) (sym are) (body_fits (crate_of p) trees p.functions refl checked.valid checked.within i g e)
 
     pub can_pass_alone : (i : ℕ) (g : Function) → slice_get p.functions i ≡ Some g → CanPass (with_functions headers t) g.body
     can_pass_alone i g e = record {
-      ids = list_all_true-at (function_below (length p.types)) p.functions i g ids.functions e;
+      ids = list_all_true-at (function_below (length p.types)) p.functions i g checked.ids.functions e;
       at = i;
       there = function_of trees (header_function g);
       fits = fits_alone i g e;
@@ -110,8 +111,8 @@ module _ (p : Program) (valid : Valid (crate_of p)) (within : Within (crate_of p
 
       pub ids_after : IdsInTable (with_functions fs t2)
       ids_after = record {
-        defs = ids.defs;
-        outsides = ids.outsides;
+        defs = checked.ids.defs;
+        outsides = checked.ids.outsides;
         functions = list_all_true (function_below (length p.types)) fs (λ i g2 e2.
             (let below = slice_get_within fs i g2 e2 in
             let long = count in

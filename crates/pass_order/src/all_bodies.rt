@@ -3,13 +3,13 @@ ghost use Rattle.mir_syntax.specs.Crate.{crate_of};
 ghost use Rattle.mir_syntax.specs.Drops.{KnowsDrops};
 ghost use Rattle.mir_syntax.specs.Ids.{IdsInTable};
 ghost use Rattle.mir_syntax.specs.declared.body.Function.{Function};
-ghost use Rattle.mir_rules.specs.Valid.{Valid, Within};
 ghost use Rattle.pass_order.specs.Passes.{optimised as optimised_crate};
 ghost use Rattle.pass_order.specs.Programs.{CanPass, PassesTo};
 
 use crate::headers::header_functions;
 use crate::one_body::after_passes;
 use mir_syntax::{Body, Function, List, OutOfMemory, Program};
+use mir_validate::Valid;
 use std::alloc::Global;
 use std::mem;
 
@@ -53,19 +53,15 @@ fn passed_functions(
     Ok(List::from_vec(passed))
 }
 
-/// The program with each body after the passes, in the order of the functions. The drops of the program are known, and stay known. `Err` is
-/// for want of memory alone, and the program is spent then.
-pub fn optimised(alloc: Global, program: Program) -> Result<Program, OutOfMemory>
-    requires knows { KnowsDrops program }
-    requires ids { IdsInTable program }
-    requires valid { Valid (crate_of program) }
-    requires within { Within (crate_of program) }
-    ensures optimised { IfOk result (λ left. crate_of left ≡ optimised_crate (crate_of program)) }
+/// A valid program with each body after the passes, in the order of the functions. Its drops stay known. `Err` is for want of memory alone, and
+/// the program is spent then.
+pub fn optimised(alloc: Global, valid: Valid) -> Result<Program, OutOfMemory>
+    ensures optimised { IfOk result (λ left. crate_of left ≡ optimised_crate (crate_of valid)) }
     ensures in_table { IfOk result (λ left. IdsInTable left) }
     ensures knows { IfOk result (λ left. KnowsDrops left) }
-    ensures types { IfOk result (λ left. left.types ≡ program.types) }
+    ensures types { IfOk result (λ left. left.types ≡ valid.types) }
 {
-    let mut left = program;
+    let mut left = valid.into_program();
     let headers = header_functions(alloc, left.functions.as_slice())?;
     let functions = mem::replace(&mut left.functions, headers);
     left.functions = passed_functions(alloc, &left, functions)?;

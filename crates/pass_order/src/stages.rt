@@ -5,12 +5,12 @@ ghost use Rattle.mir_syntax.specs.Crate.{TypedFunction, crate_of, body_of};
 ghost use Rattle.mir_syntax.specs.Shapes.{shapes_of};
 ghost use Rattle.mir_syntax.specs.Drops.{KnowsDrops};
 ghost use Rattle.mir_syntax.specs.Ids.{IdsInTable, BodyInTable};
-ghost use Rattle.mir_rules.specs.Valid.{Valid, Within};
 ghost use Rattle.pass_order.specs.Stages.{passes_behind, HasStep, at_stage};
 ghost use Rattle.pass_order.specs.Fits.{FitsAt};
 
 use crate::passes::{PASSES, after_all};
 use mir_syntax::{Body, FnId, Function, List, OutOfMemory, Program, Stage};
+use mir_validate::Valid;
 use std::alloc::Global;
 
 /// How many of the passes are behind a body at a stage, or `None` where the stage's step isn't there yet.
@@ -60,23 +60,15 @@ fn with_body(alloc: Global, function: &Function, body: Body) -> Result<Function,
     })
 }
 
-/// A function with its body as it is at a stage, of which the step is there (`passes_behind`): after the passes up to that step. The program stays
-/// as it is. `Err` is for want of memory alone.
-pub fn dumped(
-    alloc: Global,
-    program: &Program,
-    id: FnId,
-    stage: Stage,
-) -> Result<Function, OutOfMemory>
+/// A function of a valid program with its body as it is at a stage, of which the step is there (`passes_behind`): after the passes up to that step.
+/// The program stays as it is. `Err` is for want of memory alone.
+pub fn dumped(alloc: Global, valid: &Valid, id: FnId, stage: Stage) -> Result<Function, OutOfMemory>
     requires step { HasStep stage }
-    requires knows { KnowsDrops program.now }
-    requires ids { IdsInTable program.now }
-    requires valid { Valid (crate_of program.now) }
-    requires within { Within (crate_of program.now) }
-    requires there { id.0 < length program.now.functions }
-    ensures head { (g : declared.Function) → slice_get program.now.functions id.0 ≡ Some g → IfOk result (λ found. found ≡ record g { body = found.body }) }
-    ensures at { (g : declared.Function) → slice_get program.now.functions id.0 ≡ Some g → IfOk result (λ found. at_stage stage (shapes_of (crate_of program.now)) (body_of (trees_of program.now.types) g.body) ≡ Some (body_of (trees_of program.now.types) found.body)) }
+    requires there { id.0 < length valid.now.functions }
+    ensures head { (g : declared.Function) → slice_get valid.now.functions id.0 ≡ Some g → IfOk result (λ found. found ≡ record g { body = found.body }) }
+    ensures at { (g : declared.Function) → slice_get valid.now.functions id.0 ≡ Some g → IfOk result (λ found. at_stage stage (shapes_of (crate_of valid.now)) (body_of (trees_of valid.now.types) g.body) ≡ Some (body_of (trees_of valid.now.types) found.body)) }
 {
+    let program = valid.program();
     let function = &program.functions.as_slice()[id.0 as usize];
     let built = function.body.copy(alloc)?;
     let body = body_at(alloc, program, built, stage)?;

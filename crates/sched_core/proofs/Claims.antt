@@ -5,7 +5,7 @@ use Rattle.sched_core.specs.declared.Status.{Status}
 use Rattle.sched_core.specs.declared.Status.TheVariants.{Claimed, Done, Failed, Stolen}
 use Rattle.sched_core.specs.Plan.{Plan, has, Reads}
 use Rattle.sched_core.specs.State.{State, Entry, upd, queries_of, next_of_top, settled, done, untouched, borrowers, MayClaim, claimed_by}
-use Rattle.sched_core.specs.Good.{Good, IsOnce, Chained, GivenSeen, Borrows, ReadersSettled, StolenFor}
+use Rattle.sched_core.specs.Good.{Good, IsOnce, Chained, GivenSeen, Borrows, StackedClaimed, ClaimedStacked, SeenSettled, GoneFailed, CountsBorrowers, ReadersSettled, StolenFor, StealsTaken, DrawnHeld}
 use Rattle.sched_core.proofs.Upd.{upd_other, upd_tells, upd_at}
 use Rattle.sched_core.proofs.Lists.{bool_tells, next_stands}
 use Rattle.sched_core.proofs.Parts.{borrows_at, waits_else, other_set, nothing_at}
@@ -21,10 +21,10 @@ module _ (p : Plan) (c : State) (w q : ℕ) (g : Good p c) (m : MayClaim p c w q
   abbrev status : ℕ → Status
   status = upd c.status q (Claimed w)
 
-  standing : (v r : ℕ) → has r (queries_of (stack v)) ≡ true → status r ≡ Claimed v
+  standing : StackedClaimed stack status
   standing v r h = grind (arith, nat_tests, upd_tells c.stack w new v, upd_tells c.status q (Claimed w) r, g.standing v r, g.standing w r)
 
-  placed : (v r : ℕ) → status r ≡ Claimed v → has r (queries_of (stack v)) ≡ true
+  placed : ClaimedStacked stack status
   placed v r h = grind (arith, nat_tests, upd_tells c.stack w new v, upd_tells c.status q (Claimed w) r, g.placed v r, g.placed w r)
 
   absent : has q (queries_of (c.stack w)) ≡ false
@@ -37,17 +37,17 @@ module _ (p : Plan) (c : State) (w q : ℕ) (g : Good p c) (m : MayClaim p c w q
   chained v = upd_at c.stack w new (λ es. Chained p (c.root v) es) v
       (λ e. subst (λ (x : ℕ). Chained p (c.root x) new) (sym e) (next_stands p (c.stack w) (c.root w) q m.next, g.chained w)) (λ _. g.chained v)
 
-  seen : (v r : ℕ) → c.seen v r ≡ true → settled (status r) ≡ true
+  seen : SeenSettled c.seen status
   seen v r h = grind (arith, upd_tells c.status q (Claimed w) r, g.seen v r h, m.free)
 
-  gone : (v r : ℕ) → c.gone v r ≡ true → status r ≡ Failed
+  gone : GoneFailed c.gone status
   gone v r h = grind (arith, upd_tells c.status q (Claimed w) r, g.gone v r h, m.free)
 
   given : (v : ℕ) → GivenSeen (c.seen v) (stack v)
   given v = upd_at c.stack w new (λ es. GivenSeen (c.seen v) es) v
       (λ e. subst (λ (x : ℕ). GivenSeen (c.seen x) new) (sym e) ((λ n h. absurd (cc)), g.given w)) (λ _. g.given v)
 
-  counted : (s b : ℕ) → status s ≡ Done b → b ≡ borrowers c.borrow c.workers s
+  counted : CountsBorrowers c.borrow c.workers status
   counted s b h = grind (arith, upd_tells c.status q (Claimed w) s, g.counted s b)
 
   -- the claimant borrows nothing, since what it borrowed would be done and its next need
@@ -72,10 +72,10 @@ module _ (p : Plan) (c : State) (w q : ℕ) (g : Good p c) (m : MayClaim p c w q
       let t = g.stolen_for s old in
       (t.0, t.1, (let k = t.2 in grind (arith, upd_tells c.status q (Claimed w) t.0)))
 
-  taken : (r s : ℕ) → settled (status r) ≡ true → p.steals r ≡ Some s → status s ≡ Stolen
+  taken : StealsTaken p status
   taken r s h k = grind (arith, upd_tells c.status q (Claimed w) s, upd_tells c.status q (Claimed w) r, λ (e : settled (c.status r) ≡ true). g.taken r s e k, m.free)
 
-  drawn : (i : ℕ) → i < c.drawn → (done (status (p.root i)) ≡ true) ⊎ (status (p.root i) ≡ Failed) ⊎ ((v : ℕ) × (v < c.workers) × (c.root v ≡ Some (p.root i)))
+  drawn : DrawnHeld p c.drawn c.workers c.root status
   drawn i lt = elim (g.drawn i lt) [
     | inl h ↦ inl (grind (arith, upd_tells c.status q (Claimed w) (p.root i), m.free))
     | inr (inl h) ↦ inr (inl (grind (arith, upd_tells c.status q (Claimed w) (p.root i), m.free)))

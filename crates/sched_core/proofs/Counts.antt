@@ -5,10 +5,10 @@ use Rattle.sched_core.specs.declared.Status.{Status}
 use Rattle.sched_core.specs.declared.Status.TheVariants.{Claimed, Done, Failed, Stolen}
 use Rattle.sched_core.specs.Plan.{Plan, has, Reads}
 use Rattle.sched_core.specs.State.{State, Entry, upd, queries_of, settled, done, untouched, borrowers, borrowed_more, borrowed_less, give, MayBorrow, MayRelease, borrowed_by, released_by}
-use Rattle.sched_core.specs.Good.{Good, IsOnce, Chained, GivenSeen, Borrows}
+use Rattle.sched_core.specs.Good.{Good, IsOnce, Chained, GivenSeen, Borrows, StackedClaimed, SeenSettled, GoneFailed, CountsBorrowers, ReadersSettled, StolenFor, StealsTaken, DrawnHeld}
 use Rattle.sched_core.proofs.Upd.{upd_same, upd_other, upd_tells, upd_at}
 use Rattle.sched_core.proofs.Lists.{next_stands, has_snoc, one, borrowers_set}
-use Rattle.sched_core.proofs.Parts.{borrows_at, waits_else, waits_same, other_set, nothing_at}
+use Rattle.sched_core.proofs.Parts.{SettledStay, borrows_at, waits_else, waits_same, other_set, nothing_at}
 use Rattle.std.proofs.lemmas.Bool.Decides.{nat_tests}
 
 -- the number of borrowers of s changes from b to a
@@ -19,34 +19,34 @@ module _ (p : Plan) (c : State) (s a b : ℕ) (st : Status) (g : Good p c) (was 
   pub claimed_same : (r v : ℕ) → recounted r ≡ Claimed v → c.status r ≡ Claimed v
   claimed_same r v h = grind (arith, upd_tells c.status s st r)
 
-  pub standing : (v r : ℕ) → has r (queries_of (c.stack v)) ≡ true → recounted r ≡ Claimed v
+  pub standing : StackedClaimed c.stack recounted
   standing v r h = grind (arith, upd_tells c.status s st r, g.standing v r h)
 
-  pub settled_more : (r : ℕ) → settled (c.status r) ≡ true → settled (recounted r) ≡ true
+  pub settled_more : SettledStay c.status recounted
   settled_more r h = grind (arith, upd_tells c.status s st r)
 
-  pub settled_less : (r : ℕ) → settled (recounted r) ≡ true → settled (c.status r) ≡ true
+  pub settled_less : SettledStay recounted c.status
   settled_less r h = grind (arith, upd_tells c.status s st r)
 
-  pub seen : (v r : ℕ) → c.seen v r ≡ true → settled (recounted r) ≡ true
+  pub seen : SeenSettled c.seen recounted
   seen v r h = settled_more r (g.seen v r h)
 
-  pub gone : (v r : ℕ) → c.gone v r ≡ true → recounted r ≡ Failed
+  pub gone : GoneFailed c.gone recounted
   gone v r h = grind (arith, upd_tells c.status s st r, g.gone v r h)
 
   stolen_less : (t : ℕ) → recounted t ≡ Stolen → c.status t ≡ Stolen
   stolen_less t h = grind (arith, upd_tells c.status s st t)
 
-  pub readers : (t r : ℕ) → recounted t ≡ Stolen → Reads p r t → settled (recounted r) ≡ true
+  pub readers : ReadersSettled p recounted
   readers t r h k = settled_more r (g.readers t r (stolen_less t h) k)
 
-  pub stolen_for : (t : ℕ) → recounted t ≡ Stolen → (r : ℕ) × (p.steals r ≡ Some t) × (untouched (recounted r) ≡ false)
+  pub stolen_for : StolenFor p recounted
   stolen_for t h = let o = g.stolen_for t (stolen_less t h) in (o.0, o.1, (let k = o.2 in grind (arith, upd_tells c.status s st o.0)))
 
-  pub taken : (r t : ℕ) → settled (recounted r) ≡ true → p.steals r ≡ Some t → recounted t ≡ Stolen
+  pub taken : StealsTaken p recounted
   taken r t h k = let o = g.taken r t (settled_less r h) k in grind (arith, upd_tells c.status s st t)
 
-  pub drawn : (i : ℕ) → i < c.drawn → (done (recounted (p.root i)) ≡ true) ⊎ (recounted (p.root i) ≡ Failed) ⊎ ((v : ℕ) × (v < c.workers) × (c.root v ≡ Some (p.root i)))
+  pub drawn : DrawnHeld p c.drawn c.workers c.root recounted
   drawn i lt = elim (g.drawn i lt) [
     | inl h ↦ inl (grind (arith, upd_tells c.status s st (p.root i)))
     | inr (inl h) ↦ inr (inl (grind (arith, upd_tells c.status s st (p.root i))))
@@ -70,7 +70,7 @@ module _ (p : Plan) (c : State) (w s : ℕ) (e : Entry) (es : List Entry) (b : �
   is_more : st ≡ Done (b + 1)
   is_more = ap borrowed_more m.done
 
-  counted : (t a : ℕ) → upd c.status s st t ≡ Done a → a ≡ borrowers (upd c.borrow w (Some s)) c.workers t
+  counted : CountsBorrowers (upd c.borrow w (Some s)) c.workers (upd c.status s st)
   counted t a h = elim (upd_tells c.status s st t) [ inl k ↦ here k | inr k ↦ there k ]
     where
       none : one (c.borrow w) t ≡ 0
@@ -167,7 +167,7 @@ module _ (p : Plan) (c : State) (w s : ℕ) (g : Good p c) (m : MayRelease p c w
   same_queries : (v : ℕ) → queries_of (upd c.stack w given_up v) ≡ queries_of (c.stack v)
   same_queries v = upd_at c.stack w given_up (λ es. queries_of es ≡ queries_of (c.stack v)) v (λ e. queries_give s (c.stack w) ∙ ap (λ (x : ℕ). queries_of (c.stack x)) (sym e)) (λ _. refl)
 
-  counted' : (t a : ℕ) → upd c.status s st' t ≡ Done a → a ≡ borrowers (upd c.borrow w None) c.workers t
+  counted' : CountsBorrowers (upd c.borrow w None) c.workers (upd c.status s st')
   counted' t a h = elim (upd_tells c.status s st' t) [ inl k ↦ here k | inr k ↦ there k ]
     where
       here : (t ≡ s) × (upd c.status s st' t ≡ st') → a ≡ borrowers (upd c.borrow w None) c.workers t

@@ -5,10 +5,10 @@ use Rattle.sched_core.specs.declared.Status.{Status}
 use Rattle.sched_core.specs.declared.Status.TheVariants.{Claimed, Done, Failed, Stolen}
 use Rattle.sched_core.specs.Plan.{Plan, IsLawful, has, Reads}
 use Rattle.sched_core.specs.State.{State, Entry, upd, queries_of, settled, done, untouched, borrowers, below_top, MayPublish, MayFail, published_by, failed_by}
-use Rattle.sched_core.specs.Good.{Good, IsOnce, Chained, GivenSeen, Borrows, ReadersSettled, StolenFor}
+use Rattle.sched_core.specs.Good.{Good, IsOnce, Chained, GivenSeen, Borrows, StackedClaimed, ClaimedStacked, SeenSettled, GoneFailed, CountsBorrowers, ReadersSettled, StolenFor, StealsTaken, DrawnHeld}
 use Rattle.sched_core.proofs.Upd.{upd_same, upd_other, upd_tells, upd_at}
 use Rattle.sched_core.proofs.Lists.{borrowers_none}
-use Rattle.sched_core.proofs.Parts.{borrows_at, waits_else, more, more_tells, more_keeps, given_more, other_set, nothing_at}
+use Rattle.sched_core.proofs.Parts.{SettledStay, borrows_at, waits_else, more, more_tells, more_keeps, given_more, other_set, nothing_at}
 use Rattle.std.proofs.lemmas.Bool.Decides.{nat_tests}
 use Rattle.sched_core.proofs.Steals.{top_claimed}
 
@@ -54,12 +54,12 @@ module _ (p : Plan) (c : State) (w : ℕ) (e : Entry) (es : List Entry) (st : St
       less_of : (r y : ℕ) (ys : List ℕ) → r ≢ y → has r (y ∷ ys) ≡ true → has r ys ≡ true
       less_of r y ys ne h = grind (arith, nat_tests)
 
-  pub standing : (v r : ℕ) → has r (queries_of (stack v)) ≡ true → status r ≡ Claimed v
+  pub standing : StackedClaimed stack status
   standing v r = upd_at c.stack w rest (λ xs. has r (queries_of xs) ≡ true → status r ≡ Claimed v) v
       (λ k h. let i = in_rest r h in let o = g.standing w r i.1 in let k' : v ≡ w = k in let u = upd_other c.status q st r i.0 in u ∙ (o ∙ ap Claimed (sym k)))
       (λ ne h. let o = g.standing v r h in upd_at c.status q st (λ x. x ≡ Claimed v) r (λ k. absurd (let same : Claimed w ≡ Claimed v = sym mine ∙ subst (λ (x : ℕ). c.status x ≡ Claimed v) k o in ne (cc))) (λ _. o))
 
-  pub placed : (v r : ℕ) → status r ≡ Claimed v → has r (queries_of (stack v)) ≡ true
+  pub placed : ClaimedStacked stack status
   placed v r h = elim (upd_tells c.status q st r) [
     | inl k ↦ absurd (unclaimed v (sym k.1 ∙ h))
     | inr k ↦ let o = g.placed v r (sym k.1 ∙ h) in
@@ -80,20 +80,20 @@ module _ (p : Plan) (c : State) (w : ℕ) (e : Entry) (es : List Entry) (st : St
       given_more (c.seen v) (f v) (m v) (stack v) (upd_at c.stack w rest (λ xs. GivenSeen (c.seen v) xs) v
       (λ k. subst (λ (x : ℕ). GivenSeen (c.seen x) rest) (sym k) (subst (λ (xs : List Entry). GivenSeen (c.seen w) xs) (sym rest_is) o.1)) (λ _. g.given v))
 
-  settled_more : (r : ℕ) → settled (c.status r) ≡ true → settled (status r) ≡ true
+  settled_more : SettledStay c.status status
   settled_more r h = let m = mine in grind (arith, upd_tells c.status q st r)
 
-  pub seen : (v r : ℕ) → c.seen v r ≡ true → settled (status r) ≡ true
+  pub seen : SeenSettled c.seen status
   seen v r h = settled_more r (g.seen v r h)
 
-  pub gone : (v r : ℕ) → c.gone v r ≡ true → status r ≡ Failed
+  pub gone : GoneFailed c.gone status
   gone v r h = let m = mine in let o = g.gone v r h in grind (arith, upd_tells c.status q st r)
 
   -- nobody borrows q, which was claimed
   unborrowed : (v : ℕ) → c.borrow v ≡ Some q → ⊥
   unborrowed v h = let o = g.borrowed v q h in let d = o.done in let m = mine in cc
 
-  pub counted : ((a : ℕ) → st ≡ Done a → a ≡ 0) → (t a : ℕ) → status t ≡ Done a → a ≡ borrowers c.borrow c.workers t
+  pub counted : ((a : ℕ) → st ≡ Done a → a ≡ 0) → CountsBorrowers c.borrow c.workers status
   counted none t a h = elim (upd_tells c.status q st t) [
     | inl k ↦ none a (sym k.1 ∙ h) ∙ sym (subst (λ (x : ℕ). borrowers c.borrow c.workers x ≡ 0) (sym k.0) (borrowers_none c.borrow q c.workers (λ v _. unborrowed v)))
     | inr k ↦ g.counted t a (sym k.1 ∙ h)
@@ -114,7 +114,7 @@ module _ (p : Plan) (c : State) (w : ℕ) (e : Entry) (es : List Entry) (st : St
   pub stolen_for : StolenFor p status
   stolen_for t h = let o = g.stolen_for t (stolen_less t h) in (o.0, o.1, (let k = o.2 in grind (arith, upd_tells c.status q st o.0)))
 
-  pub taken : (settled st ≡ true → (s : ℕ) → p.steals q ≡ Some s → c.status s ≡ Stolen) → (r t : ℕ) → settled (status r) ≡ true → p.steals r ≡ Some t → status t ≡ Stolen
+  pub taken : (settled st ≡ true → (s : ℕ) → p.steals q ≡ Some s → c.status s ≡ Stolen) → StealsTaken p status
   taken stole r t h k =
       let old : c.status t ≡ Stolen = elim (upd_tells c.status q st r) [
         | inl i ↦ stole (ap settled (sym i.1) ∙ h) t (subst (λ (x : ℕ). p.steals x ≡ Some t) i.0 k)
@@ -122,7 +122,7 @@ module _ (p : Plan) (c : State) (w : ℕ) (e : Entry) (es : List Entry) (st : St
       ] in
       let m = mine in grind (arith, upd_tells c.status q st t)
 
-  pub drawn : ((done st ≡ true) ⊎ (st ≡ Failed)) → (i : ℕ) → i < c.drawn → (done (status (p.root i)) ≡ true) ⊎ (status (p.root i) ≡ Failed) ⊎ ((v : ℕ) × (v < c.workers) × (c.root v ≡ Some (p.root i)))
+  pub drawn : ((done st ≡ true) ⊎ (st ≡ Failed)) → DrawnHeld p c.drawn c.workers c.root status
   drawn ends i lt = elim (upd_tells c.status q st (p.root i)) [
     | inl k ↦ elim ends [ inl o ↦ inl (ap done k.1 ∙ o) | inr o ↦ inr (inl (k.1 ∙ o)) ]
     | inr k ↦ elim (g.drawn i lt) [ inl h ↦ inl (ap done k.1 ∙ h) | inr (inl h) ↦ inr (inl (k.1 ∙ h)) | inr (inr h) ↦ inr (inr h) ]

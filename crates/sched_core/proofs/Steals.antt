@@ -5,10 +5,10 @@ use Rattle.sched_core.specs.declared.Status.{Status}
 use Rattle.sched_core.specs.declared.Status.TheVariants.{Claimed, Done, Failed, Stolen}
 use Rattle.sched_core.specs.Plan.{Plan, IsLawful, has, Reads}
 use Rattle.sched_core.specs.State.{State, Entry, upd, queries_of, settled, done, untouched, borrowers, AllSeen, MaySteal, stolen_by}
-use Rattle.sched_core.specs.Good.{Good, GivenSeen, Borrows, ReadersSettled, StolenFor}
+use Rattle.sched_core.specs.Good.{Good, GivenSeen, Borrows, StackedClaimed, ClaimedStacked, GoneFailed, CountsBorrowers, ReadersSettled, StolenFor, StealsTaken, DrawnHeld}
 use Rattle.sched_core.proofs.Upd.{upd_other, upd_tells}
 use Rattle.sched_core.proofs.Lists.{borrowers_some, has_first}
-use Rattle.sched_core.proofs.Parts.{borrows_at, waits_same, other_set, nothing_at}
+use Rattle.sched_core.proofs.Parts.{SettledStay, borrows_at, waits_same, other_set, nothing_at}
 
 -- a query isn't its own need
 pub not_own : (p : Plan) (l : IsLawful p) (q : ℕ) → has q (p.needs q) ≡ true → ⊥
@@ -30,19 +30,19 @@ module _ (p : Plan) (c : State) (w s : ℕ) (e : Entry) (es : List Entry) (l : I
   abbrev status : ℕ → Status
   status = upd c.status s Stolen
 
-  standing : (v r : ℕ) → has r (queries_of (c.stack v)) ≡ true → status r ≡ Claimed v
+  standing : StackedClaimed c.stack status
   standing v r h = grind (arith, upd_tells c.status s Stolen r, g.standing v r h, m.done)
 
-  placed : (v r : ℕ) → status r ≡ Claimed v → has r (queries_of (c.stack v)) ≡ true
+  placed : ClaimedStacked c.stack status
   placed v r h = grind (arith, upd_tells c.status s Stolen r, g.placed v r)
 
-  settled_more : (r : ℕ) → settled (c.status r) ≡ true → settled (status r) ≡ true
+  settled_more : SettledStay c.status status
   settled_more r h = grind (arith, upd_tells c.status s Stolen r)
 
-  gone : (v r : ℕ) → c.gone v r ≡ true → status r ≡ Failed
+  gone : GoneFailed c.gone status
   gone v r h = grind (arith, upd_tells c.status s Stolen r, g.gone v r h, m.done)
 
-  counted : (t a : ℕ) → status t ≡ Done a → a ≡ borrowers c.borrow c.workers t
+  counted : CountsBorrowers c.borrow c.workers status
   counted t a h = grind (arith, upd_tells c.status s Stolen t, g.counted t a)
 
   -- nobody borrows what is stolen
@@ -66,12 +66,12 @@ module _ (p : Plan) (c : State) (w s : ℕ) (e : Entry) (es : List Entry) (l : I
     | inr i ↦ let o = g.stolen_for t (sym i.1 ∙ h) in (o.0, o.1, (let k = o.2 in grind (arith, upd_tells c.status s Stolen o.0)))
   ]
 
-  taken : (r t : ℕ) → settled (status r) ≡ true → p.steals r ≡ Some t → status t ≡ Stolen
+  taken : StealsTaken p status
   taken r t h k =
       let old : settled (c.status r) ≡ true = grind (arith, upd_tells c.status s Stolen r, m.done) in
       let o = g.taken r t old k in grind (arith, upd_tells c.status s Stolen t)
 
-  drawn : (i : ℕ) → i < c.drawn → (done (status (p.root i)) ≡ true) ⊎ (status (p.root i) ≡ Failed) ⊎ ((v : ℕ) × (v < c.workers) × (c.root v ≡ Some (p.root i)))
+  drawn : DrawnHeld p c.drawn c.workers c.root status
   drawn i lt =
       let ne : p.root i ≢ s = λ k. l.roots_stay i e.0 (subst (λ (x : ℕ). p.steals e.0 ≡ Some x) (sym k) m.steals) in
       let same = upd_other c.status s Stolen (p.root i) ne in

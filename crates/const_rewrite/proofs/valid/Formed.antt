@@ -20,7 +20,7 @@ use Rattle.mir_syntax.specs.Shapes.{Shape}
 use Rattle.mir_semantics.specs.Step.{Here, scalar_in, scalar_ty_of, take_arm}
 use Rattle.mir_syntax.specs.Parts.{operand_places, rvalue_operands, rvalue_places, term_operands, term_places, targets, arm_block}
 use Rattle.mir_rules.specs.Formed.{const_formed, operand_formed, place_formed, shape_formed, rvalue_formed, stmt_formed, call_formed, block_there, term_formed, block_formed, has_start, body_formed, type_formed}
-use Rattle.mir_rules.proofs.Lists.{and_true-left, and_true-right, list_all_true}
+use Rattle.mir_rules.proofs.Lists.{and_true-left, and_true-right, list_all_true, list_all_true-left, list_all_true-right}
 use Rattle.mir_rules.proofs.ValidCrates.{stmt_formed_at, term_formed_at}
 use Rattle.const_flow.specs.declared.cell.Cell.{Cell}
 use Rattle.const_flow.specs.declared.cell.Cell.TheVariants.{Nothing, Num, Many}
@@ -33,15 +33,6 @@ use Rattle.mir_relate.proofs.Formed.{same_locals_stmt, BlocksFormed}
 
 constant_formed : (o : Option ScalarTy) (k : Cell) (c : Const) → literal_of o k ≡ Some c → const_formed c ≡ true
 constant_formed o k c e = let (t, n, et, ek, el) = literal_known o k c e in literal_formed t n c el
-
-all_append : {A : Type 0} (p : A → Bool) (xs ys : List A) → list_all p xs ≡ true → list_all p ys ≡ true → list_all p (xs ++ ys) ≡ true
-all_append p xs ys e f = list_all-append p xs ys ∙ and_from (list_all p xs) (list_all p ys) e f
-
-all_left : {A : Type 0} (p : A → Bool) (xs ys : List A) → list_all p (xs ++ ys) ≡ true → list_all p xs ≡ true
-all_left p xs ys e = and_true-left (list_all p xs) (list_all p ys) (sym (list_all-append p xs ys) ∙ e)
-
-all_right : {A : Type 0} (p : A → Bool) (xs ys : List A) → list_all p (xs ++ ys) ≡ true → list_all p ys ≡ true
-all_right p xs ys e = and_true-right (list_all p xs) (list_all p ys) (sym (list_all-append p xs ys) ∙ e)
 
 module _ (D : List Shape) (locals : List Tree) (fs : Facts) where
   abbrev T : Here
@@ -70,7 +61,10 @@ module _ (D : List Shape) (locals : List Tree) (fs : Facts) where
 
     all_places : (os : List Operand) → list_all pl (flat_map operand_places os) ≡ true → list_all pl (flat_map operand_places (folded_operands T fs os)) ≡ true
     all_places [] e = refl
-    all_places (o ∷ os) e = all_append pl (operand_places (folded_operand T fs o)) (flat_map operand_places (folded_operands T fs os)) (fold_places o (all_left pl (operand_places o) (flat_map operand_places os) e)) (all_places os (all_right pl (operand_places o) (flat_map operand_places os) e))
+    all_places (o ∷ os) e =
+        list_all-append pl (operand_places (folded_operand T fs o)) (flat_map operand_places (folded_operands T fs os))
+        ∙ and_from _ _ (fold_places o (list_all_true-left pl (operand_places o) (flat_map operand_places os) e))
+        (all_places os (list_all_true-right pl (operand_places o) (flat_map operand_places os) e))
 
     -- what is asked of an rvalue's parts
     abbrev Fine : TypedRvalue → Type 0

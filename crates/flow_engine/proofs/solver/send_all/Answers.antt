@@ -3,9 +3,9 @@ use Rattle.std.proofs.lemmas.List.{take_more, length-set}
 use Rattle.std.proofs.lemmas.List.Elements.{Contains-get_or}
 use Rattle.std.proofs.lemmas.Option.{slice_get_read, slice_get_within, get_or_from_slice_get}
 use Rattle.flow_engine.specs.declared.edges.Edge.{Edge}
-use Rattle.flow_engine.specs.Solving.{IsGoing, IsWork, waiting}
+use Rattle.flow_engine.specs.Solving.{IsGoing}
 use Rattle.flow_engine.specs.Flow.{problem}
-use Rattle.flow_engine.proofs.Going.{sent_if, starts_count}
+use Rattle.flow_engine.proofs.Going.{Sent, sent_if, starts_count}
 use Rattle.flow_engine.proofs.solver.send_all.Goals as goal
 
 pub bounds-edges-edge : goal.bounds-edges-edge
@@ -39,13 +39,8 @@ join-requires g c =
       subst (g.A.Analysis.is_fact c.args.analysis.now) (sym c.in_ok-flown.ensures) (law.flow_ok i c.index.result.now (c.loop-edge.invariant.1.under.facts c.args.block c.index.result.now at_from)),
     )
 
-pub add_if-requires-clause-work : goal.add_if-requires-clause-work
-add_if-requires-clause-work g c =
-    let w = c.loop-edge.invariant.1.work in
-    subst (λ k. IsWork k (waiting c.loop-edge.work) c.loop-edge.work.waits.items) (sym w.long) w
-
-pub add_if-requires-clause-within : goal.add_if-requires-clause-within
-add_if-requires-clause-within g c =
+pub add_if-requires : goal.add_if-requires
+add_if-requires g c =
     let a = c.args.analysis.now in
     let m = g.A.Analysis in
     let law = g.met.A.Analysis.lawful c.args.analysis.now in
@@ -56,7 +51,7 @@ add_if-requires-clause-within g c =
     let p = c.requires.leaves i (Contains-get_or c.args.leaving.now c.loop-edge.edge-index 0 (omega arith)) in
     let e = get_or es i d in
     let inside = c.requires.inside i d (slice_get_within es i p.0 p.1) in
-    omega (arith, inside.1, c.loop-edge.invariant.1.work.long, starts_count (m.is_fact a) (m.below a) (m.rank a) (m.most a) (m.begun a) (m.joined a) (m.sent a) law n es)
+    omega (arith, inside.1, c.loop-edge.invariant.1.marked, starts_count (m.is_fact a) (m.below a) (m.rank a) (m.most a) (m.begun a) (m.joined a) (m.sent a) law n es)
 
 pub loop-edge-preserved : goal.loop-edge-preserved
 loop-edge-preserved g c =
@@ -83,8 +78,9 @@ loop-edge-preserved g c =
     let is : y2 ≡ m.joined a y (m.sent a i x) = c.in_ok-changed.ensures.joined ∙ ap (m.joined a y) c.in_ok-flown.ensures in
     let sent = take c.loop-edge.edge-index c.args.leaving.now in
     let more : sent ++ i ∷ [] ≡ take (c.loop-edge.edge-index + 1) c.args.leaving.now = sym (take_more c.args.leaving.now c.loop-edge.edge-index 0 (omega arith)) in
-    let r = sent_if (m.is_fact a) (m.below a) (m.rank a) (m.most a) (m.begun a) (m.joined a) (m.sent a) law n es xs (waiting c.loop-edge.work) c.loop-edge.work.waits.items c.args.block sent c.loop-edge.invariant.1 i e at from_is x y y2 at_from at_to is (waiting c.add_if.new.self) c.add_if.new.self.waits.items c.in_ok-changed.changed c.in_ok-changed.ensures.changed c.in_ok-add_if.ensures.marks c.in_ok-add_if.ensures.work c.in_ok-add_if.ensures.longer in (
+    let r = sent_if (m.is_fact a) (m.below a) (m.rank a) (m.most a) (m.begun a) (m.joined a) (m.sent a) law n es xs c.loop-edge.work.waits.items c.args.block sent c.loop-edge.invariant.1 i e at from_is x y y2 at_from at_to is c.in_ok-changed.changed c.in_ok-changed.ensures.changed in
+    let made : Sent (m.is_fact a) (m.below a) (m.rank a) (m.most a) (m.begun a) (m.joined a) (m.sent a) law n es xs (set xs e.to y2) c.loop-edge.work.waits.items c.add_if.new.self.waits.items c.args.block (sent ++ i ∷ []) = rw c.add_if.ensures r in (
       length-set xs e.to y2 ∙ k,
-      subst (λ sent. IsGoing (m.is_fact a) (m.below a) (problem (m.joined a) (m.begun a) (m.sent a) n es) (set xs e.to y2) (waiting c.add_if.new.self) c.add_if.new.self.waits.items c.args.block sent) more r.going,
-      omega (arith, r.climbs, c.loop-edge.invariant.2),
+      subst (λ sent. IsGoing (m.is_fact a) (m.below a) (problem (m.joined a) (m.begun a) (m.sent a) n es) (set xs e.to y2) c.add_if.new.self.waits.items c.args.block sent) more made.going,
+      omega (arith, made.climbs, c.loop-edge.invariant.2),
     )

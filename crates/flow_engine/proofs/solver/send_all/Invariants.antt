@@ -8,5 +8,5 @@ invariant-loop-edge g l =
     let a = l.analysis in
     let m = g.A.Analysis in
     (length l.facts.items ≡ length l.fn.facts.items)
-    × IsGoing (m.is_fact a) (m.below a) (problem (m.joined a) (m.begun a) (m.sent a) (length l.fn.facts.items) l.edges) l.facts.items (waiting l.work) l.work.waits.items l.block (take l.edge-index l.leaving)
-    × (length (waiting l.work) + 2 * sum_by (m.rank a) l.fn.facts.items ≤ length (waiting l.fn.work) + 2 * sum_by (m.rank a) l.facts.items)
+    × IsGoing (m.is_fact a) (m.below a) (problem (m.joined a) (m.begun a) (m.sent a) (length l.fn.facts.items) l.edges) l.facts.items l.work.waits.items l.block (take l.edge-index l.leaving)
+    × (waiting l.work.waits.items + 2 * sum_by (m.rank a) l.fn.facts.items ≤ waiting l.fn.work.waits.items + 2 * sum_by (m.rank a) l.facts.items)

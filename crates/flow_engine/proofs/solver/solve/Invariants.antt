@@ -8,7 +8,7 @@ invariant-loop-block g l =
     let a = l.analysis in
     let m = g.A.Analysis in
     (length l.facts.items ≡ l.blocks)
-    × IsGoing (m.is_fact a) (m.below a) (problem (m.joined a) (m.begun a) (m.sent a) l.blocks l.edges) l.facts.items (waiting l.work) l.work.waits.items l.blocks []
+    × IsGoing (m.is_fact a) (m.below a) (problem (m.joined a) (m.begun a) (m.sent a) l.blocks l.edges) l.facts.items l.work.waits.items l.blocks []
 
 abbrev pub decreases-loop-block : goal.decreases-loop-block
-decreases-loop-block g l = 2 * (l.blocks * g.A.Analysis.most l.analysis - sum_by (g.A.Analysis.rank l.analysis) l.facts.items) + length (waiting l.work)
+decreases-loop-block g l = 2 * (l.blocks * g.A.Analysis.most l.analysis - sum_by (g.A.Analysis.rank l.analysis) l.facts.items) + waiting l.work.waits.items

@@ -6,13 +6,13 @@ use Rattle.mirpipe_cli.proofs.command.run.Goals as goal
 
 pub returns-in-Ok-clause-writes : goal.returns-in-Ok-clause-writes
 returns-in-Ok-clause-writes c = λ input accepted.
-    let C = crate_of c.args.accepted.program in
+    let C = crate_of c.args.accepted.valid in
     let text = run_text_as C _ c.args.path _ c.args.args _ c.args.answers c.args.steps c.in-Ok.text c.as_slice.ensures c.as_slice-2.ensures c.as_slice-3.ensures c.in-Ok.ensures.text in
     (C, c.args.accepted.lines, accepted, text)
 
 pub returns-in-NoFunction-clause-refused : goal.returns-in-NoFunction-clause-refused
 returns-in-NoFunction-clause-refused c = λ input accepted.
-    let C = crate_of c.args.accepted.program in
+    let C = crate_of c.args.accepted.valid in
     record {
       C = C;
       lines = c.args.accepted.lines;
@@ -22,7 +22,7 @@ returns-in-NoFunction-clause-refused c = λ input accepted.
 
 pub returns-in-NoEntry-clause-refused : goal.returns-in-NoEntry-clause-refused
 returns-in-NoEntry-clause-refused c = λ input accepted.
-    let C = crate_of c.args.accepted.program in
+    let C = crate_of c.args.accepted.valid in
     record {
       C = C;
       lines = c.args.accepted.lines;

@@ -30,8 +30,8 @@ returns-in-Run-clause-writes g c = λ input left.
 pub returns-in-Run-clause-refused : goal.returns-in-Run-clause-refused
 returns-in-Run-clause-refused g c = λ input left. refused_as c.run.result input c.args.command _ c.in-Run.is (c.run.ensures.refused input (c.in_ok-accepted.ensures.accepted input left))
 
-pub dump-requires-clause-step : goal.dump-requires-clause-step
-dump-requires-clause-step g c = subst AsksSteps c.in-Dump.is c.requires.steps
+pub dump-requires : goal.dump-requires
+dump-requires g c = record { step = subst AsksSteps c.in-Dump.is c.requires.steps }
 
 pub returns-in-Dump-clause-writes : goal.returns-in-Dump-clause-writes
 returns-in-Dump-clause-writes g c = λ input left.

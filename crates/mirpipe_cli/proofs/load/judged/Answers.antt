@@ -1,4 +1,4 @@
-use Rattle.std.proofs.Common.{◌≡◌, ◌∙◌, None, sym, ap, subst}
+use Rattle.std.proofs.Common.{◌≡◌, None, sym, subst}
 use Rattle.mir_syntax.specs.Crate.{Crate, crate_of}
 use Rattle.mir_rules.specs.Faults.{first_rule}
 use Rattle.mirpipe_cli.specs.Refused.{IsRead}
@@ -7,23 +7,11 @@ use Rattle.mirpipe_cli.proofs.load.judged.Goals as goal
 
 pub returns-in-Ok-clause-accepted : goal.returns-in-Ok-clause-accepted
 returns-in-Ok-clause-accepted c = λ input read.
-    let C = crate_of c.into_program.result in
+    let C = crate_of c.in-Ok.valid in
     let lines = c.args.read.lines in
-    let same : crate_of c.args.read.program ≡ C = sym (ap crate_of c.into_program.ensures.same ∙ c.in-Ok.ensures.same_ok) in
+    let same : crate_of c.args.read.program ≡ C = sym c.in-Ok.ensures.same_ok in
     is_accepted input C lines (subst (λ (D : Crate). IsRead input D lines) same read) (subst (λ (D : Crate). first_rule lines D ≡ None) same c.in-Ok.ensures.no_rule)
-    c.into_program.ensures.checked.valid c.into_program.ensures.checked.within
-
-pub returns-in-Ok-clause-valid : goal.returns-in-Ok-clause-valid
-returns-in-Ok-clause-valid c = c.into_program.ensures.checked.valid
-
-pub returns-in-Ok-clause-within : goal.returns-in-Ok-clause-within
-returns-in-Ok-clause-within c = c.into_program.ensures.checked.within
-
-pub returns-in-Ok-clause-knows : goal.returns-in-Ok-clause-knows
-returns-in-Ok-clause-knows c = c.into_program.ensures.checked.drops
-
-pub returns-in-Ok-clause-ids : goal.returns-in-Ok-clause-ids
-returns-in-Ok-clause-ids c = c.into_program.ensures.checked.ids
+    c.in-Ok.ensures.checked.valid c.in-Ok.ensures.checked.within
 
 pub returns-in-Rule-clause-refused : goal.returns-in-Rule-clause-refused
 returns-in-Rule-clause-refused c = λ input read. (
