@@ -1,5 +1,5 @@
 -- A row of live locals that is carried over a statement.
-use Rattle.std.proofs.Common.{◌≡◌, refl, sym, ap, ap₂, ◌∙◌, ℕ, suc, ◌+◌, ◌<◌, List, [], ◌∷◌, ◌++◌, Bool, map, drop, length, get_or, set, arith, drop-cons}
+use Rattle.std.proofs.Common.{◌≡◌, refl, sym, ap, ◌∙◌, ℕ, suc, ◌+◌, ◌<◌, List, [], ◌∷◌, ◌++◌, Bool, map, drop, length, get_or, set, arith, drop-cons}
 use Rattle.std.specs.List.{flat_map}
 use Rattle.std.proofs.lemmas.List.{map-append, append-nil, set-set, get_or-set_same, set-get_or}
 use Rattle.bit_rows.specs.Rows.{row_at}
@@ -8,11 +8,10 @@ use Rattle.mir_syntax.specs.declared.body.Rvalue.{Rvalue}
 use Rattle.mir_syntax.specs.declared.body.Rvalue.TheVariants as rvalue
 use Rattle.mir_syntax.specs.Tree.{Tree}
 use Rattle.mir_syntax.specs.declared.body.Stmt.{Stmt}
-use Rattle.mir_syntax.specs.declared.body.Stmt.TheVariants as stmt
-use Rattle.mir_syntax.specs.Crate.{TypedStmt, rvalue_of, stmt_of}
+use Rattle.mir_syntax.specs.Crate.{TypedStmt, rvalue_of}
 use Rattle.mir_syntax.specs.Parts.{operand_places, rvalue_places}
-use Rattle.liveness.specs.Live.{place_local, operand_locals, stmt_fills}
-use Rattle.liveness.specs.Rows.{before_stmt, before_all, bare_rvalue_reads, bare_fills}
+use Rattle.liveness.specs.Live.{place_local, operand_locals}
+use Rattle.liveness.specs.Rows.{before_stmt, before_all, bare_rvalue_reads}
 
 two : (a b : Operand) → map place_local (operand_places a ++ (operand_places b ++ [])) ≡ operand_locals a ++ operand_locals b
 two a b = ap (λ ps. map place_local (operand_places a ++ ps)) (append-nil (operand_places b)) ∙ map-append place_local (operand_places a) (operand_places b)
@@ -56,14 +55,3 @@ back_none f stmts rows row = sym (ap (λ (ss : List Stmt). set rows row (before_
     drop_all : (ss : List Stmt) → drop (length ss) ss ≡ []
     drop_all [] = refl
     drop_all (s ∷ ss) = drop_all ss
-
--- what statements fill is the same with and without ids
-pub fills_same : (trees : List Tree) (stmts : List Stmt) → flat_map bare_fills stmts ≡ flat_map stmt_fills (map (stmt_of trees) stmts)
-fills_same trees [] = refl
-fills_same trees (s ∷ stmts) = ap₂ (λ xs ys. xs ++ ys) (one_same s) (fills_same trees stmts)
-  where
-    one_same : (s : Stmt) → bare_fills s ≡ stmt_fills (stmt_of trees s)
-    one_same (stmt.Assign p r) = refl
-    one_same (stmt.StorageLive x) = refl
-    one_same (stmt.StorageDead x) = refl
-    one_same (stmt.SetDiscriminant p k) = refl

@@ -1,7 +1,6 @@
 -- The locals that are live before a terminator, from those that are live at the blocks' starts.
 use Rattle.std.proofs.Common.{◌≡◌, ◌⊎◌, inl, inr, refl, sym, ap, ◌∙◌, ℕ, ◌<◌, Bool, true, false, ◌||◌, List, [], ◌∷◌, length, get_or, Some, slice_get, IsTrue, ◌↔◌, arith}
 use Rattle.std.specs.List.{Contains}
-use Rattle.std.proofs.lemmas.Option.{slice_get-get_or}
 use Rattle.std.proofs.lemmas.List.{length-replicate}
 use Rattle.std.proofs.lemmas.Simd.{length-zip2, get_or-zip2}
 use Rattle.std.proofs.lemmas.Bool.{or_cases, or_left, or_right}
@@ -9,13 +8,12 @@ use lib.Lanes.{zip2}
 use Rattle.mir_syntax.specs.Crate.{TypedBlock, TypedBody}
 use Rattle.mir_syntax.specs.Shapes.{Shape}
 use Rattle.mir_syntax.specs.Parts.{targets}
-use Rattle.bit_rows.specs.Rows.{row_at, flag, HasSize}
+use Rattle.bit_rows.specs.Rows.{row_at, flag}
 use Rattle.liveness.specs.Live.{term_reads, term_fills, Live}
-use Rattle.liveness.specs.Rows.{blank, cleared, or_rows, end_row, block_at, no_block}
-use Rattle.bit_rows.proofs.Marks.{length-marked}
+use Rattle.liveness.specs.Rows.{blank, or_rows, end_row, IsLiveRow}
 use Rattle.mir_syntax.proofs.Members.{has_first, has_later, has_cases, has_none}
-use Rattle.liveness.specs.Bits.{length-cleared, blank_bit}
-use Rattle.liveness.proofs.Through.{bit_splits, bit_joins, end_live, live_end}
+use Rattle.liveness.specs.Bits.{blank_bit}
+use Rattle.liveness.proofs.Through.{length-before_term, bit_splits, bit_joins, end_live, live_end}
 
 or_long : (rows : List (List Bool)) (row : List Bool) (us : List ℕ) → ((u : ℕ) → Contains us u → length (row_at rows u) ≡ length row) → length (or_rows rows row us) ≡ length row
 or_long rows row [] h = refl
@@ -50,46 +48,38 @@ or_joins rows row (u ∷ us) x v h l c e =
       | inr q ↦ or_joins rows (zip2 (λ a b. a || b) row (row_at rows u)) us x v (λ v c. h v (has_later u v us c) ∙ sym one) (omega arith) q e
     ]
 
-module _ (D : List Shape) (b : TypedBody) (n bits : ℕ) (nb : n ≡ length b.blocks) (nl : bits ≡ length b.locals) (closed : (i u : ℕ) → i < n → Contains (targets (block_at b.blocks i).term) u → u < n) (starts : List (List Bool)) (size : HasSize starts n bits) (live : (i x : ℕ) → i < n → x < bits → IsTrue (flag starts i x) ↔ Live D b i 0 x) where
-  blank_long : length (blank (length b.locals)) ≡ bits
-  blank_long = length-replicate (length b.locals) false ∙ sym nl
+-- a row for a block's terminator, of rows of what is live at the starts of its targets
+module _ (D : List Shape) (b : TypedBody) (i : ℕ) (k : TypedBlock) (is : slice_get b.blocks i ≡ Some k) (starts : List (List Bool)) (rows : (u : ℕ) → Contains (targets k.term) u → IsLiveRow D b u 0 (row_at starts u)) where
+  abbrev none : List Bool
+  none = blank (length b.locals)
 
-  target_long : (i : ℕ) → i < n → (u : ℕ) → Contains (targets (block_at b.blocks i).term) u → length (row_at starts u) ≡ length (blank (length b.locals))
-  target_long i l u c = size.bits_is u (closed i u l c) ∙ sym blank_long
+  abbrev joined : List Bool
+  joined = or_rows starts none (targets k.term)
 
-  pub end_long : (i : ℕ) → i < n → length (end_row D b.locals starts (block_at b.blocks i)) ≡ bits
-  end_long i l =
-      let row = or_rows starts (blank (length b.locals)) (targets (block_at b.blocks i).term) in
-      length-marked (cleared row (term_fills (block_at b.blocks i).term)) (term_reads D b.locals (block_at b.blocks i).term)
-      ∙ length-cleared row (term_fills (block_at b.blocks i).term)
-      ∙ or_long starts (blank (length b.locals)) (targets (block_at b.blocks i).term) (target_long i l) ∙ blank_long
+  none_long : length none ≡ length b.locals
+  none_long = length-replicate (length b.locals) false
 
-  pub ends_live : (i x : ℕ) → i < n → x < bits → IsTrue (get_or (end_row D b.locals starts (block_at b.blocks i)) x false) ↔ Live D b i (length (block_at b.blocks i).stmts) x
-  ends_live i x l low = (to, from)
-    where
-      k : TypedBlock
-      k = block_at b.blocks i
+  target_long : (u : ℕ) → Contains (targets k.term) u → length (row_at starts u) ≡ length none
+  target_long u c = (rows u c).long ∙ sym none_long
 
-      is : slice_get b.blocks i ≡ Some (block_at b.blocks i)
-      is = slice_get-get_or b.blocks i no_block (omega (arith, nb))
+  joined_long : length joined ≡ length b.locals
+  joined_long = or_long starts none (targets k.term) target_long ∙ none_long
 
-      in_blank : x < length (blank (length b.locals))
-      in_blank = omega (arith, blank_long)
-
-      in_row : x < length (or_rows starts (blank (length b.locals)) (targets (block_at b.blocks i).term))
-      in_row = omega (arith, or_long starts (blank (length b.locals)) (targets (block_at b.blocks i).term) (target_long i l), in_blank)
-
-      to : get_or (end_row D b.locals starts (block_at b.blocks i)) x false ≡ true → Live D b i (length (block_at b.blocks i).stmts) x
-      to e = elim (bit_splits (or_rows starts (blank (length b.locals)) (targets (block_at b.blocks i).term)) (term_fills (block_at b.blocks i).term) (term_reads D b.locals (block_at b.blocks i).term) x in_row e) [
-        | inl r ↦ end_live D b i (block_at b.blocks i) is x (inl r)
-        | inr q ↦ elim (or_splits starts (blank (length b.locals)) (targets (block_at b.blocks i).term) x (target_long i l) in_blank q.1) [
-          | inl none ↦ absurd (blank_bit (length b.locals) x none)
-          | inr u ↦ end_live D b i (block_at b.blocks i) is x (inr (u.0, u.1, q.0, (live u.0 x (closed i u.0 l u.1) low).0 u.2))
-        ]
+  module _ (x : ℕ) (low : x < length b.locals) where
+    told : get_or (end_row D b.locals starts k) x false ≡ true → Live D b i (length k.stmts) x
+    told e = elim (bit_splits joined (term_fills k.term) (term_reads D b.locals k.term) x (omega (arith, joined_long)) e) [
+      | inl r ↦ end_live D b i k is x (inl r)
+      | inr q ↦ elim (or_splits starts none (targets k.term) x target_long (omega (arith, none_long)) q.1) [
+        | inl never ↦ absurd (blank_bit (length b.locals) x never)
+        | inr u ↦ end_live D b i k is x (inr (u.0, u.1, q.0, ((rows u.0 u.1).each x low).0 u.2))
       ]
+    ]
 
-      from : Live D b i (length (block_at b.blocks i).stmts) x → get_or (end_row D b.locals starts (block_at b.blocks i)) x false ≡ true
-      from h = elim (live_end D b i (block_at b.blocks i) is x h) [
-        | inl r ↦ bit_joins (or_rows starts (blank (length b.locals)) (targets (block_at b.blocks i).term)) (term_fills (block_at b.blocks i).term) (term_reads D b.locals (block_at b.blocks i).term) x in_row (inl r)
-        | inr u ↦ bit_joins (or_rows starts (blank (length b.locals)) (targets (block_at b.blocks i).term)) (term_fills (block_at b.blocks i).term) (term_reads D b.locals (block_at b.blocks i).term) x in_row (inr (u.2, or_joins starts (blank (length b.locals)) (targets (block_at b.blocks i).term) x u.0 (target_long i l) in_blank u.1 ((live u.0 x (closed i u.0 l u.1) low).1 u.3)))
-      ]
+    tells : Live D b i (length k.stmts) x → get_or (end_row D b.locals starts k) x false ≡ true
+    tells h = bit_joins joined (term_fills k.term) (term_reads D b.locals k.term) x (omega (arith, joined_long)) (elim (live_end D b i k is x h) [
+      | inl r ↦ inl r
+      | inr u ↦ inr (u.2, or_joins starts none (targets k.term) x u.0 target_long (omega (arith, none_long)) u.1 (((rows u.0 u.1).each x low).1 u.3))
+    ])
+
+  pub end_is_live : IsLiveRow D b i (length k.stmts) (end_row D b.locals starts k)
+  end_is_live = record { long = length-before_term D b.locals k.term joined ∙ joined_long; each = λ x l. (told x l, tells x l) }

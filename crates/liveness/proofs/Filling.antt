@@ -6,7 +6,9 @@ use Rattle.std.proofs.lemmas.List.{length-set, length-replicate, get_or-replicat
 use Rattle.std.proofs.lemmas.List.Elements.{Contains-append_left, Contains-append_right, Contains-append_cases}
 use Rattle.std.proofs.lemmas.Simd.{length-zip2}
 use lib.Lanes.{zip2}
-use Rattle.mir_syntax.specs.Crate.{TypedBlock}
+use Rattle.mir_syntax.specs.Tree.{Tree}
+use Rattle.mir_syntax.specs.declared.body.Block.{Block}
+use Rattle.mir_syntax.specs.Crate.{TypedBlock, block_of}
 use Rattle.mir_syntax.specs.Parts.{targets}
 use Rattle.bit_rows.specs.Rows.{row_at, HasSize}
 use Rattle.flow_engine.specs.declared.edges.Edge.{Edge}
@@ -96,3 +98,7 @@ turned_more blocks at edges edges2 us w is e = record { only = λ d p. only d (s
     all : (b u : ℕ) → b < at + 1 → Contains (targets (block_at blocks b).term) u → (b ≡ at) ⊎ (b ≡ at → ⊥) → Contains (edges ++ map (edge_back at) us) (edge_back b u)
     all b u l c (inl s) = Contains-append_right edges (map (edge_back at) us) (edge_back b u) (subst (λ i. Contains (map (edge_back at) us) (edge_back i u)) (sym s) (mapped_has at us u (subst (λ xs. Contains xs u) (ap (λ i. targets (block_at blocks i).term) s ∙ sym is) c)))
     all b u l c (inr ne) = Contains-append_left edges (map (edge_back at) us) (edge_back b u) (w.all b u (omega arith) c)
+
+-- the same by other names
+pub turned_to : (trees : List Tree) (blocks blocks2 : List Block) (edges edges2 : List Edge) → blocks ≡ blocks2 → edges ≡ edges2 → IsTurned (map (block_of trees) blocks) (length blocks) edges → IsTurned (map (block_of trees) blocks2) (length blocks2) edges2
+turned_to trees blocks blocks2 edges edges2 eb ee w = subst (λ (bs : List Block). IsTurned (map (block_of trees) bs) (length bs) edges2) eb (subst (λ (es : List Edge). IsTurned (map (block_of trees) blocks) (length blocks) es) ee w)

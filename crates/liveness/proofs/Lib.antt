@@ -4,6 +4,7 @@ pub mod Through
 pub mod Solved
 pub mod Filling
 pub mod Ends
+pub mod Flowing
 pub mod Whole
 pub mod Growing
 pub mod Decided

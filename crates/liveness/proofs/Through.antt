@@ -1,9 +1,11 @@
 -- Liveness over the statements of a block.
 use Rattle.std.proofs.Common.{◌≡◌, ◌⊎◌, inl, inr, refl, sym, ap, ◌∙◌, subst, ℕ, zero, suc, ◌+◌, ◌<◌, ◌≤◌, Bool, true, false, not, ◌&&◌, ◌||◌, List, [], ◌∷◌, drop, length, get_or, Some, None, slice_get, arith}
 use Rattle.std.specs.List.{Contains, flat_map}
-use Rattle.std.proofs.lemmas.List.{length-replicate, length-drop}
+use Rattle.std.proofs.lemmas.List.{length-replicate, length-drop, ext_get_or}
 use Rattle.std.proofs.lemmas.List.Elements.{Contains-append_left, Contains-append_right, Contains-append_cases}
 use Rattle.std.proofs.lemmas.Bool.{or_cases, and_parts, and_from, or_left, or_right}
+use Rattle.mir_syntax.proofs.Bools.{same_tests}
+use Rattle.mir_syntax.specs.declared.body.Term.{Term}
 use Rattle.mir_syntax.specs.Tree.{Tree}
 use Rattle.mir_syntax.specs.Crate.{TypedStmt, TypedBlock, TypedBody}
 use Rattle.mir_syntax.specs.Shapes.{Shape}
@@ -11,8 +13,10 @@ use Rattle.mir_syntax.specs.Parts.{targets}
 use Rattle.bit_rows.specs.Rows.{marked, stands}
 use Rattle.bit_rows.proofs.Marks.{length-marked, marked-at}
 use Rattle.liveness.specs.Live.{stmt_reads, stmt_fills, term_reads, term_fills, LiveIn, Live}
-use Rattle.liveness.specs.Rows.{cleared, before_all, blank, gen_row, kill_row, block_fills}
+use Rattle.liveness.specs.Rows.{cleared, before_all, before_term, before_block, blank, gen_row, kill_row, block_fills}
+use Rattle.liveness.specs.Facts.{after}
 use Rattle.liveness.specs.Bits.{not_is, not_true, stands_has, has_stands, length-cleared, cleared-at, blank_bit}
+use Rattle.liveness.specs.Lattice.{after_long, after_bit}
 use Rattle.liveness.proofs.Paths.{live_stmt, live_next, live_splits, live_solves}
 
 -- what holds of a local before statements, where E holds of it behind them: read, or not filled and so on
@@ -84,24 +88,77 @@ has_blank n xs x l c = marked-at (blank n) xs x (omega (arith, length-replicate 
 marked_long : (n : ℕ) (xs : List ℕ) → length (marked (blank n) xs) ≡ n
 marked_long n xs = length-marked (blank n) xs ∙ length-replicate n false
 
+pub length-before_term : (D : List Shape) (locals : List Tree) (t : Term) (row : List Bool) → length (before_term D locals t row) ≡ length row
+length-before_term D locals t row = length-marked (cleared row (term_fills t)) (term_reads D locals t) ∙ length-cleared row (term_fills t)
+
+pub length-before_block : (D : List Shape) (locals : List Tree) (k : TypedBlock) (row : List Bool) → length (before_block D locals k row) ≡ length row
+length-before_block D locals k row = length-before_all k.stmts (before_term D locals k.term row) ∙ length-before_term D locals k.term row
+
 pub gen_long : (D : List Shape) (locals : List Tree) (k : TypedBlock) → length (gen_row D locals k) ≡ length locals
-gen_long D locals k = length-before_all k.stmts (marked (blank (length locals)) (term_reads D locals k.term)) ∙ marked_long (length locals) (term_reads D locals k.term)
+gen_long D locals k = length-before_block D locals k (blank (length locals)) ∙ length-replicate (length locals) false
 
 pub kill_long : (locals : List Tree) (k : TypedBlock) → length (kill_row locals k) ≡ length locals
 kill_long locals k = marked_long (length locals) (block_fills k)
 
+-- what holds of a local behind a block's statements, of a row that is carried over the block
+abbrev pub Behind : List Shape → List Tree → TypedBlock → List Bool → ℕ → Type 0
+Behind D locals k row x = Contains (term_reads D locals k.term) x ⊎ ((Contains (term_fills k.term) x → ⊥) × (get_or row x false ≡ true))
+
+pub block_through : (D : List Shape) (locals : List Tree) (k : TypedBlock) (row : List Bool) (x : ℕ) → x < length row → get_or (before_block D locals k row) x false ≡ true → Through k.stmts (Behind D locals k row x) x
+block_through D locals k row x l e =
+    let end = before_term D locals k.term row in
+    through_map k.stmts (get_or end x false ≡ true) (Behind D locals k row x) x (bit_splits row (term_fills k.term) (term_reads D locals k.term) x l)
+    (row_through k.stmts end x (omega (arith, length-before_term D locals k.term row)) e)
+
+pub through_block : (D : List Shape) (locals : List Tree) (k : TypedBlock) (row : List Bool) (x : ℕ) → x < length row → Through k.stmts (Behind D locals k row x) x → get_or (before_block D locals k row) x false ≡ true
+through_block D locals k row x l h =
+    let end = before_term D locals k.term row in
+    through_row k.stmts end x (omega (arith, length-before_term D locals k.term row))
+    (through_map k.stmts (Behind D locals k row x) (get_or end x false ≡ true) x (bit_joins row (term_fills k.term) (term_reads D locals k.term) x l) h)
+
 -- what a block reads before it fills it
 pub gen_through : (D : List Shape) (locals : List Tree) (k : TypedBlock) (x : ℕ) → x < length locals → get_or (gen_row D locals k) x false ≡ true → Through k.stmts (Contains (term_reads D locals k.term) x) x
 gen_through D locals k x l e =
-    let row = marked (blank (length locals)) (term_reads D locals k.term) in
-    through_map k.stmts (get_or row x false ≡ true) (Contains (term_reads D locals k.term) x) x (blank_has (length locals) (term_reads D locals k.term) x l)
-    (row_through k.stmts row x (omega (arith, marked_long (length locals) (term_reads D locals k.term))) e)
+    through_map k.stmts (Behind D locals k (blank (length locals)) x) (Contains (term_reads D locals k.term) x) x (λ h. elim h [ inl r ↦ r | inr q ↦ absurd (blank_bit (length locals) x q.1) ])
+    (block_through D locals k (blank (length locals)) x (omega (arith, length-replicate (length locals) false)) e)
 
 pub through_gen : (D : List Shape) (locals : List Tree) (k : TypedBlock) (x : ℕ) → x < length locals → Through k.stmts (Contains (term_reads D locals k.term) x) x → get_or (gen_row D locals k) x false ≡ true
 through_gen D locals k x l h =
-    let row = marked (blank (length locals)) (term_reads D locals k.term) in
-    through_row k.stmts row x (omega (arith, marked_long (length locals) (term_reads D locals k.term)))
-    (through_map k.stmts (Contains (term_reads D locals k.term) x) (get_or row x false ≡ true) x (has_blank (length locals) (term_reads D locals k.term) x l) h)
+    through_block D locals k (blank (length locals)) x (omega (arith, length-replicate (length locals) false))
+    (through_map k.stmts (Contains (term_reads D locals k.term) x) (Behind D locals k (blank (length locals)) x) x (λ r. inl r) h)
+
+-- a row that is carried over a block is without what the block fills, with what it reads before
+module _ (D : List Shape) (locals : List Tree) (k : TypedBlock) (row : List Bool) (long : length row ≡ length locals) where
+  abbrev kill : List Bool
+  kill = kill_row locals k
+
+  abbrev gen : List Bool
+  gen = gen_row D locals k
+
+  bit_is : (x : ℕ) → x < length locals → get_or (after row kill gen) x false ≡ ((get_or row x false && not (get_or kill x false)) || get_or gen x false)
+  bit_is x l = after_bit (length locals) row kill gen long (kill_long locals k) (gen_long D locals k) x l
+
+  carried_after : (x : ℕ) → x < length locals → get_or (before_block D locals k row) x false ≡ true → get_or (after row kill gen) x false ≡ true
+  carried_after x l e =
+      bit_is x l ∙ elim (through_split k.stmts (Contains (term_reads D locals k.term) x) ((Contains (term_fills k.term) x → ⊥) × (get_or row x false ≡ true)) x (block_through D locals k row x (omega arith) e)) [
+        | inl g ↦ or_right (get_or row x false && not (get_or kill x false)) (get_or gen x false) (through_gen D locals k x l g)
+        | inr f ↦ or_left (get_or row x false && not (get_or kill x false)) (get_or gen x false) (and_from (get_or row x false) (not (get_or kill x false)) f.1.1 (not_is (get_or kill x false) (λ t. elim (Contains-append_cases (flat_map stmt_fills k.stmts) (term_fills k.term) x (blank_has (length locals) (block_fills k) x l t)) [ inl c ↦ f.0 c | inr c ↦ f.1.0 c ])))
+      ]
+
+  after_carried : (x : ℕ) → x < length locals → get_or (after row kill gen) x false ≡ true → get_or (before_block D locals k row) x false ≡ true
+  after_carried x l e =
+      through_block D locals k row x (omega arith) (elim (or_cases (get_or row x false && not (get_or kill x false)) (get_or gen x false) (sym (bit_is x l) ∙ e)) [
+        | inr g ↦ through_map k.stmts (Contains (term_reads D locals k.term) x) (Behind D locals k row x) x (λ r. inl r) (gen_through D locals k x l g)
+        | inl h ↦ (let two = and_parts (get_or row x false) (not (get_or kill x false)) h in
+            let unfilled : Contains (block_fills k) x → ⊥ = λ c. not_true (get_or kill x false) two.1 (has_blank (length locals) (block_fills k) x l c) in
+            through_unfilled k.stmts (Behind D locals k row x) x (λ c. unfilled (Contains-append_left (flat_map stmt_fills k.stmts) (term_fills k.term) x c)) (inr ((λ c. unfilled (Contains-append_right (flat_map stmt_fills k.stmts) (term_fills k.term) x c)), two.0)))
+      ])
+
+  pub before_block_is : before_block D locals k row ≡ after row (kill_row locals k) (gen_row D locals k)
+  before_block_is =
+      let lb = length-before_block D locals k row in
+      let la = after_long (length locals) row kill gen long (kill_long locals k) (gen_long D locals k) in
+      ext_get_or false (before_block D locals k row) (after row kill gen) (lb ∙ long ∙ sym la) (λ x l. (let low : x < length locals = omega arith in same_tests (get_or (before_block D locals k row) x false) (get_or (after row kill gen) x false) (carried_after x low) (after_carried x low)))
 
 -- ---- paths
 

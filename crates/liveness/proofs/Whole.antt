@@ -1,5 +1,5 @@
 -- From the tables that the code makes to the live locals of the body.
-use Rattle.std.proofs.Common.{◌≡◌, sym, ap, ◌∙◌, subst, ℕ, ◌<◌, Bool, false, List, [], map, length, get_or, IsTrue, ◌↔◌, arith}
+use Rattle.std.proofs.Common.{◌≡◌, sym, ap, ◌∙◌, subst, ℕ, ◌<◌, Bool, false, List, [], map, length, get_or, Some, slice_get, IsTrue, ◌↔◌, arith}
 use Rattle.std.specs.List.{All, Contains}
 use Rattle.std.proofs.lemmas.List.{length-map, get_or-map}
 use Rattle.std.proofs.lemmas.List.Elements.{All-contains}
@@ -16,14 +16,14 @@ use Rattle.bit_rows.specs.Rows.{row_at, flag, HasSize}
 use Rattle.flow_engine.specs.declared.edges.Edge.{Edge}
 use Rattle.flow_engine.specs.Flow.{Least, problem}
 use Rattle.liveness.specs.Live.{Live}
-use Rattle.liveness.specs.Rows.{gen_row, kill_row, end_row, block_at, no_block, IsRows, IsTurned}
+use Rattle.liveness.specs.Rows.{gen_row, kill_row, gen_rows, kill_rows, end_row, block_at, no_block, IsLiveRow, IsRows, IsTurned}
 use Rattle.liveness.specs.Facts.{IsSized, IsBelow, count_ones, begun, joined, sent}
 use Rattle.liveness.specs.Lattice.{live_lawful}
 use Rattle.flow_engine.proofs.Least.{least_long}
 use Rattle.liveness.proofs.Filling.{rows_sized}
 use Rattle.liveness.proofs.Through.{gen_long, kill_long}
 use Rattle.liveness.proofs.Solved.{contains_at, solved}
-use Rattle.liveness.proofs.Ends.{ends_live, end_long}
+use Rattle.liveness.proofs.Ends.{end_is_live}
 
 module _ (D : List Shape) (trees : List Tree) (body : Body) where
   abbrev b : TypedBody
@@ -47,12 +47,24 @@ module _ (D : List Shape) (trees : List Tree) (body : Body) where
       none : Block
       none = record { stmts = []; term = Unreachable }
 
-  module _ (closed : Closed (terms_of body)) (edges : List Edge) (gens kills : List (List Bool)) (turned : IsTurned (map (block_of trees) body.blocks) (length body.blocks) edges) (gr : IsRows (length body.blocks) (λ i. gen_row D (body_of trees body).locals (block_at (body_of trees body).blocks i)) gens) (kr : IsRows (length body.blocks) (λ i. kill_row (body_of trees body).locals (block_at (body_of trees body).blocks i)) kills) where
+  module _ (closed : Closed (terms_of body)) (edges : List Edge) (turned : IsTurned (map (block_of trees) body.blocks) (length body.blocks) edges) where
+    abbrev gens : List (List Bool)
+    gens = gen_rows D (body_of trees body)
+
+    abbrev kills : List (List Bool)
+    kills = kill_rows (body_of trees body)
+
+    gens_are : IsRows (length body.blocks) (λ i. gen_row D b.locals (block_at b.blocks i)) gens
+    gens_are = record { long = length-map b.blocks (gen_row D b.locals) ∙ sym blocks_long; each = λ i l. get_or-map (gen_row D b.locals) b.blocks i no_block [] (omega (arith, blocks_long)) }
+
+    kills_are : IsRows (length body.blocks) (λ i. kill_row b.locals (block_at b.blocks i)) kills
+    kills_are = record { long = length-map b.blocks (kill_row b.locals) ∙ sym blocks_long; each = λ i l. get_or-map (kill_row b.locals) b.blocks i no_block [] (omega (arith, blocks_long)) }
+
     pub sized : IsSized (length body.blocks) (length body.locals) edges gens kills
     sized = record {
       ends = λ i e at. (turned.only e (contains_at edges i e at)).0;
-      gens_size = rows_sized (length body.blocks) (length body.locals) (λ i. gen_row D b.locals (block_at b.blocks i)) gens (λ r. gen_long D b.locals (block_at b.blocks r) ∙ sym locals_long) gr;
-      kills_size = rows_sized (length body.blocks) (length body.locals) (λ i. kill_row b.locals (block_at b.blocks i)) kills (λ r. kill_long b.locals (block_at b.blocks r) ∙ sym locals_long) kr;
+      gens_size = rows_sized (length body.blocks) (length body.locals) (λ i. gen_row D b.locals (block_at b.blocks i)) gens (λ r. gen_long D b.locals (block_at b.blocks r) ∙ sym locals_long) gens_are;
+      kills_size = rows_sized (length body.blocks) (length body.locals) (λ i. kill_row b.locals (block_at b.blocks i)) kills (λ r. kill_long b.locals (block_at b.blocks r) ∙ sym locals_long) kills_are;
     }
 
     pub inside : All (λ e. (e.from < length body.blocks) × (e.to < length body.blocks)) edges
@@ -76,22 +88,28 @@ module _ (D : List Shape) (trees : List Tree) (body : Body) where
         }
 
         pub table_live : (i x : ℕ) → i < length body.blocks → x < length body.locals → IsTrue (flag table i x) ↔ Live D (body_of trees body) i 0 x
-        table_live i x l low = subst (λ row. IsTrue (get_or row x false) ↔ Live D b i 0 x) (sym (row_is i l)) (solved D b (length body.blocks) (length body.locals) blocks_long locals_long edges gens kills turned gr kr (targets_in closed) sized facts least i x l low)
+        table_live i x l low = subst (λ row. IsTrue (get_or row x false) ↔ Live D b i 0 x) (sym (row_is i l)) (solved D b (length body.blocks) (length body.locals) blocks_long locals_long edges gens kills turned gens_are kills_are (targets_in closed) sized facts least i x l low)
 
   module _ (closed : Closed (terms_of body)) (starts ends : List (List Bool)) (size : HasSize starts (length body.blocks) (length body.locals)) (live : (i x : ℕ) → i < length body.blocks → x < length body.locals → IsTrue (flag starts i x) ↔ Live D (body_of trees body) i 0 x) (er : IsRows (length body.blocks) (λ i. end_row D (body_of trees body).locals starts (block_at (body_of trees body).blocks i)) ends) where
+    start_rows : (i : ℕ) → i < length body.blocks → IsLiveRow D b i 0 (row_at starts i)
+    start_rows i l = record { long = size.bits_is i l ∙ locals_long; each = λ x m. live i x l (omega (arith, locals_long)) }
+
+    end_rows : (i : ℕ) → i < length body.blocks → IsLiveRow D b i (length (block_at b.blocks i).stmts) (row_at ends i)
+    end_rows i l =
+        let is : slice_get b.blocks i ≡ Some (block_at b.blocks i) = slice_get-get_or b.blocks i no_block (omega (arith, blocks_long)) in
+        subst (IsLiveRow D b i (length (block_at b.blocks i).stmts)) (sym (er.each i l)) (end_is_live D b i (block_at b.blocks i) is starts (λ u c. start_rows u (targets_in closed i u l c)))
+
     pub ends_size : HasSize ends (length body.blocks) (length body.locals)
-    ends_size = record {
-      count_is = er.long;
-      bits_is = λ i l. ap length (er.each i l) ∙ end_long D b (length body.blocks) (length body.locals) blocks_long locals_long (targets_in closed) starts size live i l;
-    }
+    ends_size = record { count_is = er.long; bits_is = λ i l. (end_rows i l).long ∙ sym locals_long }
 
     pub ends_are : (i x : ℕ) → i < length body.blocks → x < length body.locals → IsTrue (flag ends i x) ↔ Live D (body_of trees body) i (length (block_at (body_of trees body).blocks i).stmts) x
-    ends_are i x l low = subst (λ row. IsTrue (get_or row x false) ↔ Live D b i (length (block_at b.blocks i).stmts) x) (sym (er.each i l)) (ends_live D b (length body.blocks) (length body.locals) blocks_long locals_long (targets_in closed) starts size live i x l low)
+    ends_are i x l low = (end_rows i l).each x (omega (arith, locals_long))
 
-abbrev pub LeastOf : ℕ → ℕ → List Edge → List Edge → List (List Bool) → List (List Bool) → List (List (List Bool)) → Type 0
-LeastOf n bits es edges gens kills facts = Least (λ x. HasSize x 1 bits) (IsBelow bits) (problem joined (begun n bits gens) (sent bits edges gens kills) n es) facts
+-- a least solution of the flow of live locals, for so many blocks and rows of so many bits
+abbrev pub LeastOf : List Shape → TypedBody → ℕ → ℕ → List Edge → List (List (List Bool)) → Type 0
+LeastOf D b n bits edges facts = Least (λ x. HasSize x 1 bits) (IsBelow bits) (problem joined (begun n bits (gen_rows D b)) (sent bits edges (gen_rows D b) (kill_rows b)) n edges) facts
 
 -- the same by other names
-pub least_moved : (n n2 bits bits2 : ℕ) (es edges : List Edge) (gens kills : List (List Bool)) (facts : List (List (List Bool))) → n ≡ n2 → bits ≡ bits2 → es ≡ edges → LeastOf n bits es edges gens kills facts → LeastOf n2 bits2 edges edges gens kills facts
-least_moved n n2 bits bits2 es edges gens kills facts en el ee l =
-    subst (λ m. LeastOf m bits2 edges edges gens kills facts) en (subst (λ k. LeastOf n k edges edges gens kills facts) el (subst (λ xs. LeastOf n bits xs edges gens kills facts) ee l))
+pub least_moved : (D : List Shape) (b : TypedBody) (n n2 bits bits2 : ℕ) (edges : List Edge) (facts facts2 : List (List (List Bool))) → n ≡ n2 → bits ≡ bits2 → facts ≡ facts2 → LeastOf D b n bits edges facts → LeastOf D b n2 bits2 edges facts2
+least_moved D b n n2 bits bits2 edges facts facts2 en el ef l =
+    subst (λ m. LeastOf D b m bits2 edges facts2) en (subst (λ k. LeastOf D b n k edges facts2) el (subst (λ xs. LeastOf D b n bits edges xs) ef l))

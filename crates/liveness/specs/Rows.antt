@@ -1,11 +1,10 @@
 -- Rows of live locals, carried backwards over statements and blocks.
-use Rattle.std.specs.Prelude.{◌≡◌, ℕ, ◌<◌, ◌↔◌, Bool, false, ◌||◌, List, [], ◌∷◌, ◌++◌, set, length, get_or, replicate, IsTrue}
+use Rattle.std.specs.Prelude.{◌≡◌, ℕ, ◌<◌, ◌↔◌, Bool, false, ◌||◌, List, [], ◌∷◌, ◌++◌, map, set, length, get_or, replicate, IsTrue}
 use Rattle.std.specs.List.{Contains, flat_map}
 use lib.Lanes.{zip2}
 use Rattle.mir_syntax.specs.declared.body.Rvalue.{Rvalue}
 use Rattle.mir_syntax.specs.declared.body.Rvalue.TheVariants as rvalue
-use Rattle.mir_syntax.specs.declared.body.Stmt.{Stmt}
-use Rattle.mir_syntax.specs.declared.body.Stmt.TheVariants as stmt
+use Rattle.mir_syntax.specs.declared.body.Term.{Term}
 use Rattle.mir_syntax.specs.declared.body.Term.TheVariants.{Unreachable}
 use Rattle.mir_syntax.specs.Tree.{Tree}
 use Rattle.mir_syntax.specs.Crate.{TypedStmt, TypedBlock, TypedBody}
@@ -47,26 +46,34 @@ bare_rvalue_reads (rvalue.Discriminant p) = p.local ∷ []
 bare_rvalue_reads (rvalue.Tuple parts) = flat_map operand_locals parts
 bare_rvalue_reads (rvalue.Build d v parts) = flat_map operand_locals parts
 
--- the locals of which a statement with ids writes the whole
-abbrev pub bare_fills : Stmt → List ℕ
-bare_fills (stmt.Assign p r) = whole p
-bare_fills (stmt.StorageLive x) = x ∷ []
-bare_fills (stmt.StorageDead x) = x ∷ []
-bare_fills (stmt.SetDiscriminant p k) = []
-
 abbrev pub block_fills : TypedBlock → List ℕ
 block_fills k = flat_map stmt_fills k.stmts ++ term_fills k.term
 
 abbrev pub blank : ℕ → List Bool
 blank n = replicate n false
 
+-- of the locals that are live at the starts of a terminator's targets, those that are live before it
+abbrev pub before_term : List Shape → List Tree → Term → List Bool → List Bool
+before_term D locals t row = marked (cleared row (term_fills t)) (term_reads D locals t)
+
+-- the same over a block
+abbrev pub before_block : List Shape → List Tree → TypedBlock → List Bool → List Bool
+before_block D locals k row = before_all k.stmts (before_term D locals k.term row)
+
 -- the locals that a block reads before it fills them
 abbrev pub gen_row : List Shape → List Tree → TypedBlock → List Bool
-gen_row D locals k = before_all k.stmts (marked (blank (length locals)) (term_reads D locals k.term))
+gen_row D locals k = before_block D locals k (blank (length locals))
 
 -- the locals that a block fills
 abbrev pub kill_row : List Tree → TypedBlock → List Bool
 kill_row locals k = marked (blank (length locals)) (block_fills k)
+
+-- of each block of a body
+abbrev pub gen_rows : List Shape → TypedBody → List (List Bool)
+gen_rows D b = map (gen_row D b.locals) b.blocks
+
+abbrev pub kill_rows : TypedBody → List (List Bool)
+kill_rows b = map (kill_row b.locals) b.blocks
 
 -- the ones of some rows, beside those of a row
 abbrev pub or_rows : List (List Bool) → List Bool → List ℕ → List Bool
@@ -75,7 +82,7 @@ or_rows rows row (r ∷ rs) = or_rows rows (zip2 (λ a b. a || b) row (row_at ro
 
 -- the locals that are live before a block's terminator, given those at the blocks' starts
 abbrev pub end_row : List Shape → List Tree → List (List Bool) → TypedBlock → List Bool
-end_row D locals starts k = marked (cleared (or_rows starts (blank (length locals)) (targets k.term)) (term_fills k.term)) (term_reads D locals k.term)
+end_row D locals starts k = before_term D locals k.term (or_rows starts (blank (length locals)) (targets k.term))
 
 abbrev pub no_block : TypedBlock
 no_block = record { stmts = []; term = Unreachable }

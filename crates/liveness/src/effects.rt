@@ -1,19 +1,17 @@
 //! What blocks do to rows of live locals.
-ghost use Rattle.std.specs.Prelude.{◌≡◌, ℕ, List, ◌<◌, ◌^◌, map, set, length, IfOk};
-ghost use Rattle.bit_rows.specs.Rows.{row_at, marked};
+ghost use Rattle.std.specs.Prelude.{◌≡◌, List, ◌<◌, map, set, length};
+ghost use Rattle.bit_rows.specs.Rows.{row_at};
 ghost use Rattle.mir_syntax.specs.Tree.{Tree, trees_of};
 ghost use Rattle.mir_syntax.specs.Crate.{crate_of, body_of, block_of, stmt_of};
 ghost use Rattle.mir_syntax.specs.Shapes.{shapes_of};
 ghost use Rattle.mir_syntax.specs.Drops.{KnowsDrops};
 ghost use Rattle.mir_syntax.specs.Ids.{IdsInTable, BodyInTable};
-ghost use Rattle.liveness.specs.Live.{term_reads};
-ghost use Rattle.liveness.specs.Rows.{before_all, block_fills, gen_row, kill_row, block_at, IsRows};
+ghost use Rattle.liveness.specs.Rows.{before_all, before_term, before_block};
 
 use crate::backward::back;
-use crate::terminator::{mark_all_filled, mark_filled_by_term, read_term};
+use crate::terminator::{fill_term, read_term};
 use bit_rows::BitRows;
-use mir_syntax::{Block, Body, OutOfMemory, Program, Stmt};
-use std::alloc::Global;
+use mir_syntax::{Block, Body, Program, Stmt, Term};
 
 /// Carries a row of live locals over statements, the last one first.
 fn back_over(stmts: &[Stmt], rows: &mut BitRows, row: u32)
@@ -25,54 +23,39 @@ fn back_over(stmts: &[Stmt], rows: &mut BitRows, row: u32)
     }
 }
 
-/// Makes of a row without ones the locals that a block reads before it fills them.
-fn read_block(program: &Program, body: &Body, block: &Block, rows: &mut BitRows, row: u32)
+/// Carries a row of live locals over a terminator: it has those that are live at the starts of the targets.
+pub(crate) fn back_over_term(
+    program: &Program,
+    body: &Body,
+    term: &Term,
+    rows: &mut BitRows,
+    row: u32,
+)
     requires knows { KnowsDrops program.now }
     requires ids { IdsInTable program.now }
     requires body_ids { BodyInTable program.now.types body.now }
     requires row { row < length rows.old }
-    ensures { rows.new ≡ set rows.old row (before_all (block_of (trees_of program.now.types) block.now).stmts (marked (row_at rows.old row) (term_reads (shapes_of (crate_of program.now)) (body_of (trees_of program.now.types) body.now).locals block.now.term))) }
+    ensures { rows.new ≡ set rows.old row (before_term (shapes_of (crate_of program.now)) (body_of (trees_of program.now.types) body.now).locals term.now (row_at rows.old row)) }
 {
-    read_term(program, body, &block.term, rows, row);
-    back_over(block.stmts.as_slice(), rows, row);
+    fill_term(term, rows, row);
+    read_term(program, body, term, rows, row);
 }
 
-/// Adds to a row the locals that a block fills.
-fn fill_block(block: &Block, rows: &mut BitRows, row: u32)
-    requires { row < length rows.old }
-    ensures { (trees : List Tree) → rows.new ≡ set rows.old row (marked (row_at rows.old row) (block_fills (block_of trees block.now))) }
-{
-    mark_all_filled(block.stmts.as_slice(), rows, row);
-    mark_filled_by_term(&block.term, rows, row);
-}
-
-/// Of each block the locals that it reads before it fills them.
-pub(crate) fn gens(alloc: Global, program: &Program, body: &Body) -> Result<BitRows, OutOfMemory>
+/// Carries a row of live locals over a block: it has those that are live at the starts of the targets, and then those that are live at the
+/// block's own start.
+pub(crate) fn back_over_block(
+    program: &Program,
+    body: &Body,
+    block: &Block,
+    rows: &mut BitRows,
+    row: u32,
+)
     requires knows { KnowsDrops program.now }
     requires ids { IdsInTable program.now }
     requires body_ids { BodyInTable program.now.types body.now }
-    requires few_blocks { length body.now.blocks < 2 ^ 30 }
-    requires few_locals { length body.now.locals < 2 ^ 30 }
-    ensures { IfOk result (λ rows. IsRows (length body.now.blocks) (λ b. gen_row (shapes_of (crate_of program.now)) (body_of (trees_of program.now.types) body.now).locals (block_at (body_of (trees_of program.now.types) body.now).blocks b)) rows) }
+    requires row { row < length rows.old }
+    ensures { rows.new ≡ set rows.old row (before_block (shapes_of (crate_of program.now)) (body_of (trees_of program.now.types) body.now).locals (block_of (trees_of program.now.types) block.now) (row_at rows.old row)) }
 {
-    let blocks = body.blocks.as_slice();
-    let mut rows = BitRows::new(alloc, blocks.len() as u32, body.locals.len() as u32)?;
-    for (at, block) in blocks.iter().enumerate() {
-        read_block(program, body, block, &mut rows, at as u32);
-    }
-    Ok(rows)
-}
-
-/// Of each block the locals that it fills.
-pub(crate) fn kills(alloc: Global, body: &Body) -> Result<BitRows, OutOfMemory>
-    requires few_blocks { length body.now.blocks < 2 ^ 30 }
-    requires few_locals { length body.now.locals < 2 ^ 30 }
-    ensures { IfOk result (λ rows. (trees : List Tree) → IsRows (length body.now.blocks) (λ b. kill_row (body_of trees body.now).locals (block_at (body_of trees body.now).blocks b)) rows) }
-{
-    let blocks = body.blocks.as_slice();
-    let mut rows = BitRows::new(alloc, blocks.len() as u32, body.locals.len() as u32)?;
-    for (at, block) in blocks.iter().enumerate() {
-        fill_block(block, &mut rows, at as u32);
-    }
-    Ok(rows)
+    back_over_term(program, body, &block.term, rows, row);
+    back_over(block.stmts.as_slice(), rows, row);
 }

@@ -1,19 +1,18 @@
-ghost use Rattle.std.specs.Prelude.{◌≡◌, ℕ, List, ◌<◌, ◌^◌, ◌↔◌, map, set, length, IfOk, OnOk, IsTrue};
+ghost use Rattle.std.specs.Prelude.{◌≡◌, ℕ, List, [], ◌∷◌, ◌<◌, ◌^◌, ◌↔◌, map, set, length, IfOk, OnOk, IsTrue};
 ghost use Rattle.std.specs.List.{All};
-ghost use Rattle.bit_rows.specs.Rows.{row_at, flag, marked, HasSize};
+ghost use Rattle.bit_rows.specs.Rows.{row_at, flag, HasSize};
 ghost use Rattle.mir_syntax.specs.Tree.{trees_of};
-ghost use Rattle.mir_syntax.specs.Crate.{crate_of, body_of};
+ghost use Rattle.mir_syntax.specs.Crate.{crate_of, body_of, block_of};
 ghost use Rattle.mir_syntax.specs.Shapes.{shapes_of};
 ghost use Rattle.mir_syntax.specs.Drops.{KnowsDrops};
 ghost use Rattle.mir_syntax.specs.Ids.{IdsInTable, BodyInTable};
 ghost use Rattle.mir_syntax.specs.Parts.{targets};
 ghost use Rattle.mir_cfg.specs.Paths.{terms_of, Closed};
-ghost use Rattle.liveness.specs.Live.{Live, term_reads, term_fills};
-ghost use Rattle.liveness.specs.Rows.{cleared, or_rows, end_row, block_at, IsRows};
+ghost use Rattle.liveness.specs.Live.{Live};
+ghost use Rattle.liveness.specs.Rows.{or_rows, before_term, end_row, block_at, IsRows};
 
-use crate::effects::{gens, kills};
+use crate::effects::back_over_term;
 use crate::flow::LiveFlow;
-use crate::terminator::{fill_term, read_term};
 use crate::turned::turned_edges;
 use bit_rows::BitRows;
 use flow_engine::solve;
@@ -69,13 +68,33 @@ fn end_block(
     requires within { row < length rows.old }
     requires targets { All (λ r. r < length starts.now) (targets block.now.term) }
     requires same_bits { (r : ℕ) → r < length starts.now → length (row_at rows.old row) ≡ length (row_at starts.now r) }
-    ensures { OnOk result (rows.new ≡ set rows.old row (marked (cleared (or_rows starts.now (row_at rows.old row) (targets block.now.term)) (term_fills block.now.term)) (term_reads (shapes_of (crate_of program.now)) (body_of (trees_of program.now.types) body.now).locals block.now.term))) }
+    ensures { OnOk result (rows.new ≡ set rows.old row (before_term (shapes_of (crate_of program.now)) (body_of (trees_of program.now.types) body.now).locals block.now.term (or_rows starts.now (row_at rows.old row) (targets block.now.term)))) }
 {
     let next = succs(alloc, block)?;
     or_all(rows, row, starts, next.as_slice());
-    fill_term(&block.term, rows, row);
-    read_term(program, body, &block.term, rows, row);
+    back_over_term(program, body, &block.term, rows, row);
     Ok(())
+}
+
+/// One row, of the locals that are live before a block's terminator, given those that are live at the blocks' starts.
+pub fn live_end(
+    alloc: Global,
+    program: &Program,
+    body: &Body,
+    block: &Block,
+    starts: &BitRows,
+) -> Result<BitRows, OutOfMemory>
+    requires knows { KnowsDrops program.now }
+    requires ids { IdsInTable program.now }
+    requires body_ids { BodyInTable program.now.types body.now }
+    requires few_locals { length body.now.locals < 2 ^ 30 }
+    requires targets { All (λ r. r < length starts.now) (targets block.now.term) }
+    requires same_bits { (r : ℕ) → r < length starts.now → length (row_at starts.now r) ≡ length body.now.locals }
+    ensures { IfOk result (λ row. row ≡ end_row (shapes_of (crate_of program.now)) (body_of (trees_of program.now.types) body.now).locals starts.now (block_of (trees_of program.now.types) block.now) ∷ []) }
+{
+    let mut row = BitRows::new(alloc, 1, body.locals.len() as u32)?;
+    end_block(alloc, program, body, block, starts, &mut row, 0)?;
+    Ok(row)
 }
 
 /// The locals that are live before the blocks' terminators, given those that are live at their starts.
@@ -102,8 +121,8 @@ fn ends(
     Ok(rows)
 }
 
-/// Of each block the locals that are live before its first statement, as the least solution of the flow of live locals.
-fn starts(alloc: Global, program: &Program, body: &Body) -> Result<BitRows, OutOfMemory>
+/// Of each block of a body whose edges lead to its blocks, the locals that are live before its first statement.
+pub fn live_starts(alloc: Global, program: &Program, body: &Body) -> Result<BitRows, OutOfMemory>
     requires knows { KnowsDrops program.now }
     requires ids { IdsInTable program.now }
     requires body_ids { BodyInTable program.now.types body.now }
@@ -113,19 +132,18 @@ fn starts(alloc: Global, program: &Program, body: &Body) -> Result<BitRows, OutO
     ensures size { IfOk result (λ rows. HasSize rows (length body.now.blocks) (length body.now.locals)) }
     ensures live { IfOk result (λ rows. (b x : ℕ) → b < length body.now.blocks → x < length body.now.locals → IsTrue (flag rows b x) ↔ Live (shapes_of (crate_of program.now)) (body_of (trees_of program.now.types) body.now) b 0 x) }
 {
-    let edges = turned_edges(alloc, body.blocks.as_slice())?;
-    let gens = gens(alloc, program, body)?;
-    let kills = kills(alloc, body)?;
+    let turned = turned_edges(alloc, body.blocks.as_slice())?;
+    let edges = turned.as_slice();
     let blocks = body.blocks.len() as u32;
     let bits = body.locals.len() as u32;
     let flow = LiveFlow {
+        program,
+        body,
         blocks,
         bits,
         edges,
-        gens,
-        kills,
     };
-    let facts = solve(alloc, &flow, blocks, flow.edges.as_slice())?;
+    let facts = solve(alloc, &flow, blocks, edges)?;
     one_table(alloc, facts.as_slice(), bits)
 }
 
@@ -142,7 +160,7 @@ pub fn live(alloc: Global, program: &Program, body: &Body) -> Result<LiveRows, O
     ensures ends_size { IfOk result (λ rows. HasSize rows.ends (length body.now.blocks) (length body.now.locals)) }
     ensures ends { IfOk result (λ rows. (b x : ℕ) → b < length body.now.blocks → x < length body.now.locals → IsTrue (flag rows.ends b x) ↔ Live (shapes_of (crate_of program.now)) (body_of (trees_of program.now.types) body.now) b (length (block_at (body_of (trees_of program.now.types) body.now).blocks b).stmts) x) }
 {
-    let starts = starts(alloc, program, body)?;
+    let starts = live_starts(alloc, program, body)?;
     let ends = ends(alloc, program, body, &starts)?;
     Ok(LiveRows { starts, ends })
 }

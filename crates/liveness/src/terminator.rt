@@ -1,18 +1,17 @@
-//! What a terminator reads, and what blocks fill.
-ghost use Rattle.std.specs.Prelude.{◌≡◌, ◌<◌, ◌||◌, not, set, length, IsTrue, false, true};
-ghost use Rattle.std.specs.List.{flat_map};
+//! What terminators read and fill.
+ghost use Rattle.std.specs.Prelude.{◌≡◌, ◌<◌, set, length};
 ghost use Rattle.bit_rows.specs.Rows.{row_at, marked};
 ghost use Rattle.mir_syntax.specs.Tree.{trees_of};
 ghost use Rattle.mir_syntax.specs.Crate.{crate_of, body_of};
 ghost use Rattle.mir_syntax.specs.Shapes.{shapes_of};
 ghost use Rattle.mir_syntax.specs.Drops.{KnowsDrops};
 ghost use Rattle.mir_syntax.specs.Ids.{IdsInTable, BodyInTable};
-ghost use Rattle.liveness.specs.Live.{result_reads, term_reads, term_fills, whole};
-ghost use Rattle.liveness.specs.Rows.{cleared, bare_fills};
+ghost use Rattle.liveness.specs.Live.{result_reads, term_reads, term_fills};
+ghost use Rattle.liveness.specs.Rows.{cleared};
 
 use crate::backward::{fill, read_operand, read_operands, read_written};
 use bit_rows::BitRows;
-use mir_syntax::{Body, Place, Program, Stmt, Term};
+use mir_syntax::{Body, Place, Program, Term};
 
 /// The place of a call's result is read where it isn't there in each value of its local's type.
 fn read_result(program: &Program, body: &Body, place: &Place, rows: &mut BitRows, row: u32)
@@ -61,47 +60,5 @@ pub(crate) fn fill_term(term: &Term, rows: &mut BitRows, row: u32)
 {
     if let Term::Call(place, _, _, _) = term {
         fill(place, rows, row);
-    }
-}
-
-fn mark_whole(place: &Place, rows: &mut BitRows, row: u32)
-    requires { row < length rows.old }
-    ensures { rows.new ≡ set rows.old row (marked (row_at rows.old row) (whole place.now)) }
-{
-    if place.proj.is_empty() {
-        rows.write(row, place.local, true);
-    }
-}
-
-/// Adds to a row the local of which a statement writes the whole.
-fn mark_filled(stmt: &Stmt, rows: &mut BitRows, row: u32)
-    requires { row < length rows.old }
-    ensures { rows.new ≡ set rows.old row (marked (row_at rows.old row) (bare_fills stmt.now)) }
-{
-    match stmt {
-        Stmt::Assign(place, _) => mark_whole(place, rows, row),
-        Stmt::StorageLive(local) => rows.write(row, *local, true),
-        Stmt::StorageDead(local) => rows.write(row, *local, true),
-        Stmt::SetDiscriminant(_, _) => {}
-    }
-}
-
-/// Adds to a row the locals of which statements write the whole.
-pub(crate) fn mark_all_filled(stmts: &[Stmt], rows: &mut BitRows, row: u32)
-    requires { row < length rows.old }
-    ensures { rows.new ≡ set rows.old row (marked (row_at rows.old row) (flat_map bare_fills stmts.now)) }
-{
-    for stmt in stmts {
-        mark_filled(stmt, rows, row);
-    }
-}
-
-/// Adds to a row the local of which a terminator writes the whole.
-pub(crate) fn mark_filled_by_term(term: &Term, rows: &mut BitRows, row: u32)
-    requires { row < length rows.old }
-    ensures { rows.new ≡ set rows.old row (marked (row_at rows.old row) (term_fills term.now)) }
-{
-    if let Term::Call(place, _, _, _) = term {
-        mark_whole(place, rows, row);
     }
 }

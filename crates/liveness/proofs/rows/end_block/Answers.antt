@@ -1,11 +1,10 @@
 use Rattle.std.proofs.Common.{◌≡◌, List, ℕ, ap, ◌∙◌, map, set}
-use Rattle.bit_rows.specs.Rows.{row_at, marked}
+use Rattle.bit_rows.specs.Rows.{row_at}
 use Rattle.mir_syntax.specs.Tree.{at_id, trees_of}
 use Rattle.mir_syntax.specs.Crate.{crate_of}
 use Rattle.mir_syntax.specs.Shapes.{shapes_of}
 use Rattle.mir_syntax.specs.Parts.{targets}
-use Rattle.liveness.specs.Live.{term_reads, term_fills}
-use Rattle.liveness.specs.Rows.{cleared, or_rows}
+use Rattle.liveness.specs.Rows.{or_rows, before_term}
 use Rattle.liveness.proofs.Carried.{row_then}
 use Rattle.liveness.proofs.rows.end_block.Goals as goal
 
@@ -17,8 +16,6 @@ returns c =
     let rows = c.args.rows.now in
     let row = c.args.row in
     let starts = c.args.starts.now in
-    let reads = term_reads (shapes_of (crate_of p)) locals t in
     let next : c.as_slice.result.now ≡ targets t = c.as_slice.ensures ∙ c.in_ok-next.ensures in
     let first : c.or_all.new.rows ≡ set rows row (or_rows starts (row_at rows row) (targets t)) = c.or_all.ensures ∙ ap (λ (xs : List ℕ). set rows row (or_rows starts (row_at rows row) xs)) next in
-    let second = row_then rows c.or_all.new.rows c.fill_term.new.rows row (λ x. or_rows starts x (targets t)) (λ x. cleared x (term_fills t)) c.requires.within first c.fill_term.ensures in
-    row_then rows c.fill_term.new.rows c.read_term.new.rows row (λ x. cleared (or_rows starts x (targets t)) (term_fills t)) (λ x. marked x reads) c.requires.within second c.read_term.ensures
+    row_then rows c.or_all.new.rows c.back_over_term.new.rows row (λ x. or_rows starts x (targets t)) (before_term (shapes_of (crate_of p)) locals t) c.requires.within first c.back_over_term.ensures

@@ -1,20 +1,25 @@
-use Rattle.std.proofs.Common.{◌≡◌, ◌<◌, [], ◌∷◌, sym, ap, ◌∙◌, length, set}
-use Rattle.std.proofs.lemmas.Simd.{length-zip2}
-use lib.Lanes.{zip2}
-use Rattle.bit_rows.specs.Rows.{row_at, and_not}
-use Rattle.liveness.specs.Lattice.{row_long}
+use Rattle.std.proofs.Common.{◌≡◌, List, Bool, [], ◌∷◌, Some, length, ltb-true, refl, sym, ap, ◌∙◌, set}
+use Rattle.std.proofs.lemmas.Option.{slice_get-get_or}
+use Rattle.flow_engine.specs.declared.edges.Edge.{Edge}
+use Rattle.bit_rows.specs.Rows.{row_at}
+use Rattle.mir_syntax.specs.Tree.{trees_of}
+use Rattle.mir_syntax.specs.Crate.{crate_of, body_of, block_of}
+use Rattle.mir_syntax.specs.Shapes.{shapes_of}
+use Rattle.liveness.specs.Rows.{before_block}
+use Rattle.liveness.proofs.Flowing.{sent_is}
 use Rattle.liveness.proofs.flow.LiveFlowAnalysis.flow.Goals as goal
 
-pub or_other-requires-clause-same_bits : goal.or_other-requires-clause-same_bits
-or_other-requires-clause-same_bits c =
+pub returns : goal.returns
+returns c =
     let a = c.args.self.now in
+    let D = shapes_of (crate_of a.program.now) in
+    let trees = trees_of a.program.now.types in
+    let body = a.body.now in
+    let fact = c.args.fact.now in
     let e = c.in-Some.edge.now in
-    let to_in : e.to < a.blocks = a.sized.ends c.args.edge e (sym c.in-Some.ensures) in
-    let row = row_at c.args.fact.now 0 in
-    let copied : c.copy_other.new.self ≡ row ∷ [] = c.copy_other.ensures.row ∙ ap (λ t. set t 0 row) c.in_ok-row.ensures in
-    let kill = row_at a.kills e.to in
-    let cut : c.minus_other.new.self ≡ zip2 and_not row kill ∷ [] = c.minus_other.ensures.row ∙ ap (λ t. set t 0 (zip2 and_not (row_at t 0) kill)) copied in
-    let long : length row ≡ a.bits = row_long a.bits c.args.fact.now c.requires in
-    ap (λ t. length (row_at t 0)) cut
-    ∙ length-zip2 and_not row kill (long ∙ sym (a.sized.kills_size.bits_is e.to to_in))
-    ∙ long ∙ sym (a.sized.gens_size.bits_is e.to to_in)
+    let k = c.in-Some-get.block.now in
+    let at = c.in-Some.ensures.lookup in
+    let copied : c.copy_other.new.self ≡ row_at fact 0 ∷ [] = c.copy_other.ensures.row ∙ ap (λ (t : List (List Bool)). set t 0 (row_at fact 0)) c.in_ok-row.ensures in
+    c.back_over_block.ensures
+    ∙ ap (λ (t : List (List Bool)). set t 0 (before_block D (body_of trees body).locals (block_of trees k) (row_at t 0))) copied
+    ∙ sent_is D trees body a.blocks a.bits a.blocks_are a.bits_are e.to k (sym c.in-Some-get.ensures) a.edges.now c.args.edge e fact (slice_get-get_or a.edges.now c.args.edge e (ltb-true c.args.edge (length a.edges.now) (sym at.0)) ∙ ap (λ (x : Edge). Some x) (sym at.1)) refl c.requires
