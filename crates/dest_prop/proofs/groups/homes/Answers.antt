@@ -16,6 +16,7 @@ loop-copy-preserved c =
           let cs = c.args.candidates.now in
           subst (λ (h : ℕ → ℕ). IsGrouped (definition.hurts D b) h c.join.new.self) (sym (joined_more D b cs c.loop-copy.copy-index d (omega arith)))
           (c.join.ensures.grouped D b (definition.homes_after D b (λ x. x) (map pair_of (take c.loop-copy.copy-index cs))) (args ∙ sym w.0) (locals ∙ sym w.1) (w.3 D b args locals marks))),
+      c.join.ensures.room,
     )
 
 pub returns-clause-long : goal.returns-clause-long

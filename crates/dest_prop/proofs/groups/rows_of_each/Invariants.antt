@@ -2,4 +2,4 @@ use Rattle.dest_prop.proofs.equal.Grouping.{Alone}
 use Rattle.dest_prop.proofs.groups.rows_of_each.Given as goal
 
 abbrev pub invariant-loop-local : goal.invariant-loop-local
-invariant-loop-local l = Alone l.locals l.hurts l.local l.rows
+invariant-loop-local l = Alone l.locals l.local l.rows
