@@ -1,6 +1,6 @@
 //! Which writes of a body come upon live locals: a table with a row for each local, in which the locals are marked that are live after a write
 //! of it.
-ghost use Rattle.std.specs.Prelude.{◌≡◌, ℕ, List, ◌<◌, ◌≤◌, ◌^◌, ◌&&◌, ◌||◌, not, nat_eq, map, length, get_or, IfOk, OnOk};
+ghost use Rattle.std.specs.Prelude.{◌≡◌, ℕ, List, ◌<◌, ◌^◌, ◌&&◌, not, nat_eq, length, IfOk, OnOk};
 ghost use Rattle.std.specs.List.{All};
 ghost use Rattle.bit_rows.specs.Rows.{row_at, flag, stands, HasSize};
 ghost use Rattle.mir_syntax.specs.Drops.{KnowsDrops};

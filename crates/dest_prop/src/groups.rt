@@ -109,9 +109,7 @@ impl Groups {
         ensures may { IsTrue result ↔ MayUnite self.now a b }
         ensures room { HasSize room.new 2 self.now.locals }
     {
-        (a > self.args || b > self.args)
-            && !self.hurts(a, b, room)
-            && !self.hurts(b, a, room)
+        (a > self.args || b > self.args) && !self.hurts(a, b, room) && !self.hurts(b, a, room)
     }
 
     /// Makes one group of two, given by the home that it keeps and the one that goes.

@@ -12,7 +12,7 @@ use Rattle.mir_syntax.specs.Shapes.{Shape}
 use Rattle.mir_syntax.specs.Parts.{targets}
 use Rattle.bit_rows.specs.Rows.{row_at, marked}
 use Rattle.flow_engine.specs.declared.edges.Edge.{Edge}
-use Rattle.liveness.specs.Live.{operand_locals, whole, stmt_reads, stmt_fills, term_reads, term_fills, Live}
+use Rattle.liveness.specs.Live.{operand_locals, stmt_reads, stmt_fills, term_reads, term_fills, Live}
 
 -- a row after the bits of some numbers were cleared
 abbrev pub cleared : List Bool → List ℕ → List Bool

@@ -16,7 +16,7 @@ use Rattle.dest_prop.specs.declared.candidates.LocalCopy.{LocalCopy}
 use Rattle.dest_prop.specs.declared.groups.Groups.{Groups}
 use Rattle.dest_prop.specs.Merged.{Pair, hurts, conflict, members, is_fixed, agree, may_join, joined, homes_after, home_of, candidates}
 use Rattle.dest_prop.specs.Code.{home_in, moved_home, or_into, next_home, pair_of, IsSized, IsGrouped, MayUnite}
-use Rattle.dest_prop.proofs.Homes.{above, all_at, not_true}
+use Rattle.dest_prop.proofs.Homes.{all_at, not_true}
 use Rattle.dest_prop.proofs.equal.Grown.{size_set, or_long}
 
 -- ---- each alone

@@ -1,4 +1,4 @@
-use Rattle.std.proofs.Common.{◌≡◌, ℕ, ◌||◌, false, map, length, replicate, ap, ◌∙◌, subst}
+use Rattle.std.proofs.Common.{ℕ, ◌||◌, false, map, length, replicate, ap, ◌∙◌, subst}
 use Rattle.mir_syntax.specs.Tree.{at_id, trees_of}
 use Rattle.mir_syntax.specs.Crate.{crate_of}
 use Rattle.mir_syntax.specs.Shapes.{shapes_of}
