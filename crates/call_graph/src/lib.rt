@@ -1,7 +1,7 @@
 //! Who calls whom, what that costs, and who asks for whose body.
 //!
 //! - `callees` lists the functions that a body calls and the destructors that its drops may run, each once (`specs/Callees.antt`). `cost` is
-//!   what a body costs (`specs/Cost.antt`), and `qualif` tells whether it has no call, no drop, no assert and no cycle of blocks
+//!   what a body costs (`specs/Cost.antt`), `cost_flat` the same for one in a single table, and `qualif` tells whether it has no call, no drop, no assert and no cycle of blocks
 //!   (`specs/Qualif.antt`).
 //! - `Reach` finds what chains of calls lead to from a function, one list of callees at a time and the least known function next; `below` is
 //!   the order of paths, and `asks` tells whether a function asks for another (`specs/Graph.antt`).
@@ -21,7 +21,7 @@ mod reach;
 
 pub use asking::{asking_falls, asks, components_tell, paths_are_in_order};
 pub use called::{callees, calls_stay_inside};
-pub use costs::cost;
+pub use costs::{cost, cost_flat};
 pub use cycles::qualif;
 pub use paths::below;
 pub use reach::Reach;
