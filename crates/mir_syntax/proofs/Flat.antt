@@ -1,5 +1,5 @@
 -- Blocks whose statements are ranges of one table.
-use Rattle.std.proofs.Common.{◌≡◌, refl, sym, ap, ap₂, ◌∙◌, subst, ℕ, zero, suc, ◌+◌, ◌-◌, ◌<◌, ◌≤◌, List, [], ◌∷◌, ◌++◌, length, get_or, take, drop, Option, Some, None, slice_get, arith, length-append, length-drop}
+use Rattle.std.proofs.Common.{◌≡◌, refl, sym, ap, ap₂, ◌∙◌, subst, ℕ, zero, suc, ◌+◌, ◌-◌, ◌<◌, ◌≤◌, List, [], ◌∷◌, ◌++◌, append_assoc, length, get_or, take, drop, Option, Some, None, slice_get, arith, length-append, length-drop}
 use Rattle.std.proofs.lemmas.List.{drop-append-le, take-append-le, take_all}
 use Rattle.std.proofs.Math.Seq.{drop-append_seam}
 use Rattle.mir_syntax.specs.declared.body.Stmt.{Stmt}
@@ -82,3 +82,30 @@ one_more start [] (u ∷ us) stmts own t c e = absurd (omega arith)
 one_more start (x ∷ ends) [] stmts own t c e = absurd (omega arith)
 one_more start (x ∷ ends) (u ∷ us) stmts own t c e =
     ap₂ (λ (ss : List Stmt) (ks : List Block). record { stmts = ss; term = u } ∷ ks) (kept_part start x stmts own c.0 (covers_up x (length stmts) ends c.1)) (one_more x ends us stmts own t c.1 (omega (arith, e)))
+
+-- ---- blocks that are put into the table one after another
+
+-- the table has the blocks but for those that are still to come
+pub record Gathers (blocks : List Block) (ends : List ℕ) (ts : List Term) (stmts : List Stmt) (rest : List Block) : Type 0 where
+  pub told : blocks_from 0 ends ts stmts ++ rest ≡ blocks
+  pub covers : Covers 0 (length stmts) ends
+  pub as_many : length ends ≡ length ts
+
+gathers_one : (blocks : List Block) (ends : List ℕ) (ts : List Term) (stmts : List Stmt) (k : Block) (rest : List Block) → Gathers blocks ends ts stmts (k ∷ rest)
+    → Gathers blocks (ends ++ length (stmts ++ k.stmts) ∷ []) (ts ++ k.term ∷ []) (stmts ++ k.stmts) rest
+gathers_one blocks ends ts stmts k rest g = record {
+  told = ap (λ ks. ks ++ rest) (one_more 0 ends ts stmts k.stmts k.term g.covers g.as_many) ∙ append_assoc (blocks_from 0 ends ts stmts) (k ∷ []) rest ∙ g.told;
+  covers = covers_more 0 (length stmts) (length (stmts ++ k.stmts)) ends g.covers (omega (arith, length-append stmts k.stmts));
+  as_many = (let a = length-append ends (length (stmts ++ k.stmts) ∷ []) in let b = length-append ts (k.term ∷ []) in let e = g.as_many in omega (arith, a, b, e));
+}
+
+pub gathers_more : (blocks : List Block) (ends ends2 : List ℕ) (ts ts2 : List Term) (stmts stmts2 : List Stmt) (rest rest2 : List Block) (k : Block) (end : ℕ) → Gathers blocks ends ts stmts rest → rest ≡ k ∷ rest2
+    → stmts2 ≡ stmts ++ k.stmts → end ≡ length stmts2 → ends2 ≡ ends ++ end ∷ [] → ts2 ≡ ts ++ k.term ∷ [] → Gathers blocks ends2 ts2 stmts2 rest2
+gathers_more blocks ends ends2 ts ts2 stmts stmts2 rest rest2 k end g next own at e t =
+    let one = gathers_one blocks ends ts stmts k rest2 (subst (Gathers blocks ends ts stmts) next g) in
+    subst (λ es. Gathers blocks es ts2 stmts2 rest2) (ap (λ n. ends ++ n ∷ []) (ap length (sym own) ∙ sym at) ∙ sym e)
+    (subst (λ us. Gathers blocks (ends ++ length (stmts ++ k.stmts) ∷ []) us stmts2 rest2) (sym t)
+    (subst (λ ss. Gathers blocks (ends ++ length (stmts ++ k.stmts) ∷ []) (ts ++ k.term ∷ []) ss rest2) (sym own) one))
+
+pub gathered_few : (blocks : List Block) (ends : List ℕ) (ts : List Term) (stmts : List Stmt) (rest : List Block) → Gathers blocks ends ts stmts rest → length ends ≤ length blocks
+gathered_few blocks ends ts stmts rest g = let l = ap length g.told in omega (arith, l, length-append (blocks_from 0 ends ts stmts) rest, blocks_long 0 ends ts stmts g.as_many)

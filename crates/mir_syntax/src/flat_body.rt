@@ -1,4 +1,4 @@
-ghost use Rattle.std.specs.Prelude.{◌≡◌, ◌<◌, ◌≤◌, ◌-◌, ◌^◌, length, Some, slice_get, get_or, IfOk};
+ghost use Rattle.std.specs.Prelude.{◌≡◌, ◌<◌, ◌≤◌, ◌-◌, ◌^◌, length, take, drop, Some, IfOk};
 ghost use Rattle.mir_syntax.specs.Flat.{start_of, stmts_at, term_at};
 
 use crate::copied::copy_all;
@@ -36,6 +36,15 @@ fn start(ends: &[usize], block: usize) -> usize
     ensures { result ≡ start_of 0 ends.now block }
 {
     if block == 0 { 0 } else { ends[block - 1] }
+}
+
+/// A range of a table of statements.
+fn range(stmts: &[Stmt], start: usize, end: usize) -> &[Stmt]
+    requires order { start ≤ end }
+    requires within { end ≤ length stmts.now }
+    ensures { result.now ≡ take (end - start) (drop start stmts.now) }
+{
+    &stmts[start..end]
 }
 
 impl FlatBody {
@@ -120,7 +129,7 @@ impl FlatBody {
     {
         let ends = self.ends.as_slice();
         let start = start(ends, block as usize);
-        &self.stmts.as_slice()[start..ends[block as usize]]
+        range(self.stmts.as_slice(), start, ends[block as usize])
     }
 
     /// The terminator of a block.
