@@ -1,5 +1,5 @@
 -- Blocks whose statements are ranges of one table.
-use Rattle.std.proofs.Common.{◌≡◌, refl, sym, ap, ap₂, ◌∙◌, subst, ℕ, zero, suc, ◌+◌, ◌-◌, ◌<◌, ◌≤◌, List, [], ◌∷◌, ◌++◌, append_assoc, length, get_or, take, drop, Option, Some, None, slice_get, arith, length-append, length-drop}
+use Rattle.std.proofs.Common.{◌≡◌, refl, sym, ap, ap₂, ◌∙◌, subst, ℕ, zero, suc, ◌+◌, ◌-◌, ◌<◌, ◌≤◌, List, [], ◌∷◌, ◌++◌, append_assoc, length, get_or, take, drop, Some, slice_get, arith, length-append, length-drop}
 use Rattle.std.proofs.lemmas.List.{drop-append-le, take-append-le, take_all}
 use Rattle.std.proofs.Math.Seq.{drop-append_seam}
 use Rattle.mir_syntax.specs.declared.body.Stmt.{Stmt}
@@ -7,7 +7,8 @@ use Rattle.mir_syntax.specs.declared.body.Term.{Term}
 use Rattle.mir_syntax.specs.declared.body.Block.{Block}
 use Rattle.mir_syntax.specs.Flat.{blocks_from, Covers, start_of, stmts_at, term_at}
 
-pub blocks_long : (start : ℕ) (ends : List ℕ) (ts : List Term) (stmts : List Stmt) → length ends ≡ length ts → length (blocks_from start ends ts stmts) ≡ length ends
+pub blocks_long : (start : ℕ) (ends : List ℕ) (ts : List Term) (stmts : List Stmt) → length ends ≡ length ts
+    → length (blocks_from start ends ts stmts) ≡ length ends
 blocks_long start [] ts stmts e = refl
 blocks_long start (x ∷ ends) [] stmts e = absurd (omega arith)
 blocks_long start (x ∷ ends) (t ∷ ts) stmts e = ap suc (blocks_long x ends ts stmts (omega (arith, e)))
@@ -22,14 +23,16 @@ stmts_are start zero (x ∷ ends) (t ∷ ts) stmts e lt = refl
 stmts_are start (suc zero) (x ∷ ends) (t ∷ ts) stmts e lt = stmts_are x zero ends ts stmts (omega (arith, e)) (omega (arith, lt))
 stmts_are start (suc (suc i)) (x ∷ ends) (t ∷ ts) stmts e lt = stmts_are x (suc i) ends ts stmts (omega (arith, e)) (omega (arith, lt))
 
-pub term_is : (start i : ℕ) (ends : List ℕ) (ts : List Term) (stmts : List Stmt) (t : Term) → length ends ≡ length ts → i < length ends → t ≡ get_or ts i t → term_at (blocks_from start ends ts stmts) i ≡ Some t
+pub term_is : (start i : ℕ) (ends : List ℕ) (ts : List Term) (stmts : List Stmt) (t : Term) → length ends ≡ length ts → i < length ends
+    → t ≡ get_or ts i t → term_at (blocks_from start ends ts stmts) i ≡ Some t
 term_is start i [] ts stmts t e lt h = absurd (omega arith)
 term_is start i (x ∷ ends) [] stmts t e lt h = absurd (omega arith)
 term_is start zero (x ∷ ends) (u ∷ us) stmts t e lt h = ap Some (sym h)
 term_is start (suc i) (x ∷ ends) (u ∷ us) stmts t e lt h = term_is x i ends us stmts t (omega (arith, e)) (omega (arith, lt)) h
 
 -- a block is its statements and its terminator
-pub block_is : (blocks : List Block) (i : ℕ) (ss : List Stmt) (t : Term) → stmts_at blocks i ≡ Some ss → term_at blocks i ≡ Some t → slice_get blocks i ≡ Some (record { stmts = ss; term = t })
+pub block_is : (blocks : List Block) (i : ℕ) (ss : List Stmt) (t : Term) → stmts_at blocks i ≡ Some ss → term_at blocks i ≡ Some t
+    → slice_get blocks i ≡ Some (record { stmts = ss; term = t })
 block_is [] i ss t a b = absurd (cc)
 block_is (k ∷ ks) zero ss t a b = let same : k.stmts ≡ ss = cc in let ends : k.term ≡ t = cc in ap₂ (λ (x : List Stmt) (y : Term). Some (record { stmts = x; term = y })) same ends
 block_is (k ∷ ks) (suc i) ss t a b = block_is ks i ss t a b
@@ -65,17 +68,20 @@ covers_more start last more [] c up = ((omega (arith, c, up)), refl)
 covers_more start last more (x ∷ ends) c up = (c.0, covers_more x last more ends c.1 up)
 
 -- what stands before the end of the table stays
-kept_part : (start end : ℕ) (stmts own : List Stmt) → start ≤ end → end ≤ length stmts → take (end - start) (drop start (stmts ++ own)) ≡ take (end - start) (drop start stmts)
+kept_part : (start end : ℕ) (stmts own : List Stmt) → start ≤ end → end ≤ length stmts
+    → take (end - start) (drop start (stmts ++ own)) ≡ take (end - start) (drop start stmts)
 kept_part start end stmts own up within =
     ap (take (end - start)) (drop-append-le start stmts own (omega (arith, up, within)))
     ∙ take-append-le (end - start) (drop start stmts) own (omega (arith, up, within, length-drop start stmts))
 
-last_part : (start : ℕ) (stmts own : List Stmt) → start ≡ length stmts → take (length (stmts ++ own) - start) (drop start (stmts ++ own)) ≡ own
+last_part : (start : ℕ) (stmts own : List Stmt) → start ≡ length stmts
+    → take (length (stmts ++ own) - start) (drop start (stmts ++ own)) ≡ own
 last_part start stmts own e =
     let many : length (stmts ++ own) - start ≡ length own = omega (arith, e, length-append stmts own) in
     ap₂ take many (ap (λ k. drop k (stmts ++ own)) e ∙ drop-append_seam stmts own) ∙ take_all (length own) own (omega arith)
 
-pub one_more : (start : ℕ) (ends : List ℕ) (ts : List Term) (stmts own : List Stmt) (t : Term) → Covers start (length stmts) ends → length ends ≡ length ts
+pub one_more : (start : ℕ) (ends : List ℕ) (ts : List Term) (stmts own : List Stmt) (t : Term) → Covers start (length stmts) ends
+    → length ends ≡ length ts
     → blocks_from start (ends ++ length (stmts ++ own) ∷ []) (ts ++ t ∷ []) (stmts ++ own) ≡ blocks_from start ends ts stmts ++ record { stmts = own; term = t } ∷ []
 one_more start [] [] stmts own t c e = ap (λ (ss : List Stmt). record { stmts = ss; term = t } ∷ []) (last_part start stmts own c)
 one_more start [] (u ∷ us) stmts own t c e = absurd (omega arith)
@@ -91,7 +97,8 @@ pub record Gathers (blocks : List Block) (ends : List ℕ) (ts : List Term) (stm
   pub covers : Covers 0 (length stmts) ends
   pub as_many : length ends ≡ length ts
 
-gathers_one : (blocks : List Block) (ends : List ℕ) (ts : List Term) (stmts : List Stmt) (k : Block) (rest : List Block) → Gathers blocks ends ts stmts (k ∷ rest)
+gathers_one : (blocks : List Block) (ends : List ℕ) (ts : List Term) (stmts : List Stmt) (k : Block) (rest : List Block)
+    → Gathers blocks ends ts stmts (k ∷ rest)
     → Gathers blocks (ends ++ length (stmts ++ k.stmts) ∷ []) (ts ++ k.term ∷ []) (stmts ++ k.stmts) rest
 gathers_one blocks ends ts stmts k rest g = record {
   told = ap (λ ks. ks ++ rest) (one_more 0 ends ts stmts k.stmts k.term g.covers g.as_many) ∙ append_assoc (blocks_from 0 ends ts stmts) (k ∷ []) rest ∙ g.told;
@@ -107,5 +114,6 @@ gathers_more blocks ends ends2 ts ts2 stmts stmts2 rest rest2 k end g next own a
     (subst (λ us. Gathers blocks (ends ++ length (stmts ++ k.stmts) ∷ []) us stmts2 rest2) (sym t)
     (subst (λ ss. Gathers blocks (ends ++ length (stmts ++ k.stmts) ∷ []) (ts ++ k.term ∷ []) ss rest2) (sym own) one))
 
-pub gathered_few : (blocks : List Block) (ends : List ℕ) (ts : List Term) (stmts : List Stmt) (rest : List Block) → Gathers blocks ends ts stmts rest → length ends ≤ length blocks
+pub gathered_few : (blocks : List Block) (ends : List ℕ) (ts : List Term) (stmts : List Stmt) (rest : List Block)
+    → Gathers blocks ends ts stmts rest → length ends ≤ length blocks
 gathered_few blocks ends ts stmts rest g = let l = ap length g.told in omega (arith, l, length-append (blocks_from 0 ends ts stmts) rest, blocks_long 0 ends ts stmts g.as_many)

@@ -1,4 +1,4 @@
-use Rattle.std.proofs.Common.{◌≡◌, sym, ap, ap₂, ◌∙◌, ◌-◌, ◌<◌, length, get_or, take, drop, Some, arith}
+use Rattle.std.proofs.Common.{sym, ap, ◌∙◌, ◌-◌, ◌<◌, length, get_or, take, drop, Some, arith}
 use Rattle.mir_syntax.specs.declared.body.Body.{Body}
 use Rattle.mir_syntax.specs.Flat.{start_of, stmts_at}
 use Rattle.mir_syntax.proofs.Flat.{blocks_long, stmts_are, ends_within, starts_before}

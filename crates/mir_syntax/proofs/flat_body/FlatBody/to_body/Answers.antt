@@ -14,5 +14,5 @@ loop-block-preserved c =
     let there = block_there blocks i c.stmts.result.now c.term.result.now c.stmts.ensures c.term.ensures in
     c.in_ok-push.ensures.ok
     ∙ ap₂ (λ (ks : List Block) (b : Block). ks ++ b ∷ []) c.loop-block.invariant
-      (ap₂ (λ (ss : List Stmt) (t : Term). record { stmts = ss; term = t }) c.in_ok-copy_all.ensures c.in_ok-copied.ensures ∙ there.1)
+    (ap₂ (λ (ss : List Stmt) (t : Term). record { stmts = ss; term = t }) c.in_ok-copy_all.ensures c.in_ok-copied.ensures ∙ there.1)
     ∙ sym (take_more blocks i k there.0)
