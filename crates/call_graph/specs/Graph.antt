@@ -2,6 +2,8 @@
 use Rattle.std.specs.Prelude.{◌≡◌, ℕ, zero, suc, ◌+◌, ◌*◌, ◌<◌, ◌≤◌, Bool, true, false, not, nat_lt, ◌==◌, ◌&&◌, ◌||◌, List, [], ◌∷◌, ◌++◌, length, map, Option, Some, None, option_to_list, get_or, if◌then◌else◌}
 use Rattle.std.specs.List.{list_any}
 use Rattle.bit_rows.specs.Rows.{stands}
+use Rattle.mir_syntax.specs.Drops.{fn_number}
+use Rattle.mir_syntax.specs.declared.types.FnId.{FnId}
 use Rattle.mir_syntax.specs.Crate.{Crate, TypedFunction}
 
 pub record Graph : Type 0 where
@@ -111,6 +113,22 @@ weight G f = length (reach G f) * suc G.functions + above G f
 pub record IsComponents (G : Graph) (component : ℕ → ℕ) : Type 0 where
   pub earlier : (f g : ℕ) → f < G.functions → stands g (G.callees f) ≡ true → component g ≤ component f
   pub both : (f g : ℕ) → f < G.functions → g < G.functions → component f ≡ component g → Reaches G f g
+
+-- the callees of each function, by lists
+abbrev pub callees_in : List (List FnId) → ℕ → List ℕ
+callees_in lists f = map fn_number (get_or lists f [])
+
+-- a graph that has these functions and callees
+pub record HasCallees (G : Graph) (lists : List (List FnId)) : Type 0 where
+  pub functions : G.functions ≡ length lists
+  pub callees : (f : ℕ) → f < length lists → G.callees f ≡ callees_in lists f
+
+-- each list has functions of the graph
+abbrev pub CallsInside : List (List FnId) → Type 0
+CallsInside lists = (f g : ℕ) → stands g (callees_in lists f) ≡ true → g < length lists
+
+abbrev pub component_in : List ℕ → ℕ → ℕ
+component_in numbers f = get_or numbers f 0
 
 -- of a function g that f reaches by some call: whether f asks for it
 abbrev pub asks_by : Graph → (ℕ → ℕ) → ℕ → ℕ → Bool

@@ -5,3 +5,4 @@ pub mod Graph
 pub mod Reaching
 pub mod Walk
 pub mod Ending
+pub mod Search
