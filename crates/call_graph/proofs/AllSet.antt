@@ -1,13 +1,14 @@
 -- The same value is put at many places of a list.
 use Rattle.std.proofs.Common.{◌≡◌, ◌≢◌, refl, sym, ap, subst, ◌∙◌, ℕ, zero, suc, ◌+◌, ◌<◌, ◌≤◌, Bool, true, false, List, [], ◌∷◌, ◌++◌, length, get_or, set, take, ◌⊎◌, inl, inr, arith, get_or-set_same, get_or-set_other}
 use Rattle.std.proofs.Math.ListN.{length-set}
-use Rattle.std.proofs.lemmas.List.{take_more}
+use Rattle.std.proofs.lemmas.List.{take_more, get_or_past}
+use Rattle.std.proofs.lemmas.List.Sums.{sum_by-set}
+use Rattle.std.proofs.lemmas.Bool.{cases_eq}
 use Rattle.bit_rows.specs.Rows.{stands}
 use Rattle.call_graph.specs.declared.components.Mark.{Mark}
 use Rattle.call_graph.specs.declared.components.Mark.TheVariants.{Unseen, OnStack, Closed}
-use Rattle.call_graph.specs.Search.{all_set, unseen}
+use Rattle.call_graph.specs.Search.{all_set, unseen_one, unseen}
 use Rattle.call_graph.proofs.Once.{bool_tells, both, stands_cases, stands_first, stands_later}
-use Rattle.call_graph.proofs.Rising.{same_or_not}
 
 module _ {A : Type 0} where
   pub all_set_long : (xs : List A) (is : List ℕ) (v : A) → length (all_set xs is v) ≡ length xs
@@ -42,26 +43,25 @@ module _ {A : Type 0} where
       ∙ sym (all_set_append xs (take i is) (get_or is i 0 ∷ []) v)
       ∙ ap (λ js. all_set xs js v) (sym (take_more is i 0 l))
 
+-- ---- marks of those that were seen
+
+seen_none : (m : Mark) → m ≢ Unseen → unseen_one m ≡ 0
+seen_none Unseen ne = absurd (ne refl)
+seen_none (OnStack i) ne = refl
+seen_none Closed ne = refl
+
+seen_in : (marks : List Mark) (f : ℕ) → get_or marks f Unseen ≢ Unseen → f < length marks
+seen_in marks f ne = elim (let d : (f < length marks) ⊎ (length marks ≤ f) = grind arith in d) [ inl l ↦ l | inr out ↦ absurd (ne (get_or_past marks f Unseen out)) ]
+
 unseen_same : (marks : List Mark) (f : ℕ) → get_or marks f Unseen ≢ Unseen → unseen (set marks f Closed) ≡ unseen marks
-unseen_same [] f ne = refl
-unseen_same (Unseen ∷ ms) zero ne = absurd (ne refl)
-unseen_same (OnStack i ∷ ms) zero ne = refl
-unseen_same (Closed ∷ ms) zero ne = refl
-unseen_same (m ∷ ms) (suc f) ne = let r = unseen_same ms f ne in omega (arith, r)
+unseen_same marks f ne = let s = sum_by-set unseen_one marks f Closed Unseen (seen_in marks f ne) in let k = seen_none (get_or marks f Unseen) ne in omega (arith, s, k)
 
 pub unseen_kept : (marks : List Mark) (fs : List ℕ) → ((f : ℕ) → stands f fs ≡ true → get_or marks f Unseen ≢ Unseen) → unseen (all_set marks fs Closed) ≡ unseen marks
 unseen_kept marks [] h = refl
 unseen_kept marks (f ∷ fs) h = unseen_kept (set marks f Closed) fs after ∙ unseen_same marks f (h f (stands_first f fs))
   where
     after : (g : ℕ) → stands g fs ≡ true → get_or (set marks f Closed) g Unseen ≢ Unseen
-    after g e k = elim (same_or_not g f) [
+    after g e k = elim (cases_eq g f) [
       | inr ne ↦ h g (stands_later g f fs e) (sym (get_or-set_other marks f g Closed Unseen ne) ∙ k)
-      | inl s ↦ elim (let d : (f < length marks) ⊎ (length marks ≤ f) = grind arith in d) [
-          | inl l ↦ (let m = sym (get_or-set_same marks f Closed Unseen l) ∙ ap (λ x. get_or (set marks f Closed) x Unseen) (sym s) ∙ k in absurd (cc))
-          | inr out ↦ h f (stands_first f fs) (past marks f out)
-        ]
+      | inl s ↦ (let m = sym (get_or-set_same marks f Closed Unseen (seen_in marks f (h f (stands_first f fs)))) ∙ ap (λ x. get_or (set marks f Closed) x Unseen) (sym s) ∙ k in absurd (cc))
     ]
-    past : (ms : List Mark) (f : ℕ) → length ms ≤ f → get_or ms f Unseen ≡ Unseen
-    past [] f l = refl
-    past (m ∷ ms) zero l = absurd (omega arith)
-    past (m ∷ ms) (suc f) l = past ms f (omega (arith, l))

@@ -2,11 +2,12 @@
 use Rattle.std.proofs.Common.{◌≡◌, ◌≢◌, refl, sym, ap, subst, ◌∙◌, ℕ, zero, suc, ◌+◌, ◌<◌, ◌≤◌, Bool, true, false, List, [], ◌∷◌, length, get_or, arith}
 use Rattle.std.specs.Prelude.{replicate}
 use Rattle.std.proofs.lemmas.List.{length-replicate}
+use Rattle.std.proofs.lemmas.List.Sums.{sum_by-cons}
 use Rattle.bit_rows.specs.Rows.{stands}
 use Rattle.call_graph.specs.declared.components.Mark.{Mark}
 use Rattle.call_graph.specs.declared.components.Mark.TheVariants.{Unseen, OnStack, Closed}
 use Rattle.call_graph.specs.Graph.{Graph}
-use Rattle.call_graph.specs.Search.{State, mark_of, unseen, IsSearch}
+use Rattle.call_graph.specs.Search.{State, mark_of, unseen_one, unseen, IsSearch}
 
 everywhere : {A : Type 0} (n : ℕ) (x : A) (i : ℕ) → get_or (replicate n x) i x ≡ x
 everywhere zero x i = refl
@@ -15,7 +16,7 @@ everywhere (suc n) x (suc i) = everywhere n x i
 
 all_unseen : (n : ℕ) → unseen (replicate n Unseen) ≡ n
 all_unseen zero = refl
-all_unseen (suc n) = let r = all_unseen n in omega (arith, r)
+all_unseen (suc n) = let r = all_unseen n in let k = sum_by-cons unseen_one Unseen (replicate n Unseen) in omega (arith, r, k)
 
 abbrev pub start : ℕ → State
 start n = record { marks = replicate n Unseen; looked = replicate n 0; component = replicate n 0; closed = 0; stack = []; starts = []; path = [] }
@@ -26,8 +27,8 @@ begun G n e = record {
   stack = record { within = λ i l. absurd (omega (arith, l)); marked = λ i l. absurd (omega (arith, l)); placed = λ f i m. (let k = sym (everywhere n Unseen f) ∙ m in absurd (cc)) };
   path = record { on_stack = λ p k. absurd (cc); rises = tt; starts_rise = tt; starts_on = λ p k. absurd (cc); first = λ l. absurd (omega (arith, l)) };
   looked = record {
-    none = λ f m. everywhere n 0 f;
-    most = λ f. (let k = everywhere n 0 f in omega (arith, k));
+    none = λ f m. everywhere {A = ℕ} n 0 f;
+    most = λ f. (let k = everywhere {A = ℕ} n 0 f in omega (arith, k));
     all = λ i l k. absurd (omega (arith, l));
     led = λ i k l h. absurd (omega (arith, l));
   };
@@ -39,3 +40,8 @@ begun G n e = record {
   };
   few = (let u = all_unseen n in omega (arith, u, e));
 }
+
+pub begun_at : (G : Graph) (n : ℕ) (s : State) → G.functions ≡ n → s.marks ≡ replicate n Unseen → s.looked ≡ replicate {A = ℕ} n 0 → s.component ≡ replicate {A = ℕ} n 0 → s.closed ≡ 0 → s.stack ≡ [] → s.starts ≡ [] → s.path ≡ [] → IsSearch G s
+begun_at G n s e marks looked component closed stack starts path =
+    let same : start n ≡ s = (λ i. record { marks = (sym marks) i; looked = (sym looked) i; component = (sym component) i; closed = (sym closed) i; stack = (sym stack) i; starts = (sym starts) i; path = (sym path) i }) in
+    subst (IsSearch G) same (begun G n e)

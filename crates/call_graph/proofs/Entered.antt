@@ -2,18 +2,18 @@
 use Rattle.std.proofs.Common.{◌≡◌, ◌≢◌, refl, sym, ap, subst, ◌∙◌, ℕ, zero, suc, ◌+◌, ◌*◌, ◌<◌, ◌≤◌, Bool, true, false, List, [], ◌∷◌, ◌++◌, length, get_or, set, ◌⊎◌, inl, inr, arith, length-append, get_or-set_same, get_or-set_other}
 use Rattle.std.proofs.Math.ListN.{get_or-append, length-set}
 use Rattle.std.proofs.Math.Seq.{get_or-append_seam}
+use Rattle.std.proofs.lemmas.List.Sums.{sum_by-set}
+use Rattle.std.proofs.lemmas.Bool.{cases_eq}
 use Rattle.bit_rows.specs.Rows.{stands}
 use Rattle.call_graph.specs.declared.components.Mark.{Mark}
 use Rattle.call_graph.specs.declared.components.Mark.TheVariants.{Unseen, OnStack, Closed}
 use Rattle.call_graph.specs.Graph.{Graph, Reaches}
-use Rattle.call_graph.specs.Search.{State, mark_of, on_stack, Rising, Ahead, IsLed, unseen, IsSized, IsStack, IsPath, IsLooked, IsClosed, IsSearch, entered}
+use Rattle.call_graph.specs.Search.{State, mark_of, on_stack, Rising, Ahead, IsLed, unseen_one, unseen, IsSized, IsStack, IsPath, IsLooked, IsClosed, IsSearch, entered}
 use Rattle.call_graph.proofs.Once.{both, stands_first, stands_append, stands_left, stands_right}
-use Rattle.call_graph.proofs.Rising.{same_or_not, stands_one, not_left, rising_snoc}
+use Rattle.call_graph.proofs.Rising.{stands_one, not_left, rising_snoc}
 
 pub unseen_less : (marks : List Mark) (f i : ℕ) → f < length marks → get_or marks f Unseen ≡ Unseen → unseen (set marks f (OnStack i)) + 1 ≡ unseen marks
-unseen_less [] f i l e = absurd (omega arith)
-unseen_less (m ∷ ms) zero i l e = subst (λ (k : Mark). 0 + unseen ms + 1 ≡ unseen (k ∷ ms)) (sym e) (omega arith)
-unseen_less (m ∷ ms) (suc f) i l e = let r = unseen_less ms f i (omega (arith, l)) e in omega (arith, r)
+unseen_less marks f i l e = let s = sum_by-set unseen_one marks f (OnStack i) Unseen l in let k = ap unseen_one e in omega (arith, s, k)
 
 place_cases : (n i : ℕ) → i < n + 1 → (i < n) ⊎ (i ≡ n)
 place_cases n i l = grind arith
@@ -45,7 +45,7 @@ module _ (G : Graph) (s : State) (f : ℕ) (c : IsSearch G s) (lt : f < G.functi
   stacked_other g b m e = let k = sym m ∙ ap (mark_of s) e ∙ fresh in absurd (cc)
 
   now_closed : (g : ℕ) → mark_of (entered s f) g ≡ Closed → mark_of s g ≡ Closed
-  now_closed g m = elim (same_or_not g f) [
+  now_closed g m = elim (cases_eq g f) [
     | inl e ↦ (let k = sym m ∙ ap (mark_of (entered s f)) e ∙ here in absurd (cc))
     | inr ne ↦ sym (elsewhere g ne) ∙ m
   ]
@@ -70,7 +70,7 @@ module _ (G : Graph) (s : State) (f : ℕ) (c : IsSearch G s) (lt : f < G.functi
         | inr e ↦ ap (mark_of (entered s f)) (ap (on_stack (entered s f)) e ∙ new) ∙ here ∙ ap OnStack (sym e)
       ]
       placed : (g i : ℕ) → mark_of (entered s f) g ≡ OnStack i → (i < length (s.stack ++ f ∷ [])) × (on_stack (entered s f) i ≡ g)
-      placed g i m = elim (same_or_not g f) [
+      placed g i m = elim (cases_eq g f) [
         | inl e ↦ (let k = sym here ∙ ap (mark_of (entered s f)) (sym e) ∙ m in let n : length s.stack ≡ i = cc in ((let l = long in omega (arith, l, n)), ap (on_stack (entered s f)) (sym n) ∙ new ∙ sym e))
         | inr ne ↦ (let k = c.stack.placed g i (sym (elsewhere g ne) ∙ m) in ((let l = long in let a = k.0 in omega (arith, l, a)), old i k.0 ∙ k.1))
       ]
@@ -105,7 +105,7 @@ module _ (G : Graph) (s : State) (f : ℕ) (c : IsSearch G s) (lt : f < G.functi
   looked = record { none = none; most = c.looked.most; all = all; led = led }
     where
       none : (g : ℕ) → mark_of (entered s f) g ≡ Unseen → get_or s.looked g 0 ≡ 0
-      none g m = elim (same_or_not g f) [
+      none g m = elim (cases_eq g f) [
         | inl e ↦ (let k = sym m ∙ ap (mark_of (entered s f)) e ∙ here in absurd (cc))
         | inr ne ↦ c.looked.none g (sym (elsewhere g ne) ∙ m)
       ]

@@ -1,6 +1,7 @@
 -- Parts are joined, and a callee more was looked at, in the search for components.
 use Rattle.std.proofs.Common.{◌≡◌, ◌≢◌, refl, sym, ap, subst, ◌∙◌, ℕ, zero, suc, ◌+◌, ◌<◌, ◌≤◌, Bool, true, false, List, [], ◌∷◌, ◌++◌, length, get_or, set, ◌⊎◌, inl, inr, arith, get_or-set_same, get_or-set_other}
 use Rattle.std.proofs.Math.ListN.{length-set}
+use Rattle.std.proofs.lemmas.Bool.{cases_eq}
 use Rattle.bit_rows.specs.Rows.{stands}
 use Rattle.call_graph.specs.declared.components.Mark.{Mark}
 use Rattle.call_graph.specs.declared.components.Mark.TheVariants.{Unseen, OnStack, Closed}
@@ -8,7 +9,7 @@ use Rattle.call_graph.specs.Graph.{Graph, Chain, Reaches}
 use Rattle.call_graph.specs.Search.{State, mark_of, on_stack, Rising, Ahead, IsLed, IsSized, IsStack, IsPath, IsLooked, IsClosed, IsSearch, Joined, looked_more}
 use Rattle.call_graph.proofs.Once.{both}
 use Rattle.call_graph.proofs.Reached.{reaches_trans}
-use Rattle.call_graph.proofs.Rising.{same_or_not}
+use Rattle.call_graph.proofs.Rising.{Joins, rising_last}
 
 -- a call is a chain
 pub called_reached : (G : Graph) (f g : ℕ) → stands g (G.callees f) ≡ true → Reaches G f g
@@ -20,6 +21,15 @@ pub record IsTop (s : State) (p f : ℕ) : Type 0 where
   pub place : p < length s.stack
   pub at_place : on_stack s p ≡ f
   pub last : (q : ℕ) → stands q s.path ≡ true → q ≤ p
+
+-- once the last part begins at or before the place, all are joined
+pub joins_end : (s t : State) (place i : ℕ) → t ≡ record s { starts = t.starts } → Joins s.starts t.starts place → suc i ≡ length t.starts → get_or t.starts i 0 ≤ place → Joined s t place
+joins_end s t place i rest j many low = record {
+  rest = rest;
+  rises = j.rises;
+  kept = j.kept;
+  old = λ p e. (j.were p e, (let l = rising_last t.starts i many j.rises p e in omega (arith, l, low)));
+}
 
 module _ (G : Graph) (s : State) (c : IsSearch G s) where
   -- each function of the stack reaches the last one of the path
@@ -93,19 +103,19 @@ module _ (G : Graph) (s : State) (c : IsSearch G s) where
     }
       where
         none : (g : ℕ) → mark_of s g ≡ Unseen → get_or (looked_more s f).looked g 0 ≡ 0
-        none g m = elim (same_or_not g f) [
+        none g m = elim (cases_eq g f) [
           | inl e ↦ (let k = sym (c.stack.marked p t.place) ∙ ap (mark_of s) (t.at_place ∙ sym e) ∙ m in absurd (cc))
           | inr ne ↦ elsewhere g ne ∙ c.looked.none g m
         ]
         most : (g : ℕ) → get_or (looked_more s f).looked g 0 ≤ length (G.callees g)
-        most g = elim (same_or_not g f) [
+        most g = elim (cases_eq g f) [
           | inl e ↦ subst (λ x. get_or (looked_more s f).looked x 0 ≤ length (G.callees x)) (sym e) (let h = here in omega (arith, h, more))
           | inr ne ↦ (let h = elsewhere g ne in let m = c.looked.most g in omega (arith, h, m))
         ]
         all : (i : ℕ) → i < length s.stack → stands i s.path ≡ false → get_or (looked_more s f).looked (on_stack s i) 0 ≡ length (G.callees (on_stack s i))
         all i l e = elsewhere (on_stack s i) (λ k. absurd (both (stands i s.path) (subst (λ x. stands x s.path ≡ true) (sym (at_top i l k)) t.on_path) e)) ∙ c.looked.all i l e
         leads : (i k : ℕ) → i < length s.stack → k < get_or (looked_more s f).looked (on_stack s i) 0 → IsLed s i (get_or (G.callees (on_stack s i)) k 0)
-        leads i k l h = elim (same_or_not (on_stack s i) f) [
+        leads i k l h = elim (cases_eq (on_stack s i) f) [
           | inr ne ↦ c.looked.led i k l (let e = elsewhere (on_stack s i) ne in omega (arith, e, h))
           | inl e ↦ elim (let d : (k < get_or s.looked f 0) ⊎ (k ≡ get_or s.looked f 0) = (let w = here in let v = ap (λ x. get_or (looked_more s f).looked x 0) e in grind arith) in d) [
               | inl less ↦ c.looked.led i k l (let v = ap (λ x. get_or s.looked x 0) e in omega (arith, v, less))

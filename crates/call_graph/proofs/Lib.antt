@@ -4,7 +4,7 @@ mod Reached
 mod Falls
 mod PathOrder
 mod Bits
-mod Components
+mod Told
 mod Opened
 mod Entering
 mod Listed
@@ -17,5 +17,6 @@ pub mod Joining
 pub mod AllSet
 pub mod Leaving
 pub mod Stepped
-pub mod Found
+pub mod Searched
 pub mod Begun
+pub mod Turning

@@ -1,15 +1,9 @@
 -- Lists of numbers that rise.
 use Rattle.std.proofs.Common.{◌≡◌, ◌≢◌, refl, sym, ap, subst, ◌∙◌, ℕ, zero, suc, ◌+◌, ◌<◌, ◌≤◌, Bool, true, false, List, [], ◌∷◌, ◌++◌, length, get_or, ◌⊎◌, inl, inr, arith}
-use Rattle.std.proofs.lemmas.Bool.Decides.{nat_tests}
+use Rattle.std.specs.Prelude.{Option, Some, option_to_list}
 use Rattle.bit_rows.specs.Rows.{stands}
 use Rattle.call_graph.specs.Search.{Rising}
 use Rattle.call_graph.proofs.Once.{bool_tells, both, stands_cases, stands_first, stands_later, stands_append, stands_left, stands_right}
-
-pub same_or_not : (a b : ℕ) → (a ≡ b) ⊎ (a ≢ b)
-same_or_not a b = elim (let c : (a ≡ b) ⊎ ((a < b) ⊎ (b < a)) = grind arith in c) [
-  | inl e ↦ inl e
-  | inr u ↦ inr (λ e. absurd (elim u [ inl l ↦ omega arith | inr l ↦ omega arith ]))
-]
 
 pub stands_one : (x y : ℕ) → stands x (y ∷ []) ≡ true → x ≡ y
 stands_one x y e = elim (stands_cases x y [] e) [ inl s ↦ s | inr s ↦ absurd (cc) ]
@@ -65,3 +59,34 @@ rising_last (x ∷ xs) (suc i) e r y s = go (stands_cases y x xs s) (rising_last
     go : (y ≡ x) ⊎ (stands y xs ≡ true) → (stands y xs ≡ true → y ≤ get_or xs i 0) → y ≤ get_or xs i 0
     go (inl k) h = let l = r.0 (get_or xs i 0) (stands_at xs i (omega (arith, e))) in omega (arith, k, l)
     go (inr k) h = h k
+
+-- ---- parts that are joined, one after another from the last on
+
+-- those that are left of the old ones, which begin at or before a place or weren't looked at
+pub record Joins (old now : List ℕ) (place : ℕ) : Type 0 where
+  pub rises : Rising now
+  pub first : stands 0 now ≡ true
+  pub kept : (p : ℕ) → stands p old ≡ true → p ≤ place → stands p now ≡ true
+  pub were : (p : ℕ) → stands p now ≡ true → stands p old ≡ true
+
+pub joins_less : (old now next : List ℕ) (last place : ℕ) → now ≡ next ++ last ∷ [] → place < last → Joins old now place → Joins old next place
+joins_less old now next last place cut above j = record {
+  rises = (rising_front next last (subst Rising cut j.rises)).0;
+  first = low 0 (omega arith) j.first;
+  kept = λ p e l. low p l (j.kept p e l);
+  were = λ p e. j.were p (subst (λ xs. stands p xs ≡ true) (sym cut) (stands_left p next (last ∷ []) e));
+}
+  where
+    low : (p : ℕ) → p ≤ place → stands p now ≡ true → stands p next ≡ true
+    low p l e = elim (stands_append p next (last ∷ []) (subst (λ xs. stands p xs ≡ true) cut e)) [
+      | inl s ↦ s
+      | inr s ↦ (let k = stands_one p last s in absurd (omega (arith, k, l, above)))
+    ]
+
+pub some_there : (x : ℕ) (xs : List ℕ) → stands x xs ≡ true → 0 < length xs
+some_there x [] e = absurd (cc)
+some_there x (y ∷ xs) e = omega arith
+
+-- the last item, taken out
+pub popped_last : (old now : List ℕ) (r : Option ℕ) (x : ℕ) → old ≡ now ++ option_to_list r → r ≡ Some x → old ≡ now ++ x ∷ []
+popped_last old now r x e k = e ∙ ap (λ o. now ++ option_to_list o) k

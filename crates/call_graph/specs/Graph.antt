@@ -2,8 +2,6 @@
 use Rattle.std.specs.Prelude.{◌≡◌, ℕ, zero, suc, ◌+◌, ◌*◌, ◌<◌, ◌≤◌, Bool, true, false, not, nat_lt, ◌==◌, ◌&&◌, ◌||◌, List, [], ◌∷◌, ◌++◌, length, map, Option, Some, None, option_to_list, get_or, if◌then◌else◌}
 use Rattle.std.specs.List.{list_any}
 use Rattle.bit_rows.specs.Rows.{stands}
-use Rattle.mir_syntax.specs.Drops.{fn_number}
-use Rattle.mir_syntax.specs.declared.types.FnId.{FnId}
 use Rattle.mir_syntax.specs.Crate.{Crate, TypedFunction}
 
 pub record Graph : Type 0 where
@@ -114,18 +112,20 @@ pub record IsComponents (G : Graph) (component : ℕ → ℕ) : Type 0 where
   pub earlier : (f g : ℕ) → f < G.functions → stands g (G.callees f) ≡ true → component g ≤ component f
   pub both : (f g : ℕ) → f < G.functions → g < G.functions → component f ≡ component g → Reaches G f g
 
--- the callees of each function, by lists
-abbrev pub callees_in : List (List FnId) → ℕ → List ℕ
-callees_in lists f = map fn_number (get_or lists f [])
+-- ---- graphs by lists, in which a number tells of each item which node it is
 
--- a graph that has these functions and callees
-pub record HasCallees (G : Graph) (lists : List (List FnId)) : Type 0 where
-  pub functions : G.functions ≡ length lists
-  pub callees : (f : ℕ) → f < length lists → G.callees f ≡ callees_in lists f
+-- what a node leads to
+abbrev pub listed : {A : Type 0} → (A → ℕ) → List (List A) → ℕ → List ℕ
+listed number lists f = map number (get_or lists f [])
 
--- each list has functions of the graph
-abbrev pub CallsInside : List (List FnId) → Type 0
-CallsInside lists = (f g : ℕ) → stands g (callees_in lists f) ≡ true → g < length lists
+-- a graph that has these lists
+pub record HasLists {A : Type 0} (number : A → ℕ) (G : Graph) (lists : List (List A)) : Type 0 where
+  pub nodes : G.functions ≡ length lists
+  pub listed : (f : ℕ) → f < length lists → G.callees f ≡ listed number lists f
+
+-- each list has nodes of the graph
+abbrev pub StaysInside : {A : Type 0} → (A → ℕ) → List (List A) → Type 0
+StaysInside number lists = (f g : ℕ) → stands g (listed number lists f) ≡ true → g < length lists
 
 abbrev pub component_in : List ℕ → ℕ → ℕ
 component_in numbers f = get_or numbers f 0

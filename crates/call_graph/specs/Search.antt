@@ -1,15 +1,14 @@
 -- What holds while components are found. No promise of a public call rests on these.
 use Rattle.std.specs.Prelude.{◌≡◌, ◌≢◌, ◌⊎◌, ℕ, ◌+◌, ◌-◌, ◌*◌, ◌<◌, ◌≤◌, Bool, true, false, List, [], ◌∷◌, ◌++◌, map, length, get_or, set, take, drop, sum_by}
 use Rattle.bit_rows.specs.Rows.{stands}
-use Rattle.mir_syntax.specs.declared.types.FnId.{FnId}
 use Rattle.call_graph.specs.declared.components.Mark.{Mark}
 use Rattle.call_graph.specs.declared.components.Mark.TheVariants.{Unseen, OnStack, Closed}
 use Rattle.call_graph.specs.declared.components.Search.{Search}
-use Rattle.call_graph.specs.Graph.{Graph, Reaches, callees_in}
+use Rattle.call_graph.specs.Graph.{Graph, Reaches, listed}
 
--- the call graph of which each list has the callees of a function
-abbrev pub graph_by : List (List FnId) → Graph
-graph_by lists = record { functions = length lists; callees = callees_in lists; below = λ f g. false }
+-- the graph of these lists
+abbrev pub graph_by : {A : Type 0} → (A → ℕ) → List (List A) → Graph
+graph_by number lists = record { functions = length lists; callees = listed number lists; below = λ f g. false }
 
 -- the search, by lists
 pub record State : Type 0 where
@@ -60,7 +59,7 @@ unseen_one Closed = 0
 abbrev pub unseen : List Mark → ℕ
 unseen marks = sum_by unseen_one marks
 
--- the numbers of the marks, of the looks and of the components
+-- the lengths of the marks, of the looks and of the components
 pub record IsSized (G : Graph) (s : State) : Type 0 where
   pub marks : length s.marks ≡ G.functions
   pub looked : length s.looked ≡ G.functions
@@ -159,16 +158,16 @@ Sees s t = (f : ℕ) → mark_of s f ≢ Unseen → mark_of t f ≢ Unseen
 
 -- ---- how much is left to do
 
-abbrev pub to_look : List (List FnId) → List ℕ → ℕ
+abbrev pub to_look : {A : Type 0} → List (List A) → List ℕ → ℕ
 to_look [] looked = 0
 to_look (cs ∷ css) [] = 0
 to_look (cs ∷ css) (n ∷ ns) = (length cs - n) + to_look css ns
 
-abbrev pub work : List (List FnId) → State → ℕ
-work callees s = 2 * unseen s.marks + length s.path + to_look callees s.looked
+abbrev pub work : {A : Type 0} → List (List A) → State → ℕ
+work lists s = 2 * unseen s.marks + length s.path + to_look lists s.looked
 
 -- a step was done, after which less is left
-pub record Stepped (callees : List (List FnId)) (s t : State) : Type 0 where
-  pub search : IsSearch (graph_by callees) t
+pub record Stepped {A : Type 0} (number : A → ℕ) (lists : List (List A)) (s t : State) : Type 0 where
+  pub search : IsSearch (graph_by number lists) t
   pub seen : Sees s t
-  pub less : work callees t < work callees s
+  pub less : work lists t < work lists s

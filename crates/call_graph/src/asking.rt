@@ -34,7 +34,7 @@ pub fn asks_by_components(program: &Program, f: FnId, g: FnId, components: &Comp
         → some_reaches (graph_of (crate_of program.now) callees) (callees f.0) g.0 ≡ true
         → result ≡ asks_for (graph_of (crate_of program.now) callees) f.0 g.0 }
 {
-    below(program, f, g) || !components.same(f, g)
+    below(program, f, g) || !components.same(&f, &g)
 }
 
 /// Paths are in order, so a crate has a call graph as soon as each call leads to one of its functions.

@@ -1,16 +1,41 @@
-//! Components of a call graph: functions that reach one another.
+//! Components of a graph, as the call graph is one: nodes that reach one another.
 ghost use Rattle.std.specs.Prelude.{◌≡◌, ◌≢◌, ◌==◌, ◌↔◌, ◌-◌, ◌<◌, ◌≤◌, ◌^◌, [], ℕ, length, get_or, true, IfOk, OnOk};
 ghost use Rattle.std.specs.List.{All};
 ghost use Rattle.bit_rows.specs.Rows.{stands};
+ghost use Rattle.mir_syntax.specs.Drops.{fn_number};
 ghost use Rattle.call_graph.specs.declared.components.Mark.TheVariants as Is;
-ghost use Rattle.call_graph.specs.Graph.{Graph, IsComponents, Reaches, HasCallees, CallsInside, component_in};
+ghost use Rattle.call_graph.specs.Graph.{Graph, IsComponents, Reaches, HasLists, StaysInside, component_in};
 ghost use Rattle.call_graph.specs.Search.{state_of, graph_by, mark_of, entered, all_set, closed_from, IsSearch, Joined, Left, LookedAt, Stepped, Sees, Rising};
 
 use mir_syntax::{FnId, List, OutOfMemory};
 use std::alloc::Global;
 use std::marker::Model;
 
-/// How far a function has come in the search for components.
+/// What stands in the lists of a graph: a node, by its number.
+pub trait Node {
+    ghost number: { Self → ℕ };
+
+    fn number(&self) -> u32
+        ensures { result ≡ number self.now };
+}
+
+impl Node for FnId {
+    ghost number = { fn_number };
+
+    fn number(&self) -> u32 {
+        self.0
+    }
+}
+
+impl Node for u32 {
+    ghost number = { λ n. n };
+
+    fn number(&self) -> u32 {
+        *self
+    }
+}
+
+/// How far a node has come in the search for components.
 #[derive(Clone, Copy, Debug, Drop, PartialEq, Eq)]
 pub(crate) enum Mark {
     Unseen,
@@ -19,25 +44,25 @@ pub(crate) enum Mark {
     Closed,
 }
 
-/// A search along calls that closes components, callees first (Gabow's path-based search). The stack has the functions that were found and whose
-/// component isn't complete. It is cut into parts, and the functions of a part reach one another.
+/// A search along edges that closes components, those that are led to first (Gabow's path-based search). The stack has the nodes that were found
+/// and whose component isn't complete. It is cut into parts, and the nodes of a part reach one another.
 #[derive(Drop)]
 pub(crate) struct Search {
     pub marks: Vec<Mark>,
-    /// How many callees of each function were looked at.
+    /// How many targets of each node were looked at.
     pub looked: Vec<usize>,
-    /// The component of each function that is closed.
+    /// The component of each node that is closed.
     pub component: Vec<u32>,
     /// How many components are closed.
     pub closed: u32,
     pub stack: Vec<u32>,
     /// The places on the stack at which parts begin.
     pub starts: Vec<u32>,
-    /// The places on the stack of the functions whose callees are being looked at: each was found from the one before.
+    /// The places on the stack of the nodes whose targets are being looked at: each was found from the one before.
     pub path: Vec<u32>,
 }
 
-/// These functions make up a component.
+/// These nodes make up a component.
 fn close_all(marks: &mut [Mark], component: &mut [u32], closed: &[u32], number: u32)
     requires marks { All (λ f. f < length marks.old) closed.now }
     requires component { All (λ f. f < length component.old) closed.now }
@@ -51,13 +76,14 @@ fn close_all(marks: &mut [Mark], component: &mut [u32], closed: &[u32], number: 
 }
 
 impl Search {
-    fn new(alloc: Global, functions: usize) -> Result<Search, OutOfMemory>
-        ensures { IfOk result (λ search. (G : Graph) → G.functions ≡ functions → IsSearch G (state_of search)) }
+    fn new(alloc: Global, nodes: usize) -> Result<Search, OutOfMemory>
+        ensures search { IfOk result (λ search. (G : Graph) → G.functions ≡ nodes → IsSearch G (state_of search)) }
+        ensures none { IfOk result (λ search. search.path.items ≡ []) }
     {
         Ok(Search {
-            marks: vec![in alloc; Mark::Unseen; functions]?,
-            looked: vec![in alloc; 0; functions]?,
-            component: vec![in alloc; 0; functions]?,
+            marks: vec![in alloc; Mark::Unseen; nodes]?,
+            looked: vec![in alloc; 0; nodes]?,
+            component: vec![in alloc; 0; nodes]?,
             closed: 0,
             stack: Vec::new(alloc),
             starts: Vec::new(alloc),
@@ -65,7 +91,7 @@ impl Search {
         })
     }
 
-    /// A function is found: it makes up a part, and its callees are looked at next.
+    /// A node is found: it makes up a part, and its targets are looked at next.
     fn enter(&mut self, f: u32) -> Result<(), OutOfMemory>
         requires within { f < length self.old.marks.items }
         requires room { length self.old.stack.items < 2 ^ 32 }
@@ -90,7 +116,7 @@ impl Search {
         }
     }
 
-    /// The functions from a place on make up a component.
+    /// The nodes from a place on make up a component.
     fn close(&mut self, place: u32)
         requires place { place ≤ length self.old.stack.items }
         requires room { self.old.closed < 2 ^ 32 - 1 }
@@ -98,13 +124,13 @@ impl Search {
         requires component { All (λ f. f < length self.old.component.items) self.old.stack.items }
         ensures { state_of self.new ≡ closed_from (state_of self.old) place }
     {
-        let functions = &self.stack[place as usize..];
-        close_all(&mut self.marks, &mut self.component, functions, self.closed);
+        let nodes = &self.stack[place as usize..];
+        close_all(&mut self.marks, &mut self.component, nodes, self.closed);
         self.stack.truncate(place as usize);
         self.closed += 1;
     }
 
-    /// All callees of the last function of the path were looked at. Where a part begins with it, that is a component.
+    /// All targets of the last node of the path were looked at. Where a part begins with it, that is a component.
     fn leave(&mut self, place: u32)
         requires place { place ≤ length self.old.stack.items }
         requires room { self.old.closed < 2 ^ 32 - 1 }
@@ -121,10 +147,10 @@ impl Search {
         }
     }
 
-    /// Looks at a callee of a function.
+    /// Looks at a target of a node.
     fn look_at(&mut self, f: u32, g: u32) -> Result<(), OutOfMemory>
         requires within { f < length self.old.looked.items }
-        requires callee { g < length self.old.marks.items }
+        requires target { g < length self.old.marks.items }
         requires room { length self.old.stack.items < 2 ^ 32 }
         requires few { get_or self.old.looked.items f 0 < 2 ^ 64 - 1 }
         requires rising { Rising self.old.starts.items }
@@ -140,48 +166,48 @@ impl Search {
         Ok(())
     }
 
-    /// Looks at the next callee of the last function of the path, or leaves that function.
-    fn step(&mut self, callees: &[List<FnId>]) -> Result<(), OutOfMemory>
-        requires few { length callees.now < 2 ^ 32 }
-        requires inside { CallsInside callees.now }
-        requires search { IsSearch (graph_by callees.now) (state_of self.old) }
+    /// Looks at the next target of the last node of the path, or leaves that node.
+    fn step<T: Node>(&mut self, targets: &[List<T>]) -> Result<(), OutOfMemory>
+        requires few { length targets.now < 2 ^ 32 }
+        requires inside { StaysInside T.number targets.now }
+        requires search { IsSearch (graph_by T.number targets.now) (state_of self.old) }
         requires path { 0 < length self.old.path.items }
-        ensures { OnOk result (Stepped callees.now (state_of self.old) (state_of self.new)) }
+        ensures { OnOk result (Stepped T.number targets.now (state_of self.old) (state_of self.new)) }
     {
         let place = self.path[self.path.len() - 1];
         let f = self.stack[place as usize];
-        match callees[f as usize].get(self.looked[f as usize]) {
-            Some(g) => self.look_at(f, g.0),
-            None => {
-                self.leave(place);
-                Ok(())
-            }
+        let targets = targets[f as usize].as_slice();
+        let next = self.looked[f as usize];
+        if next < targets.len() {
+            return self.look_at(f, targets[next].number());
         }
+        self.leave(place);
+        Ok(())
     }
 
-    /// Closes the components of all functions that are reached from one that wasn't seen.
-    fn explore(&mut self, callees: &[List<FnId>], root: u32) -> Result<(), OutOfMemory>
-        requires few { length callees.now < 2 ^ 32 }
-        requires inside { CallsInside callees.now }
-        requires search { IsSearch (graph_by callees.now) (state_of self.old) }
-        requires root { root < length callees.now }
+    /// Closes the components of all nodes that are reached from one that wasn't seen.
+    fn explore<T: Node>(&mut self, targets: &[List<T>], root: u32) -> Result<(), OutOfMemory>
+        requires few { length targets.now < 2 ^ 32 }
+        requires inside { StaysInside T.number targets.now }
+        requires search { IsSearch (graph_by T.number targets.now) (state_of self.old) }
+        requires root { root < length targets.now }
         requires fresh { mark_of (state_of self.old) root ≡ Is.Unseen }
         requires none { self.old.path.items ≡ [] }
-        ensures search { OnOk result (IsSearch (graph_by callees.now) (state_of self.new)) }
+        ensures search { OnOk result (IsSearch (graph_by T.number targets.now) (state_of self.new)) }
         ensures seen { OnOk result (Sees (state_of self.old) (state_of self.new)) }
         ensures root { OnOk result (mark_of (state_of self.new) root ≢ Is.Unseen) }
         ensures none { OnOk result (self.new.path.items ≡ []) }
     {
         self.enter(root)?;
         while !self.path.is_empty() {
-            self.step(callees)?;
+            self.step(targets)?;
         }
         Ok(())
     }
 }
 
-/// The components of a call graph, by numbers: two functions have one number exactly where chains of calls lead from each to the other, and a
-/// call never leads to a greater number.
+/// The components of a graph, by numbers below the number of its nodes: two nodes have one number exactly where ways lead from each to the other,
+/// and an edge never leads to a greater number.
 #[derive(Drop)]
 pub struct Components {
     numbers: Vec<u32>,
@@ -196,19 +222,20 @@ impl Model for Components {
 }
 
 impl Components {
-    /// The components of the graph in which the callees of each function are listed, in time that is linear in the lists.
-    pub fn new(alloc: Global, callees: &[List<FnId>]) -> Result<Components, OutOfMemory>
-        requires few { length callees.now < 2 ^ 32 }
-        requires inside { CallsInside callees.now }
-        ensures size { IfOk result (λ c. length c ≡ length callees.now) }
-        ensures components { IfOk result (λ c. (G : Graph) → HasCallees G callees.now → IsComponents G (component_in c)) }
-        ensures mutual { IfOk result (λ c. (G : Graph) → HasCallees G callees.now → (f g : ℕ) → f < G.functions → g < G.functions
+    /// The components of the graph in which the targets of each node are listed, in time that is linear in the lists.
+    pub fn new<T: Node>(alloc: Global, targets: &[List<T>]) -> Result<Components, OutOfMemory>
+        requires few { length targets.now < 2 ^ 32 }
+        requires inside { StaysInside T.number targets.now }
+        ensures size { IfOk result (λ c. length c ≡ length targets.now) }
+        ensures below { IfOk result (λ c. (f : ℕ) → f < length targets.now → component_in c f < length targets.now) }
+        ensures components { IfOk result (λ c. (G : Graph) → HasLists T.number G targets.now → IsComponents G (component_in c)) }
+        ensures both_ways { IfOk result (λ c. (G : Graph) → HasLists T.number G targets.now → (f g : ℕ) → f < G.functions → g < G.functions
             → (component_in c f ≡ component_in c g) ↔ (Reaches G f g × Reaches G g f)) }
     {
-        let mut search = Search::new(alloc, callees.len())?;
-        for root in 0..callees.len() as u32 {
+        let mut search = Search::new(alloc, targets.len())?;
+        for root in 0..targets.len() as u32 {
             if search.marks[root as usize] == Mark::Unseen {
-                search.explore(callees, root)?;
+                search.explore(targets, root)?;
             }
         }
         Ok(Components {
@@ -216,19 +243,19 @@ impl Components {
         })
     }
 
-    /// The number of a function's component.
-    pub fn of(&self, f: FnId) -> u32
-        requires { f.0 < length self.now }
-        ensures { result ≡ component_in self.now f.0 }
+    /// The number of a node's component.
+    pub fn of<T: Node>(&self, node: &T) -> u32
+        requires { T.number node.now < length self.now }
+        ensures { result ≡ component_in self.now (T.number node.now) }
     {
-        self.numbers[f.0 as usize]
+        self.numbers[node.number() as usize]
     }
 
-    /// Whether two functions are in one component.
-    pub fn same(&self, f: FnId, g: FnId) -> bool
-        requires first { f.0 < length self.now }
-        requires second { g.0 < length self.now }
-        ensures { result ≡ (component_in self.now f.0 == component_in self.now g.0) }
+    /// Whether two nodes are in one component.
+    pub fn same<T: Node>(&self, f: &T, g: &T) -> bool
+        requires first { T.number f.now < length self.now }
+        requires second { T.number g.now < length self.now }
+        ensures { result ≡ (component_in self.now (T.number f.now) == component_in self.now (T.number g.now)) }
     {
         self.of(f) == self.of(g)
     }
