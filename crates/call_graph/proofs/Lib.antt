@@ -8,7 +8,7 @@ mod Told
 mod Opened
 mod Entering
 mod Listed
-mod Ended
+pub mod Tests
 mod Rows
 mod Inside
 pub mod Rising

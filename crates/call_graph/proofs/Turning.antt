@@ -2,11 +2,13 @@
 use Rattle.std.proofs.Common.{◌≡◌, ◌≢◌, refl, sym, ap, subst, ◌∙◌, ℕ, zero, suc, ◌+◌, ◌<◌, ◌≤◌, Bool, true, false, ◌==◌, ◌||◌, cond, List, [], ◌∷◌, ◌++◌, map, length, get_or, ◌⊎◌, inl, inr, arith}
 use Rattle.std.specs.List.{list_any, range_with_len, flat_map, filter}
 use Rattle.std.proofs.lemmas.Bool.Decides.{nat_tests}
+use Rattle.std.proofs.lemmas.Bool.{eq-eqb}
+use Rattle.std.proofs.lemmas.List.{length-map, get_or-map, get_or_past, map-id}
 use Rattle.std.proofs.lemmas.List.FromFn.{get_or-range_with_len, length-range_with_len}
 use Rattle.bit_rows.specs.Rows.{stands}
 use Rattle.mir_syntax.specs.declared.body.Term.{Term}
 use Rattle.mir_cfg.specs.Paths.{exits, Closed, edges_between, sources}
-use Rattle.call_graph.specs.Graph.{Graph, Chain, Reaches, IsComponents}
+use Rattle.call_graph.specs.Graph.{Graph, Chain, Reaches, IsComponents, HasLists, StaysInside, component_in}
 use Rattle.call_graph.specs.Qualif.{goes_on, has_cycle}
 use Rattle.call_graph.proofs.Once.{bool_tells, both, stands_cases, stands_first, stands_later, stands_append, stands_left, stands_right}
 use Rattle.call_graph.proofs.Rising.{stands_at, stands_where}
@@ -151,3 +153,42 @@ module _ (terms : List Term) (closed : Closed terms) where
         | inl e ↦ (let w = any_where (goes_on terms (length terms)) (range_with_len 0 (length terms)) e in
           let r = ends (length terms) w.0 (range_low (length terms) w.0 w.1) w.2 in absurd (omega (arith, r)))
       ]
+
+-- ---- the graph of the edges, each from its end to its source
+
+module _ (terms : List Term) (closed : Closed terms) (lists : List (List ℕ)) (is : lists ≡ map (sources terms) (range_with_len 0 (length terms))) where
+  pub lists_long : length lists ≡ length terms
+  lists_long = ap length is ∙ length-map (range_with_len 0 (length terms)) (sources terms) ∙ length-range_with_len 0 (length terms)
+
+  pub lists_at : (b : ℕ) → b < length terms → get_or lists b [] ≡ sources terms b
+  lists_at b l =
+      ap (λ xs. get_or xs b []) is
+      ∙ get_or-map (sources terms) (range_with_len 0 (length terms)) b 0 [] (let k = length-range_with_len 0 (length terms) in omega (arith, k, l))
+      ∙ ap (sources terms) (get_or-range_with_len 0 (length terms) b 0 l)
+
+  pub inside : StaysInside (λ n. n) lists
+  inside f g e = elim (let d : (f < length terms) ⊎ (length terms ≤ f) = grind arith in d) [
+    | inl l ↦ (let w = source_where terms closed g f (subst (λ xs. stands g xs ≡ true) (map-id (get_or lists f []) ∙ lists_at f l) e) in let k = lists_long in let m = w.0 in omega (arith, k, m))
+    | inr out ↦ (let k = lists_long in let past : get_or lists f [] ≡ [] = get_or_past lists f [] (omega (arith, k, out)) in absurd (let none = subst (λ xs. stands g (map (λ n. n) xs) ≡ true) past e in cc))
+  ]
+
+  abbrev pub turned : Graph
+  turned = record { functions = length terms; callees = sources terms; below = λ f g. false }
+
+  pub has_lists : HasLists (λ n. n) turned lists
+  has_lists = record { nodes = sym lists_long; listed = λ f l. (let k = lists_long in sym (lists_at f (omega (arith, k, l))) ∙ sym (map-id (get_or lists f []))) }
+
+  module _ (numbers : List ℕ) (c : IsComponents turned (component_in numbers)) (low : (a : ℕ) → a < length lists → component_in numbers a < length lists) where
+    below : (a : ℕ) → a < length terms → component_in numbers a < length terms
+    below a l = let k = lists_long in let m = low a (omega (arith, k, l)) in omega (arith, k, m)
+
+    pub cycle_there : (b : ℕ) → b < length terms → list_any (λ a. component_in numbers a == component_in numbers b) (sources terms b) ≡ true → has_cycle terms ≡ true
+    cycle_there b l e =
+        let w = any_where (λ a. component_in numbers a == component_in numbers b) (sources terms b) e in
+        let same : component_in numbers w.0 ≡ component_in numbers b = (let t = w.2 in grind (arith, nat_tests)) in
+        turns terms closed turned refl (λ b l. refl) (component_in numbers) c below w.0 b l w.1 same
+
+    pub no_cycle : ((b : ℕ) → b < length terms → list_any (λ a. component_in numbers a == component_in numbers b) (sources terms b) ≡ false) → has_cycle terms ≡ false
+    no_cycle none = ends_all terms closed turned refl (λ b l. refl) (component_in numbers) c below (λ a b l e same.
+      both (list_any (λ a. component_in numbers a == component_in numbers b) (sources terms b))
+      (any_of (λ a. component_in numbers a == component_in numbers b) (sources terms b) a e (eq-eqb (component_in numbers a) (component_in numbers b) same)) (none b l))
