@@ -64,11 +64,13 @@ module _ (G : Graph) (s : State) (f : ℕ) (c : IsSearch G s) (lt : f < G.functi
         | inl a ↦ subst (λ x. x < G.functions) (sym (old i a)) (c.stack.within i a)
         | inr e ↦ subst (λ x. x < G.functions) (sym (ap (on_stack (entered s f)) e ∙ new)) lt
       ]
+
       marked : (i : ℕ) → i < length (s.stack ++ f ∷ []) → mark_of (entered s f) (on_stack (entered s f) i) ≡ OnStack i
       marked i l = elim (place_cases (length s.stack) i (let e = long in omega (arith, e, l))) [
         | inl a ↦ ap (mark_of (entered s f)) (old i a) ∙ elsewhere (on_stack s i) (other i a) ∙ c.stack.marked i a
         | inr e ↦ ap (mark_of (entered s f)) (ap (on_stack (entered s f)) e ∙ new) ∙ here ∙ ap OnStack (sym e)
       ]
+
       placed : (g i : ℕ) → mark_of (entered s f) g ≡ OnStack i → (i < length (s.stack ++ f ∷ [])) × (on_stack (entered s f) i ≡ g)
       placed g i m = elim (cases_eq g f) [
         | inl e ↦ (let k = sym here ∙ ap (mark_of (entered s f)) (sym e) ∙ m in let n : length s.stack ≡ i = cc in ((let l = long in omega (arith, l, n)), ap (on_stack (entered s f)) (sym n) ∙ new ∙ sym e))
@@ -96,10 +98,14 @@ module _ (G : Graph) (s : State) (f : ℕ) (c : IsSearch G s) (lt : f < G.functi
   -- what was led to is so still
   led_still : (i g : ℕ) → i < length s.stack → IsLed s i g → IsLed (entered s f) i g
   led_still i g l (inl m) = inl (still_closed g m)
-  led_still i g l (inr u) = inr (u.0, elsewhere g (stacked_other g u.0 u.1) ∙ u.1, λ p e q. elim (stands_append p s.starts (length s.stack ∷ []) e) [
-    | inl a ↦ u.2 p a q
-    | inr a ↦ (let b = stands_one p (length s.stack) a in absurd (omega (arith, b, q, l)))
-  ])
+  led_still i g l (inr u) = inr (
+    u.0,
+    elsewhere g (stacked_other g u.0 u.1) ∙ u.1,
+    λ p e q. elim (stands_append p s.starts (length s.stack ∷ []) e) [
+      | inl a ↦ u.2 p a q
+      | inr a ↦ (let b = stands_one p (length s.stack) a in absurd (omega (arith, b, q, l)))
+    ],
+  )
 
   looked : IsLooked G (entered s f)
   looked = record { none = none; most = c.looked.most; all = all; led = led }
@@ -109,11 +115,13 @@ module _ (G : Graph) (s : State) (f : ℕ) (c : IsSearch G s) (lt : f < G.functi
         | inl e ↦ (let k = sym m ∙ ap (mark_of (entered s f)) e ∙ here in absurd (cc))
         | inr ne ↦ c.looked.none g (sym (elsewhere g ne) ∙ m)
       ]
+
       all : (i : ℕ) → i < length (s.stack ++ f ∷ []) → stands i (s.path ++ length s.stack ∷ []) ≡ false → get_or s.looked (on_stack (entered s f) i) 0 ≡ length (G.callees (on_stack (entered s f) i))
       all i l e = elim (place_cases (length s.stack) i (let k = long in omega (arith, k, l))) [
         | inl a ↦ subst (λ x. get_or s.looked x 0 ≡ length (G.callees x)) (sym (old i a)) (c.looked.all i a (not_left i s.path (length s.stack ∷ []) e))
         | inr k ↦ absurd (both (stands i (s.path ++ length s.stack ∷ [])) (stands_right i s.path (length s.stack ∷ []) (subst (λ n. stands i (n ∷ []) ≡ true) k (stands_first i []))) e)
       ]
+
       led : (i k : ℕ) → i < length (s.stack ++ f ∷ []) → k < get_or s.looked (on_stack (entered s f) i) 0 → IsLed (entered s f) i (get_or (G.callees (on_stack (entered s f) i)) k 0)
       led i k l h = elim (place_cases (length s.stack) i (let e = long in omega (arith, e, l))) [
         | inl a ↦ subst (λ x. IsLed (entered s f) i (get_or (G.callees x) k 0)) (sym (old i a)) (led_still i (get_or (G.callees (on_stack s i)) k 0) a (c.looked.led i k a (subst (λ x. k < get_or s.looked x 0) (old i a) h)))

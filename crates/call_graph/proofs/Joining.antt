@@ -57,16 +57,18 @@ module _ (G : Graph) (s : State) (c : IsSearch G s) where
         led : (i x : ℕ) → IsLed s i x → IsLed (record s { starts = starts }) i x
         led i x (inl m) = inl m
         led i x (inr u) = inr (u.0, u.1, λ q e l. u.2 q (j.old q e).0 l)
+
         target : (place < length s.stack) × (on_stack s place ≡ g)
         target = c.stack.placed g place there
+
         reaches : (a b : ℕ) → a < length s.stack → b < length s.stack → Ahead starts a b → Reaches G (on_stack s a) (on_stack s b)
         reaches a b la lb ahead = elim (let d : (a ≤ place) ⊎ (place < a) = grind arith in d) [
           | inl low ↦ c.reaches a b la lb (λ q e l. ahead q (j.kept q e (omega (arith, l, low))) l)
           | inr high ↦
-            reaches_trans G (on_stack s a) f (on_stack s b) (reaches_top p f t a la)
-            (reaches_trans G f g (on_stack s b) (called_reached G f g calls)
-            (subst (λ x. Reaches G x (on_stack s b)) target.1
-            (c.reaches place b target.0 lb (λ q e l. ahead q (j.kept q e l) (omega (arith, l, high))))))
+              reaches_trans G (on_stack s a) f (on_stack s b) (reaches_top p f t a la)
+              (reaches_trans G f g (on_stack s b) (called_reached G f g calls)
+              (subst (λ x. Reaches G x (on_stack s b)) target.1
+              (c.reaches place b target.0 lb (λ q e l. ahead q (j.kept q e l) (omega (arith, l, high))))))
         ]
 
     pub joining : (u : State) → Joined s u place → IsSearch G u
@@ -107,20 +109,23 @@ module _ (G : Graph) (s : State) (c : IsSearch G s) where
           | inl e ↦ (let k = sym (c.stack.marked p t.place) ∙ ap (mark_of s) (t.at_place ∙ sym e) ∙ m in absurd (cc))
           | inr ne ↦ elsewhere g ne ∙ c.looked.none g m
         ]
+
         most : (g : ℕ) → get_or (looked_more s f).looked g 0 ≤ length (G.callees g)
         most g = elim (cases_eq g f) [
           | inl e ↦ subst (λ x. get_or (looked_more s f).looked x 0 ≤ length (G.callees x)) (sym e) (let h = here in omega (arith, h, more))
           | inr ne ↦ (let h = elsewhere g ne in let m = c.looked.most g in omega (arith, h, m))
         ]
+
         all : (i : ℕ) → i < length s.stack → stands i s.path ≡ false → get_or (looked_more s f).looked (on_stack s i) 0 ≡ length (G.callees (on_stack s i))
         all i l e = elsewhere (on_stack s i) (λ k. absurd (both (stands i s.path) (subst (λ x. stands x s.path ≡ true) (sym (at_top i l k)) t.on_path) e)) ∙ c.looked.all i l e
+
         leads : (i k : ℕ) → i < length s.stack → k < get_or (looked_more s f).looked (on_stack s i) 0 → IsLed s i (get_or (G.callees (on_stack s i)) k 0)
         leads i k l h = elim (cases_eq (on_stack s i) f) [
           | inr ne ↦ c.looked.led i k l (let e = elsewhere (on_stack s i) ne in omega (arith, e, h))
           | inl e ↦ elim (let d : (k < get_or s.looked f 0) ⊎ (k ≡ get_or s.looked f 0) = (let w = here in let v = ap (λ x. get_or (looked_more s f).looked x 0) e in grind arith) in d) [
-              | inl less ↦ c.looked.led i k l (let v = ap (λ x. get_or s.looked x 0) e in omega (arith, v, less))
-              | inr same ↦
+            | inl less ↦ c.looked.led i k l (let v = ap (λ x. get_or s.looked x 0) e in omega (arith, v, less))
+            | inr same ↦
                 subst (λ x. IsLed s i (get_or (G.callees x) k 0)) (sym e)
                 (subst (λ n. IsLed s i (get_or (G.callees f) n 0)) (sym same) (subst (λ j. IsLed s j (get_or (G.callees f) (get_or s.looked f 0) 0)) (sym (at_top i l e)) led))
-            ]
+          ]
         ]

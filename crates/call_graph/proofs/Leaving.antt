@@ -148,16 +148,16 @@ module _ (G : Graph) (s : State) (c : IsSearch G s) (front : List ℕ) (p : ℕ)
     stack = record {
       within = λ i l. (let a : i < p = (let z = size in omega (arith, z, l)) in subst (λ x. x < G.functions) (sym (low i a)) (c.stack.within i (let w = place in omega (arith, w, a))));
       marked = λ i l. (let a : i < p = (let z = size in omega (arith, z, l)) in
-        let b : i < length s.stack = (let w = place in omega (arith, w, a)) in
-        ap (mark_of after) (low i a) ∙ kept (on_stack s i) (low_kept (on_stack s i) i (c.stack.marked i b) a) ∙ c.stack.marked i b);
+          let b : i < length s.stack = (let w = place in omega (arith, w, a)) in
+          ap (mark_of after) (low i a) ∙ kept (on_stack s i) (low_kept (on_stack s i) i (c.stack.marked i b) a) ∙ c.stack.marked i b);
       placed = λ f i m. elim (bool_tells (stands f gone)) [
         | inl e ↦ (let k = sym (shut f e) ∙ m in absurd (cc))
         | inr e ↦ (let n = sym (kept f e) ∙ m in
-          let w = c.stack.placed f i n in
-          elim (let d : (i < p) ⊎ (p ≤ i) = grind arith in d) [
-            | inl a ↦ ((let z = size in omega (arith, z, a)), low i a ∙ w.1)
-            | inr a ↦ absurd (both (stands f gone) (high_gone f i n a) e)
-          ])
+            let w = c.stack.placed f i n in
+            elim (let d : (i < p) ⊎ (p ≤ i) = grind arith in d) [
+              | inl a ↦ ((let z = size in omega (arith, z, a)), low i a ∙ w.1)
+              | inr a ↦ absurd (both (stands f gone) (high_gone f i n a) e)
+            ])
       ];
     }
 
@@ -181,10 +181,10 @@ module _ (G : Graph) (s : State) (c : IsSearch G s) (front : List ℕ) (p : ℕ)
       ];
       most = c.looked.most;
       all = λ i l e. (let a : i < p = (let z = size in omega (arith, z, l)) in
-        subst (λ x. get_or s.looked x 0 ≡ length (G.callees x)) (sym (low i a)) (finished i (let w = place in omega (arith, w, a)) e));
+          subst (λ x. get_or s.looked x 0 ≡ length (G.callees x)) (sym (low i a)) (finished i (let w = place in omega (arith, w, a)) e));
       led = λ i k l h. (let a : i < p = (let z = size in omega (arith, z, l)) in
-        subst (λ x. IsLed after i (get_or (G.callees x) k 0)) (sym (low i a))
-        (still (get_or (G.callees (on_stack s i)) k 0) i a (c.looked.led i k (let w = place in omega (arith, w, a)) (subst (λ x. k < get_or s.looked x 0) (low i a) h))));
+          subst (λ x. IsLed after i (get_or (G.callees x) k 0)) (sym (low i a))
+          (still (get_or (G.callees (on_stack s i)) k 0) i a (c.looked.led i k (let w = place in omega (arith, w, a)) (subst (λ x. k < get_or s.looked x 0) (low i a) h))));
     }
       where
         still : (g i : ℕ) → i < p → IsLed s i g → IsLed after i g
@@ -210,14 +210,15 @@ module _ (G : Graph) (s : State) (c : IsSearch G s) (front : List ℕ) (p : ℕ)
         calls : (f k : ℕ) → mark_of after f ≡ Closed → k < length (G.callees f) → (mark_of after (get_or (G.callees f) k 0) ≡ Closed) × (get_or after.component (get_or (G.callees f) k 0) 0 ≤ get_or after.component f 0)
         calls f k m l = elim (closed_now f m) [
           | inl e ↦ (let w = gone_where f e in
-            let all = finished w.0 w.2 (elim (bool_tells (stands w.0 front)) [ inl t ↦ (let h = rises.1 w.0 t in let up = w.1 in absurd (omega (arith, h, up))) | inr t ↦ t ]) in
-            let here : mark_of after (get_or (G.callees f) k 0) ≡ Closed =
-            subst (λ x. mark_of after (get_or (G.callees x) k 0) ≡ Closed) w.3
-            (led_closed w.0 (get_or (G.callees (on_stack s w.0)) k 0) w.1 (c.looked.led w.0 k w.2 (let n = ap (λ x. length (G.callees x)) w.3 in omega (arith, all, n, l)))) in
-            (here, (let n = component_most (get_or (G.callees f) k 0) here in let o = shut_in f e in omega (arith, n, o))))
+              let all = finished w.0 w.2 (elim (bool_tells (stands w.0 front)) [ inl t ↦ (let h = rises.1 w.0 t in let up = w.1 in absurd (omega (arith, h, up))) | inr t ↦ t ]) in
+              let here : mark_of after (get_or (G.callees f) k 0) ≡ Closed =
+              subst (λ x. mark_of after (get_or (G.callees x) k 0) ≡ Closed) w.3
+              (led_closed w.0 (get_or (G.callees (on_stack s w.0)) k 0) w.1 (c.looked.led w.0 k w.2 (let n = ap (λ x. length (G.callees x)) w.3 in omega (arith, all, n, l)))) in
+              (here, (let n = component_most (get_or (G.callees f) k 0) here in let o = shut_in f e in omega (arith, n, o))))
           | inr u ↦ (let r = c.closed.calls f k u.1 l in
-            (still_closed (get_or (G.callees f) k 0) r.0, (let n = kept_in (get_or (G.callees f) k 0) (closed_kept (get_or (G.callees f) k 0) r.0) in let o = kept_in f u.0 in let q = r.1 in omega (arith, n, o, q))))
+              (still_closed (get_or (G.callees f) k 0) r.0, (let n = kept_in (get_or (G.callees f) k 0) (closed_kept (get_or (G.callees f) k 0) r.0) in let o = kept_in f u.0 in let q = r.1 in omega (arith, n, o, q))))
         ]
+
         reach_back : (f g : ℕ) → mark_of after f ≡ Closed → mark_of after g ≡ Closed → get_or after.component f 0 ≡ get_or after.component g 0 → Reaches G f g
         reach_back f g m n same = go (closed_now f m) (closed_now g n)
           where
@@ -229,6 +230,7 @@ module _ (G : Graph) (s : State) (c : IsSearch G s) (front : List ℕ) (p : ℕ)
             go (inl a) (inr b) = absurd (let h = shut_in f a in let k = kept_in g b.0 in let l = c.closed.below g b.1 in omega (arith, same, h, k, l))
             go (inr a) (inl b) = absurd (let h = shut_in g b in let k = kept_in f a.0 in let l = c.closed.below f a.1 in omega (arith, same, h, k, l))
             go (inr a) (inr b) = c.closed.both f g a.1 b.1 (sym (kept_in f a.0) ∙ same ∙ kept_in g b.0)
+
         below : (f : ℕ) → mark_of after f ≡ Closed → get_or after.component f 0 < s.closed + 1
         below f m = let h = component_most f m in omega (arith, h)
 

@@ -34,9 +34,9 @@ module _ {A : Type 0} (number : A → ℕ) (lists : List (List A)) (inside : Sta
     are_components = record {
       earlier = λ f g l k. (let a : f < length lists = (let e = has.nodes in omega (arith, e, l)) in earlier f g a (subst (λ xs. stands g xs ≡ true) (has.listed f a) k));
       both = λ f g l m same.
-        (let a : f < length lists = (let e = has.nodes in omega (arith, e, l)) in
-        let b : g < length lists = (let e = has.nodes in omega (arith, e, m)) in
-        let r = c.closed.both f g (all_closed f a) (all_closed g b) same in (r.0, same_chain r.0 f g a r.1));
+          (let a : f < length lists = (let e = has.nodes in omega (arith, e, l)) in
+          let b : g < length lists = (let e = has.nodes in omega (arith, e, m)) in
+          let r = c.closed.both f g (all_closed f a) (all_closed g b) same in (r.0, same_chain r.0 f g a r.1));
     }
 
 -- two functions are in one component exactly where each reaches the other

@@ -57,8 +57,8 @@ module _ {A : Type 0} (number : A → ℕ) (lists : List (List A)) (s : State) (
     joined : (place : ℕ) (u : State) → mark_of s next ≡ OnStack place → Joined s u place → Stepped number lists s (looked_more u f)
     joined place u m j = subst (λ v. Stepped number lists s (looked_more v f)) (sym j.rest) (record {
       search = looking (graph_by number lists) (record s { starts = u.starts }) (joining (graph_by number lists) s c p f next place t is_called m (record s { starts = u.starts }) same) p f
-        (record { on_path = t.on_path; place = t.place; at_place = t.at_place; last = t.last }) more
-        (joined_led (graph_by number lists) s c p f next place t is_called m (record s { starts = u.starts }) same);
+          (record { on_path = t.on_path; place = t.place; at_place = t.at_place; last = t.last }) more
+          (joined_led (graph_by number lists) s c p f next place t is_called m (record s { starts = u.starts }) same);
       seen = λ h ne. ne;
       less = (let l = to_look_less lists s.looked f f_in (let z = c.sized.looked in let w = f_in in omega (arith, z, w)) (let e = long in omega (arith, more, e)) in omega (arith, l));
     })
@@ -100,8 +100,8 @@ module _ {A : Type 0} (number : A → ℕ) (lists : List (List A)) (s : State) (
   no_start ne = elim (bool_tells (stands p s.starts)) [
     | inr e ↦ e
     | inl e ↦ (let a = rising_last s.starts (length s.starts - 1) (let l = some_starts in omega (arith, l)) c.path.starts_rise p e in
-      let b = top.last (get_or s.starts (length s.starts - 1) 0) (c.path.starts_on (get_or s.starts (length s.starts - 1) 0) (stands_at s.starts (length s.starts - 1) (let l = some_starts in omega (arith, l)))) in
-      let same : get_or s.starts (length s.starts - 1) 0 ≡ p = omega (arith, a, b) in absurd (ne same))
+        let b = top.last (get_or s.starts (length s.starts - 1) 0) (c.path.starts_on (get_or s.starts (length s.starts - 1) 0) (stands_at s.starts (length s.starts - 1) (let l = some_starts in omega (arith, l)))) in
+        let same : get_or s.starts (length s.starts - 1) 0 ≡ p = omega (arith, a, b) in absurd (ne same))
   ]
 
   pub left : length (listed number lists (on_stack s p)) ≤ get_or s.looked (on_stack s p) 0 → (u : State) → Left s u p → Stepped number lists s u
@@ -109,14 +109,18 @@ module _ {A : Type 0} (number : A → ℕ) (lists : List (List A)) (s : State) (
     where
       done : get_or s.looked (on_stack s p) 0 ≡ length (listed number lists (on_stack s p))
       done = let m = c.looked.most (on_stack s p) in omega (arith, m, enough)
+
       is_p : last ≡ p
       is_p =
           let n : length s.path - 1 ≡ length front = (let l = ap length cut in let k = length-append front (last ∷ []) in omega (arith, l, k)) in
           sym (get_or-append_seam front last [] 0) ∙ ap (λ xs. get_or xs (length front) 0) (sym cut) ∙ ap (λ i. get_or s.path i 0) (sym n) ∙ is_last
+
       popped : s.path ≡ front ++ p ∷ []
       popped = cut ∙ ap (λ x. front ++ x ∷ []) is_p
+
       shorter : length front < length s.path
       shorter = let l = ap length popped in let k = length-append front (p ∷ []) in omega (arith, l, k)
+
       go : ((starts : List ℕ) × (s.starts ≡ starts ++ p ∷ []) × (u ≡ closed_from (record s { path = front; starts = starts }) p)) ⊎ ((get_or s.starts (length s.starts - 1) 0 ≢ p) × (u ≡ record s { path = front })) → Stepped number lists s u
       go (inl e) = subst (Stepped number lists s) (sym e.2) (record {
         search = closing (graph_by number lists) s c front p popped done e.0 e.1;

@@ -123,8 +123,10 @@ module _ (terms : List Term) (closed : Closed terms) where
       where
         s : (a < length terms) × (stands b (exits terms a) ≡ true)
         s = source_where a b e
+
         back : Reaches G a b
         back = c.both a b (let x = s.0 in omega (arith, nodes, x)) (omega (arith, nodes, l)) same
+
         forever : (n : ℕ) → goes_on terms n a ≡ true
         forever zero = refl
         forever (suc n) = goes_before n a b s.1 (goes_fewer back.0 n b (goes_along back.0 n a b s.0 back.1 (forever n)))
@@ -151,7 +153,7 @@ module _ (terms : List Term) (closed : Closed terms) where
       ends_all = elim (bool_tells (has_cycle terms)) [
         | inr e ↦ e
         | inl e ↦ (let w = any_where (goes_on terms (length terms)) (range_with_len 0 (length terms)) e in
-          let r = ends (length terms) w.0 (range_low (length terms) w.0 w.1) w.2 in absurd (omega (arith, r)))
+            let r = ends (length terms) w.0 (range_low (length terms) w.0 w.1) w.2 in absurd (omega (arith, r)))
       ]
 
 -- ---- the graph of the edges, each from its end to its source
@@ -190,5 +192,5 @@ module _ (terms : List Term) (closed : Closed terms) (lists : List (List ℕ)) (
 
     pub no_cycle : ((b : ℕ) → b < length terms → list_any (λ a. component_in numbers a == component_in numbers b) (sources terms b) ≡ false) → has_cycle terms ≡ false
     no_cycle none = ends_all terms closed turned refl (λ b l. refl) (component_in numbers) c below (λ a b l e same.
-      both (list_any (λ a. component_in numbers a == component_in numbers b) (sources terms b))
-      (any_of (λ a. component_in numbers a == component_in numbers b) (sources terms b) a e (eq-eqb (component_in numbers a) (component_in numbers b) same)) (none b l))
+        both (list_any (λ a. component_in numbers a == component_in numbers b) (sources terms b))
+        (any_of (λ a. component_in numbers a == component_in numbers b) (sources terms b) a e (eq-eqb (component_in numbers a) (component_in numbers b) same)) (none b l))

@@ -141,9 +141,9 @@ closed_from s p = record s {
 -- the last function of the path was left, and a component closed where a part begins with it
 abbrev pub Left : State → State → ℕ → Type 0
 Left s t p = (front : List ℕ) × (last : ℕ) × (s.path ≡ front ++ last ∷ []) × (
-  ((starts : List ℕ) × (s.starts ≡ starts ++ p ∷ []) × (t ≡ closed_from (record s { path = front; starts = starts }) p))
-  ⊎ ((get_or s.starts (length s.starts - 1) 0 ≢ p) × (t ≡ record s { path = front }))
-)
+    ((starts : List ℕ) × (s.starts ≡ starts ++ p ∷ []) × (t ≡ closed_from (record s { path = front; starts = starts }) p))
+    ⊎ ((get_or s.starts (length s.starts - 1) 0 ≢ p) × (t ≡ record s { path = front }))
+    )
 
 -- a callee g of f was looked at
 abbrev pub LookedAt : State → State → ℕ → ℕ → Type 0

@@ -16,8 +16,8 @@ loop-block-preserved c =
     c.saturating_add-total.ensures
     ∙ sum_more block_cost (block_of trees) c.args.body.now.blocks i item (2 ^ 64 - 1) c.loop-block.total c.block_cost.result (let e = c.loop-block-test.true in let f = ap (λ xs. length xs) c.as_slice-block-items.ensures in omega (arith, e, f)) (c.loop-block.invariant trees)
     (c.block_cost.ensures trees
-      ∙ ap (λ (ss : List Stmt). min (block_cost (block_of trees (record { stmts = ss; term = item.term }))) (2 ^ 64 - 1)) c.as_slice.ensures
-      ∙ ap (λ (b : Block). min (block_cost (block_of trees b)) (2 ^ 64 - 1)) (c.block-item.is ∙ ap (λ xs. get_or xs i item) c.as_slice-block-items.ensures))
+    ∙ ap (λ (ss : List Stmt). min (block_cost (block_of trees (record { stmts = ss; term = item.term }))) (2 ^ 64 - 1)) c.as_slice.ensures
+    ∙ ap (λ (b : Block). min (block_cost (block_of trees b)) (2 ^ 64 - 1)) (c.block-item.is ∙ ap (λ xs. get_or xs i item) c.as_slice-block-items.ensures))
 
 pub returns : goal.returns
 unfolding cost
