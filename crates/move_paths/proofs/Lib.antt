@@ -10,3 +10,4 @@ pub mod Statuses
 pub mod Solved
 pub mod Whole
 pub mod Facts
+pub mod Decided
