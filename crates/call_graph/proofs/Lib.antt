@@ -1,13 +1,13 @@
 pub mod Sums
-mod Once
-mod Reached
-mod Falls
+pub mod Once
+pub mod Reached
+pub mod Falls
 mod PathOrder
 mod Bits
-mod Components
+pub mod Components
 mod Opened
 mod Entering
 mod Listed
 mod Ended
 mod Rows
-mod Inside
+pub mod Inside
