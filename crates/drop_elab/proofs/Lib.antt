@@ -2,3 +2,5 @@ pub mod Rows
 pub mod RowPaths
 pub mod OneResult
 pub mod NoDrop
+pub mod Scalars
+pub mod equal

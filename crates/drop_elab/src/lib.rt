@@ -9,6 +9,12 @@
 //! code is still to come, and so are the laws that the elaborated body is valid and refines the body.
 #![tactic(auto)]
 
+mod cursor;
+mod flags;
+mod glue;
 mod laws;
+mod settings;
+mod types;
+mod units;
 
 pub use laws::{elab_is_one, elab_leaves_no_drop};

@@ -15,4 +15,5 @@ mod search;
 mod units;
 
 pub use effects::{begun, effect, is_under, moved};
-pub use rows::{InitRows, inits};
+pub use rows::{InitRows, inits, to_ends};
+pub use units::{BodyUnits, Span};

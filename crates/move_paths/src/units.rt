@@ -17,14 +17,14 @@ use std::alloc::Global;
 
 /// The numbers from `from` up to but not `to`.
 #[derive(Clone, Copy, Drop)]
-pub(crate) struct Span {
+pub struct Span {
     pub from: usize,
     pub to: usize,
 }
 
 /// The units of a body, in their order, and of each local the numbers of its own.
 #[derive(Drop)]
-pub(crate) struct BodyUnits {
+pub struct BodyUnits {
     pub places: List<Place>,
     pub spans: List<Span>,
     pub ghost spanned: { IsSpanned places spans },

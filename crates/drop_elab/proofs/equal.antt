@@ -1,0 +1,5 @@
+pub mod Lists
+pub mod Laid
+pub mod Below
+pub mod Steps
+pub mod Pieces
