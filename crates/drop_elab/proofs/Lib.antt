@@ -3,4 +3,6 @@ pub mod RowPaths
 pub mod OneResult
 pub mod NoDrop
 pub mod Scalars
+pub mod Destructors
+pub mod Marking
 pub mod equal

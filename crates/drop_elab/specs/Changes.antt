@@ -20,6 +20,9 @@ use Rattle.drop_elab.specs.Elab.{Status, status_of, is_conditional, only_if, Fla
 abbrev pub flagged_of : DropUnit → Flagged
 flagged_of u = record { unit = u.place; flag = u.flag }
 
+abbrev pub unit_place : DropUnit → Place
+unit_place u = u.place
+
 -- whether a unit is initialised after a change
 abbrev pub change_made : List Tree → Change → Place → Option Bool
 change_made trees (change.Entry args) u = Some (is_argument args u)

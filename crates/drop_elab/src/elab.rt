@@ -1,158 +1,117 @@
 //! The elaborated body.
+ghost use Rattle.std.specs.Prelude.{◌≡◌, ℕ, ◌<◌, ◌^◌, ◌++◌, List, map, length, IsTrue, IfOk, OnOk};
+ghost use Rattle.mir_syntax.specs.Drops.{KnowsDrops};
+ghost use Rattle.mir_syntax.specs.Ids.{IdsInTable, BodyInTable};
+ghost use Rattle.mir_syntax.specs.Tree.{Tree, at_id, trees_of};
+ghost use Rattle.mir_syntax.specs.Table.{all_below};
+ghost use Rattle.mir_syntax.specs.Crate.{crate_of, body_of};
+ghost use Rattle.mir_syntax.specs.Shapes.{shapes_of};
+ghost use Rattle.mir_cfg.specs.Paths.{terms_of, Closed};
+ghost use Rattle.drop_elab.specs.Types.{HasBool, HasIsize};
+ghost use Rattle.mir_rules.specs.Typing.{bool_ty as tree_of_bool};
+ghost use Rattle.move_paths.specs.Effects.{units_of_body};
+ghost use Rattle.drop_elab.specs.Elab.{IsElab};
+ghost use Rattle.drop_elab.specs.Changes.{flagged_of};
+ghost use Rattle.drop_elab.specs.Blocks.{IsEnds, IsKnown, locals_of};
+
+use crate::blocks::Ends;
 use crate::cursor::{Cursor, local_place};
-use crate::flags::{Unit, wanted, with_flags};
-use crate::glue::lay_glue;
-use crate::settings::{Change, settings};
+use crate::flags::{DropUnit, units_with_flags, wanted};
+use crate::types::bool_id;
 use bit_rows::BitRows;
-use mir_syntax::{
-    Arm, Block, Body, Copied, List, Operand, OutOfMemory, Place, Program, ScalarTy, Stmt, Term,
-};
-use move_paths::{InitRows, Span, inits, is_under, to_ends};
+use mir_syntax::{Body, List, OutOfMemory, Program, TyId};
+use move_paths::{BodyUnits, InitRows, inits, to_ends};
 use std::alloc::Global;
-use std::mem;
 
-/// The units of a body, where those of each local stand among them, and of each block those that may be initialised before its terminator and
-/// those that surely are.
-#[derive(Drop)]
-struct Ends {
-    units: List<Unit>,
-    spans: List<Span>,
-    maybe: BitRows,
-    sure: BitRows,
+/// The units of a body and its rows, carried to the blocks' ends.
+fn ends_of(alloc: Global, program: &Program, body: &Body) -> Result<InitRows, OutOfMemory>
+    requires knows { KnowsDrops program.now }
+    requires ids { IdsInTable program.now }
+    requires body_ids { BodyInTable program.now.types body.now }
+    requires closed { Closed (terms_of body.now) }
+    requires some_block { 0 < length body.now.blocks }
+    requires few_blocks { length body.now.blocks < 2 ^ 30 }
+    requires few_locals { length body.now.locals < 2 ^ 30 }
+    ensures units { IfOk result (λ rows. rows.units.places ≡ units_of_body (shapes_of (crate_of program.now)) (body_of (trees_of program.now.types) body.now)) }
+    ensures rows { IfOk result (λ rows. IsEnds (shapes_of (crate_of program.now)) (body_of (trees_of program.now.types) body.now) (units_of_body (shapes_of (crate_of program.now)) (body_of (trees_of program.now.types) body.now)) rows.maybe rows.sure) }
+{
+    let mut rows = inits(alloc, program, body)?;
+    let blocks = body.blocks.as_slice();
+    to_ends(&rows.units, blocks, &mut rows.maybe);
+    to_ends(&rows.units, blocks, &mut rows.sure);
+    Ok(rows)
 }
 
-/// The flag becomes false, where there is one.
-fn clear(cursor: &mut Cursor, alloc: Global, flag: Option<u32>) -> Result<(), OutOfMemory> {
-    match flag {
-        Some(flag) => cursor.stmts.push(set_flag(alloc, flag, false)),
-        None => Ok(()),
+/// A local of the type for each unit that has a flag.
+fn add_flags(
+    locals: &mut List<TyId>,
+    units: &[DropUnit],
+    bool_ty: TyId,
+) -> Result<(), OutOfMemory>
+    ensures locals { OnOk result ((trees : List Tree) → at_id trees bool_ty ≡ tree_of_bool → map (at_id trees) locals.new ≡ map (at_id trees) locals.old ++ locals_of (map flagged_of units.now)) }
+    ensures below { OnOk result ((n : ℕ) → bool_ty.0 < n → IsTrue (all_below n locals.old) → IsTrue (all_below n locals.new)) }
+{
+    for unit in units {
+        if unit.flag.is_some() {
+            locals.push(bool_ty)?;
+        }
     }
-}
-
-/// Lays the glue of a unit.
-fn lay_unit(
-    cursor: &mut Cursor,
-    alloc: Global,
-    program: &Program,
-    unit: &Unit,
-) -> Result<(), OutOfMemory> {
-    let Some(ty) = unit.ty else {
-        return Ok(());
-    };
-    cursor.place = unit.place.copied(alloc)?;
-    lay_glue(cursor, alloc, program, program.defs.len(), ty)
-}
-
-/// Lays the glue of a unit and the clearing of its flag behind a switch on the flag.
-fn lay_guarded(
-    cursor: &mut Cursor,
-    alloc: Global,
-    program: &Program,
-    unit: &Unit,
-    flag: u32,
-) -> Result<(), OutOfMemory> {
-    let guarded = cursor.add_block(alloc)?;
-    let join = cursor.add_block(alloc)?;
-    let mut arms = List::new(alloc);
-    arms.push(Arm {
-        value: 0,
-        block: join,
-    })?;
-    let on = Operand::Copy(local_place(alloc, flag));
-    cursor.go_on(alloc, Term::Switch(on, arms, guarded), guarded);
-    lay_unit(cursor, alloc, program, unit)?;
-    cursor.stmts.push(set_flag(alloc, flag, false))?;
-    cursor.go_on(alloc, Term::Goto(join), join);
     Ok(())
 }
 
-impl Ends {
-    /// Lays what is done of a drop for one unit.
-    fn lay_one(&self, cursor: &mut Cursor, alloc: Global, program: &Program, block: u32, at: usize) -> Result<(), OutOfMemory> {
-        let unit = &self.units.as_slice()[at];
-        if !self.maybe.has(block, at as u32) {
-            return Ok(());
-        }
-        if self.sure.has(block, at as u32) {
-            lay_unit(cursor, alloc, program, unit)?;
-            return clear(cursor, alloc, unit.flag);
-        }
-        match unit.flag {
-            Some(flag) => lay_guarded(cursor, alloc, program, unit, flag),
-            None => Ok(()),
-        }
-    }
-
-    /// Lays what a drop of a place does, at the end of a block.
-    fn lay_drop(&self, cursor: &mut Cursor, alloc: Global, program: &Program, block: u32, place: &Place) -> Result<(), OutOfMemory> {
-        let Some(span) = self.spans.get(place.local as usize) else {
-            return Ok(());
-        };
-        for at in span.from..span.to {
-            if is_under(place, &self.units.as_slice()[at].place) {
-                self.lay_one(cursor, alloc, program, block, at)?;
-            }
-        }
-        Ok(())
-    }
-
-    /// Lays a call. It clears the flags of what it moves, and returns to a new block where its result initialises units with flags.
-    fn lay_call(&self, cursor: &mut Cursor, alloc: Global, call: Term) -> Result<(), OutOfMemory> {
-        let units = self.units.as_slice();
-        cursor.stmts.append(settings(alloc, units, Change::Moved(&call))?)?;
-        let sets = settings(alloc, units, Change::Begun(&call))?;
-        match call {
-            Term::Call(place, callee, args, next) if !sets.is_empty() => {
-                let back = cursor.add_block(alloc)?;
-                cursor.go_on(alloc, Term::Call(place, callee, args, back), back);
-                cursor.stmts = sets;
-                cursor.close(alloc, Term::Goto(next));
-            }
-            call => cursor.close(alloc, call),
-        }
-        Ok(())
-    }
-
-    /// Lays the statements of a block, and behind each of them the assignments of the flags that it changes.
-    fn lay_stmts(&self, cursor: &mut Cursor, alloc: Global, stmts: List<Stmt>) -> Result<(), OutOfMemory> {
-        for stmt in stmts.into_vec() {
-            let sets = settings(alloc, self.units.as_slice(), Change::Stmt(&stmt))?;
-            cursor.stmts.push(stmt)?;
-            cursor.stmts.append(sets)?;
-        }
-        Ok(())
-    }
-
-    /// Lays the end of a block.
-    fn lay_end(&self, cursor: &mut Cursor, alloc: Global, program: &Program, block: u32, term: Term) -> Result<(), OutOfMemory> {
-        match term {
-            Term::Drop(place, next) => {
-                self.lay_drop(cursor, alloc, program, block, &place)?;
-                cursor.close(alloc, Term::Goto(next));
-                Ok(())
-            }
-            Term::Call(place, callee, args, next) => self.lay_call(cursor, alloc, Term::Call(place, callee, args, next)),
-            term => {
-                cursor.close(alloc, term);
-                Ok(())
-            }
-        }
-    }
-
-    /// Lays a block of the body in its place.
-    fn lay_block(&self, cursor: &mut Cursor, alloc: Global, program: &Program, args: u32, at: u32) -> Result<(), OutOfMemory> {
-        let block = take_block(alloc, cursor.blocks.as_mut_slice(), at);
-        cursor.at = at;
-        if at == 0 {
-            cursor.stmts = settings(alloc, self.units.as_slice(), Change::Entry(args))?;
-        }
-        self.lay_stmts(cursor, alloc, block.stmts)?;
-        self.lay_end(cursor, alloc, program, at, block.term)
-    }
+/// The units of a body with their flags, and what is known of them at the blocks' ends.
+fn known_ends(alloc: Global, program: &Program, body: &Body) -> Result<Ends, OutOfMemory>
+    requires knows { KnowsDrops program.now }
+    requires ids { IdsInTable program.now }
+    requires body_ids { BodyInTable program.now.types body.now }
+    requires closed { Closed (terms_of body.now) }
+    requires some_block { 0 < length body.now.blocks }
+    requires few_blocks { length body.now.blocks < 2 ^ 30 }
+    requires few_locals { length body.now.locals < 2 ^ 30 }
+    ensures { IfOk result (λ ends. IsKnown program.now.types (shapes_of (crate_of program.now)) (body_of (trees_of program.now.types) body.now) ends) }
+{
+    let rows = ends_of(alloc, program, body)?;
+    let wanted = wanted(alloc, body.blocks.as_slice(), &rows)?;
+    let InitRows { units, maybe, sure } = rows;
+    let BodyUnits { places, spans } = units;
+    let units = units_with_flags(alloc, program, body, places, &wanted)?;
+    Ok(Ends {
+        units,
+        spans,
+        maybe,
+        sure,
+    })
 }
 
-/// Takes a block out of its place.
-fn take_block(alloc: Global, blocks: &mut [Block], at: u32) -> Block {
-    let empty = Block { stmts: List::new(alloc), term: Term::Unreachable };
-    mem::replace(&mut blocks[at as usize], empty)
+/// The body in which each `drop` is written out as calls of destructors. `Err` is for want of memory alone, and the body is spent then.
+pub fn elab(alloc: Global, program: &Program, body: Body) -> Result<Body, OutOfMemory>
+    requires knows { KnowsDrops program.now }
+    requires ids { IdsInTable program.now }
+    requires has_bool { HasBool program.now.types }
+    requires has_isize { HasIsize program.now.types }
+    requires body_ids { BodyInTable program.now.types body }
+    requires closed { Closed (terms_of body) }
+    requires some_block { 0 < length body.blocks }
+    requires few_blocks { length body.blocks < 2 ^ 30 }
+    requires few_locals { length body.locals < 2 ^ 30 }
+    ensures elab { IfOk result (λ left. IsElab (shapes_of (crate_of program.now)) (body_of (trees_of program.now.types) body) (body_of (trees_of program.now.types) left)) }
+    ensures in_table { IfOk result (λ left. BodyInTable program.now.types left) }
+{
+    let ends = known_ends(alloc, program, &body)?;
+    let args = body.args;
+    let count = body.blocks.len() as u32;
+    let mut cursor = Cursor {
+        locals: body.locals,
+        blocks: body.blocks,
+        at: 0,
+        stmts: List::new(alloc),
+        place: local_place(alloc, 0),
+    };
+    add_flags(&mut cursor.locals, ends.units.as_slice(), bool_id(program))?;
+    ends.lay_blocks(&mut cursor, alloc, program, args, count)?;
+    Ok(Body {
+        args,
+        locals: cursor.locals,
+        blocks: cursor.blocks,
+    })
 }

@@ -23,6 +23,13 @@ pub(crate) struct DropUnit {
     pub flag: Option<u32>,
 }
 
+/// Whether a unit is at or under a place, and conditional: it may be initialised and not surely is.
+fn is_wanted(place: &BodyPlace, unit: &BodyPlace, maybe: bool, sure: bool) -> bool
+    ensures { result ≡ wants_at place.now unit.now maybe sure }
+{
+    maybe && !sure && is_under(place, unit)
+}
+
 /// Marks in the one row `wanted` the units at or under a place that are conditional at the end of a block.
 fn want_under(ends: &InitRows, block: u32, place: &BodyPlace, wanted: &mut BitRows)
     requires block { (block < length ends.now.maybe) × (block < length ends.now.sure) }
@@ -35,10 +42,9 @@ fn want_under(ends: &InitRows, block: u32, place: &BodyPlace, wanted: &mut BitRo
     };
     let units = ends.units.places.as_slice();
     for at in span.from..span.to {
-        if is_under(place, &units[at])
-            && ends.maybe.has(block, at as u32)
-            && !ends.sure.has(block, at as u32)
-        {
+        let maybe = ends.maybe.has(block, at as u32);
+        let sure = ends.sure.has(block, at as u32);
+        if is_wanted(place, &units[at], maybe, sure) {
             wanted.write(0, at as u32, true);
         }
     }
@@ -75,11 +81,15 @@ pub(crate) fn units_with_flags(
 ) -> Result<List<DropUnit>, OutOfMemory>
     requires ids { IdsInTable program.now }
     requires body_ids { BodyInTable program.now.types body.now }
-    requires few { length body.now.locals + length places < 2 ^ 32 }
+    requires few_locals { length body.now.locals < 2 ^ 30 }
+    requires few_units { length places < 2 ^ 32 }
     requires size { HasSize wanted.now 1 (length places) }
     ensures units { IfOk result (λ units. map flagged_of units ≡ with_flags (length body.now.locals) places (row_at wanted.now 0)) }
     ensures types { IfOk result (λ units. All (λ unit. IsTyped program.now.types (shapes_of (crate_of program.now)) (body_of (trees_of program.now.types) body.now).locals unit) units) }
 {
+    if u32::try_from(body.locals.len() + places.len()).is_err() {
+        return Err(OutOfMemory);
+    }
     let mut units = List::new(alloc);
     let mut next = body.locals.len() as u32;
     for place in places.into_vec() {

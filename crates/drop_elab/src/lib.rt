@@ -9,7 +9,9 @@
 //! code is still to come, and so are the laws that the elaborated body is valid and refines the body.
 #![tactic(auto)]
 
+mod blocks;
 mod cursor;
+mod elab;
 mod flags;
 mod glue;
 mod laws;
@@ -17,4 +19,5 @@ mod settings;
 mod types;
 mod units;
 
+pub use elab::elab;
 pub use laws::{elab_is_one, elab_leaves_no_drop};
