@@ -3,6 +3,9 @@ pub mod Laid
 pub mod Below
 pub mod Steps
 pub mod Pieces
+pub mod Definitions
+pub mod Ends
 pub mod Whole
 pub mod Wants
 pub mod Dropping
+pub mod Bodies

@@ -14,7 +14,7 @@ use Rattle.bit_rows.specs.Rows.{row_at, HasSize}
 use Rattle.liveness.specs.Rows.{block_at}
 use Rattle.move_paths.specs.Effects.{units_of_body}
 use Rattle.move_paths.specs.Rows.{passed_stmts, each_unit}
-use Rattle.drop_elab.specs.declared.blocks.Ends.{Ends}
+use Rattle.drop_elab.specs.declared.ends.Ends.{Ends}
 use Rattle.drop_elab.specs.declared.cursor.Cursor.{Cursor}
 use Rattle.drop_elab.specs.Plan.{Laid}
 use Rattle.drop_elab.specs.Elab.{Inits, IsInits, Status, Flagged, with_flags, want_flags, LaidBlocks, with_settings, first_settings, lay_end}

@@ -1,5 +1,5 @@
 //! What becomes of a block: its statements with the assignments of flags, and its end.
-ghost use Rattle.std.specs.Prelude.{◌≡◌, ℕ, ◌<◌, ◌≤◌, ◌++◌, [], List, true, false, Some, map, set, take, length, slice_get, IsTrue, IfSome, OnOk};
+ghost use Rattle.std.specs.Prelude.{◌≡◌, ℕ, ◌<◌, ◌≤◌, ◌++◌, [], List, true, false, Some, map, set, take, length, slice_get, IsTrue, IfSome, IfOk, OnOk};
 ghost use Rattle.std.specs.List.{All, list_all};
 ghost use Rattle.bit_rows.specs.Rows.{row_at};
 ghost use Rattle.mir_syntax.specs.Tree.{Tree, trees_of};
@@ -13,30 +13,17 @@ ghost use Rattle.drop_elab.specs.Plan.{done};
 ghost use Rattle.drop_elab.specs.Elab as definition;
 ghost use Rattle.drop_elab.specs.Types.{HasIsize};
 ghost use Rattle.drop_elab.specs.Code.{empty_block, LayingOn};
-ghost use Rattle.move_paths.specs.Rows.{IsSpanned};
-ghost use Rattle.drop_elab.specs.Changes.{flagged_of, unit_place, IsTyped, end_statuses};
+ghost use Rattle.drop_elab.specs.Changes.{flagged_of, IsTyped, end_statuses};
 ghost use Rattle.drop_elab.specs.Blocks.{returning_to, EndLaid, BlockLaid, BlocksLaid};
 
 use crate::cursor::Cursor;
-use crate::flags::DropUnit;
+use crate::ends::Ends;
 use crate::settings::{Change, settings};
 use crate::units::lay_one;
-use bit_rows::BitRows;
 use mir_syntax::{Block, List, OutOfMemory, Place, Program, Stmt, Term};
-use move_paths::{Span, is_under};
+use move_paths::is_under;
 use std::alloc::Global;
 use std::mem;
-
-/// The units of a body, where those of each local stand among them, and of each block, by rows, those that may be initialised before its
-/// terminator and those that surely are.
-#[derive(Drop)]
-pub(crate) struct Ends {
-    pub units: List<DropUnit>,
-    pub spans: List<Span>,
-    pub maybe: BitRows,
-    pub sure: BitRows,
-    pub ghost spanned: { IsSpanned (map unit_place units) spans },
-}
 
 /// The call, with another block to return to.
 fn returning_to(call: Term, next: u32) -> Term
@@ -163,7 +150,18 @@ impl Ends {
         Ok(())
     }
 
-    /// Puts a block of the body back as what becomes of it. The first block begins with all flags.
+    /// With what a block begins: the first one with all flags.
+    fn first_settings(&self, alloc: Global, args: u32, at: u32) -> Result<List<Stmt>, OutOfMemory>
+        ensures settings { IfOk result (λ stmts. (trees : List Tree) → map (stmt_of trees) stmts ≡ definition.first_settings args at (map flagged_of self.now.units)) }
+        ensures below { IfOk result (λ stmts. (n : ℕ) → IsTrue (list_all (stmt_below n) stmts)) }
+    {
+        if at == 0 {
+            return settings(alloc, self.units.as_slice(), Change::Entry(args));
+        }
+        Ok(List::new(alloc))
+    }
+
+    /// Puts a block of the body back as what becomes of it.
     fn lay_block(
         &self,
         cursor: &mut Cursor,
@@ -183,9 +181,7 @@ impl Ends {
     {
         let block = take_block(alloc, cursor.blocks.as_mut_slice(), at);
         cursor.at = at;
-        if at == 0 {
-            cursor.stmts = settings(alloc, self.units.as_slice(), Change::Entry(args))?;
-        }
+        cursor.stmts = self.first_settings(alloc, args, at)?;
         self.lay_stmts(cursor, alloc, block.stmts)?;
         self.lay_end(cursor, alloc, program, at, block.term)
     }

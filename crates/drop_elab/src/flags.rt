@@ -93,13 +93,15 @@ pub(crate) fn units_with_flags(
     let mut units = List::new(alloc);
     let mut next = body.locals.len() as u32;
     for place in places.into_vec() {
-        let mut flag = None;
-        if wanted.has(0, units.len() as u32) {
-            flag = Some(next);
-            next += 1;
-        }
         let ty = program.place_ty(body, &place);
-        units.push(DropUnit { place, ty, flag })?;
+        if wanted.has(0, units.len() as u32) {
+            let flag = Some(next);
+            units.push(DropUnit { place, ty, flag })?;
+            next += 1;
+        } else {
+            let flag = None;
+            units.push(DropUnit { place, ty, flag })?;
+        }
     }
     Ok(units)
 }

@@ -191,13 +191,19 @@ fn lay_definition(
     requires inside { cursor.old.at < length cursor.old.blocks }
     ensures { OnOk result (Laying program.now cursor.old cursor.new nothing_left (glue_def (shapes_of (crate_of program.now)) depth def cursor.old.place)) }
 {
-    if depth == 0 || !program.needs_drop(id) {
+    if depth == 0 {
         return Ok(());
     }
-    if let Some(destructor) = program.destructor(id) {
-        lay_destructor(cursor, alloc, program, id, destructor)?;
+    if !program.needs_drop(id) {
+        return Ok(());
     }
-    lay_inside(cursor, alloc, program, depth - 1, def)
+    match program.destructor(id) {
+        Some(destructor) => {
+            lay_destructor(cursor, alloc, program, id, destructor)?;
+            lay_inside(cursor, alloc, program, depth - 1, def)
+        }
+        None => lay_inside(cursor, alloc, program, depth - 1, def),
+    }
 }
 
 /// Lays the glue of what is inside a struct or an enum.

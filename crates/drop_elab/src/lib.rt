@@ -10,8 +10,9 @@
 #![tactic(auto)]
 
 mod blocks;
+mod body;
 mod cursor;
-mod elab;
+mod ends;
 mod flags;
 mod glue;
 mod laws;
@@ -19,5 +20,5 @@ mod settings;
 mod types;
 mod units;
 
-pub use elab::elab;
+pub use body::elab;
 pub use laws::{elab_is_one, elab_leaves_no_drop};

@@ -32,7 +32,7 @@ seen_same : (l l2 : List Tree) (k k2 : List TypedBlock) (i : ℕ) (s : List Type
 seen_same l l2 k k2 i s e f = ap₂ (λ (l : List Tree) (k : List TypedBlock). let z : Seen = record { locals = l; blocks = k; at = i; stmts = s } in z) e f
 
 -- a block is set in front of new ones
-set_in_front : (trees : List Tree) (ks more : List Block) (i : ℕ) (x : Block) → i < length ks → map (block_of trees) (set (ks ++ more) i x) ≡ set (map (block_of trees) ks) i (block_of trees x) ++ map (block_of trees) more
+pub set_in_front : (trees : List Tree) (ks more : List Block) (i : ℕ) (x : Block) → i < length ks → map (block_of trees) (set (ks ++ more) i x) ≡ set (map (block_of trees) ks) i (block_of trees x) ++ map (block_of trees) more
 set_in_front trees ks more i x l =
     map-set (block_of trees) (ks ++ more) i x
     ∙ ap (λ (ys : List TypedBlock). set ys i (block_of trees x)) (map-append (block_of trees) ks more)

@@ -14,8 +14,8 @@ ghost use Rattle.drop_elab.specs.Elab.{IsElab};
 ghost use Rattle.drop_elab.specs.Changes.{flagged_of};
 ghost use Rattle.drop_elab.specs.Blocks.{IsEnds, IsKnown, locals_of};
 
-use crate::blocks::Ends;
 use crate::cursor::{Cursor, local_place};
+use crate::ends::Ends;
 use crate::flags::{DropUnit, units_with_flags, wanted};
 use crate::types::bool_id;
 use bit_rows::BitRows;

@@ -4,7 +4,7 @@ use Rattle.mir_syntax.specs.Table.{all_below}
 use Rattle.mir_rules.specs.Typing.{bool_ty}
 use Rattle.drop_elab.specs.Changes.{flagged_of}
 use Rattle.drop_elab.specs.Blocks.{locals_of}
-use Rattle.drop_elab.proofs.elab.add_flags.Given as goal
+use Rattle.drop_elab.proofs.body.add_flags.Given as goal
 
 abbrev pub invariant-loop-unit : goal.invariant-loop-unit
 invariant-loop-unit l =
