@@ -6,6 +6,7 @@ pub mod Pieces
 pub mod Definitions
 pub mod Ends
 pub mod Whole
+pub mod Blocks
 pub mod Wants
 pub mod Dropping
 pub mod Bodies
