@@ -1,5 +1,5 @@
 -- Rows are carried to the ends of their blocks, one row after another.
-use Rattle.std.proofs.Common.{◌≡◌, ◌⊎◌, inl, inr, ap, ◌∙◌, sym, refl, ℕ, ◌+◌, ◌<◌, ◌≤◌, Bool, List, [], length, set, arith}
+use Rattle.std.proofs.Common.{◌≡◌, ◌⊎◌, inl, inr, ap, ◌∙◌, sym, ℕ, ◌+◌, ◌<◌, ◌≤◌, Bool, List, [], length, set, arith}
 use Rattle.std.proofs.lemmas.Bool.{cases_eq}
 use Rattle.std.proofs.lemmas.List.{length-set, get_or-set_same, get_or-set_other}
 use Rattle.bit_rows.specs.Rows.{row_at, HasSize}

@@ -19,7 +19,7 @@ use crate::passing::Passing;
 use crate::units::{BodyUnits, units};
 use bit_rows::BitRows;
 use flow_engine::{Edge, solve};
-use mir_syntax::{Block, Body, List, OutOfMemory, Place as BodyPlace, Program};
+use mir_syntax::{Block, Body, OutOfMemory, Place as BodyPlace, Program};
 use std::alloc::Global;
 
 /// The units of a body in their order, and of each block, by rows, those that may be initialised at its start and those that surely are.
@@ -130,7 +130,8 @@ fn turned_over(alloc: Global, rows: &BitRows, count: u32, bits: u32) -> Result<B
     Ok(made)
 }
 
-/// Carries rows from the blocks' starts over their statements, to what they are before the terminators.
+/// Carries rows of units that are initialised at the blocks' starts over the statements: then each tells of the units before its block's
+/// terminator.
 pub fn to_ends(units: &BodyUnits, blocks: &[Block], rows: &mut BitRows)
     requires few { length blocks.now < 2 ^ 30 }
     requires size { HasSize rows.old (length blocks.now) (length units.now.places) }

@@ -1,14 +1,13 @@
-use Rattle.std.proofs.Common.{◌≡◌, ◌<◌, ℕ, Bool, true, map, List, [], ap, ◌∙◌, sym, subst, length, get_or, set, arith}
+use Rattle.std.proofs.Common.{◌≡◌, ◌<◌, ℕ, Bool, true, map, List, [], ap, ◌∙◌, sym, length, get_or, set, arith}
 use Rattle.std.proofs.lemmas.List.{get_or-map}
 use Rattle.bit_rows.specs.Rows.{row_at}
-use Rattle.mir_syntax.specs.Tree.{Tree}
 use Rattle.mir_syntax.specs.Crate.{TypedBlock, block_of, stmt_of}
 use Rattle.mir_syntax.specs.declared.body.Stmt.{Stmt}
 use Rattle.mir_syntax.specs.declared.body.Block.{Block}
 use Rattle.liveness.specs.Rows.{block_at, no_block}
 use Rattle.move_paths.specs.Rows.{passed_stmts, each_unit}
 use Rattle.move_paths.proofs.Each.{each_long}
-use Rattle.move_paths.proofs.Ending.{Carried, carried_more, carried_size}
+use Rattle.move_paths.proofs.Ending.{carried_more, carried_size}
 use Rattle.move_paths.proofs.rows.to_ends.Goals as goal
 
 pub pass_stmts-requires-clause-within : goal.pass_stmts-requires-clause-within
