@@ -7,7 +7,7 @@ use Rattle.mir_syntax.specs.declared.body.Place.{Place}
 use Rattle.mir_syntax.specs.declared.program.Program.{Program}
 use Rattle.mir_syntax.specs.Tree.{Tree, named, trees_of}
 use Rattle.mir_syntax.specs.Crate.{TypedFunction, TypedDef, TypedVariant, crate_of, def_of, variant_of}
-use Rattle.mir_syntax.specs.Shapes.{Shape, shapes_of, shapes_from, fields_tuple, struct_fields, fields_of_struct, needs_drop, needs_def, needs_of, ◌>>=◌}
+use Rattle.mir_syntax.specs.Shapes.{Shape, shapes_of, shapes_from, fields_tuple, struct_fields, fields_of_struct, needs_drop, needs_def, needs_of, destructor_of, ◌>>=◌}
 use Rattle.mir_syntax.proofs.Lists.{map_back}
 use Rattle.drop_elab.specs.declared.cursor.Cursor.{Cursor}
 use Rattle.drop_elab.specs.Plan.{Plan, destroy, chosen, glue_from, arms_of, glue_inside, glue_shape, glue_of, glue_def}
@@ -86,3 +86,8 @@ module _ (p : Program) (D : List Shape) (n d : ℕ) (a b : Cursor) where
       } in
       laying_as p a b nothing_left nothing_left (glue_def D (suc n) d a.place) (λ r. destroy a.place (named d) g (glue_inside D (glue_def D n) s a.place r)) (λ r. refl) (λ r. sym (glue_is s (Some g) e at h r))
       (laying_on p a m b (glue_inside D (glue_def D n) s a.place) nothing_left (λ r. destroy a.place (named d) g (glue_inside D (glue_def D n) s a.place r)) first inner)
+
+-- the destructor that the program knows is the shape's
+pub destructor_is : (D : List Shape) (d : ℕ) (s : Shape) (o : Option ℕ) → slice_get D d ≡ Some s → o ≡ destructor_of D (named d) → s.destructor ≡ o
+unfolding ◌>>=◌
+destructor_is D d s o at e = sym (e ∙ ap (λ (t : Option Shape). t >>= λ s. s.destructor) at)
