@@ -17,6 +17,8 @@ mod flags;
 mod glue;
 mod laws;
 mod settings;
+#[cfg(test)]
+mod tests;
 mod types;
 mod units;
 
