@@ -1,0 +1,170 @@
+-- What a frame that waits wants of the steps above it: that they leave its flags, and of its units which are holes. The steps of other frames do.
+use Rattle.std.proofs.Common.{◌≡◌, ◌⊎◌, inl, inr, refl, sym, ap, ap₂, ◌∙◌, subst, ℕ, ◌+◌, ◌<◌, ◌≤◌, Bool, true, false, ◌||◌, List, [], ◌∷◌, length, get_or, Option, Some, None, slice_get, option_map, arith}
+use Rattle.mir_syntax.specs.declared.body.Place.{Place}
+use Rattle.mir_syntax.specs.declared.body.Proj.{Proj}
+use Rattle.mir_syntax.specs.Tree.{Tree}
+use Rattle.mir_syntax.specs.Crate.{TypedBlock}
+use Rattle.mir_syntax.specs.Shapes.{Shape, path_ty, needs_drop}
+use Rattle.mir_rules.specs.DefinitionRules.{holds}
+use Rattle.mir_rules.specs.Weights.{units}
+use Rattle.mir_num.specs.Numbers.{flag}
+use Rattle.mir_semantics.specs.Values.{Addr, Value, number, whole, full, put}
+use Rattle.mir_semantics.specs.Memory.{Memory, local_at, value_at, write}
+use Rattle.mir_semantics.specs.Step.{Dest, Visit, Dropping, Control}
+use Rattle.mir_renaming.specs.Renaming.{Renaming, RootOf}
+use Rattle.mir_syntax.proofs.Binds.{bind_some, some_bind}
+use Rattle.mir_renaming.proofs.Memory.{root_or_not, write_same, write_other}
+use Rattle.mir_renaming.proofs.Types.{TypeMap, HasTy, AddrTy, MemTy, some_eq, value_at_ty}
+use Rattle.mir_renaming.proofs.Agree.{NeedsOk}
+use Rattle.move_paths.specs.Effects.{begun}
+use Rattle.drop_elab.specs.Elab.{Inits}
+use Rattle.mir_relate.specs.Leaves.{Leaves}
+use Rattle.mir_relate.specs.Frames.{Change}
+use Rattle.mir_relate.proofs.Leaves.{some_val}
+use Rattle.mir_relate.proofs.Stacks.{dests_up}
+use Rattle.drop_elab.proofs.refines.Items.{Proper, ProperShapes}
+use Rattle.drop_elab.proofs.refines.Sound.{Has, Held, sound_same, sound_at_same}
+use Rattle.drop_elab.proofs.refines.Puts.{hole_at}
+use Rattle.drop_elab.proofs.refines.Kept.{kept_by_write}
+use Rattle.drop_elab.proofs.refines.Deep.{Loose, Deep, put_loose, whole_deep, needless_deep}
+use Rattle.drop_elab.proofs.refines.Solid.{unit_of_local}
+use Rattle.drop_elab.proofs.refines.Stand as stand
+use Rattle.drop_elab.proofs.refines.Stand.{held_in, held, AllV}
+use Rattle.drop_elab.proofs.refines.Parts.{all_then}
+use Rattle.drop_elab.proofs.refines.Stages as stages
+use Rattle.drop_elab.proofs.refines.Stages.{has_front, has_back}
+
+-- a value in its place has the same units as holes, and is loose where it was
+pub record Mild (D : List Shape) (t : Tree) (v v' : Value) : Type 0 where
+  pub loose : Loose D t v → Loose D t v'
+  pub units : (u : List Proj) → Has (units D t) u → hole_at u v' ≡ hole_at u v
+
+-- of all locals of frames below a number
+pub record UnitsLeft (D : List Shape) (G : TypeMap) (n : ℕ) (m' m : Memory) : Type 0 where
+  pub at : (h x : ℕ) (t : Tree) (v : Value) → h < n → G h x ≡ Some t → Proper t → local_at m h x ≡ Some v → (v' : Value) × (local_at m' h x ≡ Some v') × Mild D t v v'
+
+pub left_refl : (D : List Shape) (G : TypeMap) (n : ℕ) (m : Memory) → UnitsLeft D G n m m
+left_refl D G n m = record { at = λ h x t v l g p e. (v, e, record { loose = λ z. z; units = λ u k. refl }) }
+
+pub left_then : (D : List Shape) (G : TypeMap) (n : ℕ) (m m' m'' : Memory) → UnitsLeft D G n m' m → UnitsLeft D G n m'' m' → UnitsLeft D G n m'' m
+left_then D G n m m' m'' a b = record { at = λ h x t v l g p e. (let (v', e', k) = a.at h x t v l g p e in let (v'', e'', k') = b.at h x t v' l g p e' in (v'', e'', record { loose = λ z. k'.loose (k.loose z); units = λ u hu. k'.units u hu ∙ k.units u hu })) }
+
+pub left_less : (D : List Shape) (G : TypeMap) (n k : ℕ) (m' m : Memory) → k ≤ n → UnitsLeft D G n m' m → UnitsLeft D G k m' m
+left_less D G n k m' m le a = record { at = λ h x t v l g p e. a.at h x t v (omega (arith, l, le)) g p e }
+
+-- nothing changes below
+pub left_same : (D : List Shape) (G : TypeMap) (n : ℕ) (m' m : Memory) → ((h x : ℕ) → h < n → local_at m' h x ≡ local_at m h x) → UnitsLeft D G n m' m
+left_same D G n m' m same = record { at = λ h x t v l g p e. (v, same h x l ∙ e, record { loose = λ z. z; units = λ u k. refl }) }
+
+-- a write above, or one that is guarded, or of a type that needs no drop
+pub left_write : (D : List Shape) (apart : (d : ℕ) → holds D (length D) d d ≡ false) (proper : ProperShapes D) (needs : NeedsOk D) (G : TypeMap) (n : ℕ) (m : Memory) (a : Addr) (t : Tree) (old w : Value) → MemTy D G m → (at : AddrTy D G a t) → Proper t → value_at m a ≡ Some old → HasTy D G t w → (a.frame < n → needs_drop D t ≡ true → (full D t old ≡ true) × (whole w ≡ true)) → UnitsLeft D G n (write m a w) m
+unfolding value_at
+left_write D apart proper needs G n m a t old w mt at prt ev tw ok = record { at = λ h x u v l g p e. go h x u v l g p e (root_or_not a h x) }
+  where
+    told : HasTy D G t old
+    told = value_at_ty D G m a t old mt at ev
+
+    go : (h x : ℕ) (u : Tree) (v : Value) → h < n → G h x ≡ Some u → Proper u → local_at m h x ≡ Some v → RootOf a h x ⊎ (h ≡ a.frame → x ≡ a.local → ⊥) → (v' : Value) × (local_at (write m a w) h x ≡ Some v') × Mild D u v v'
+    go h x u v l g p e (inr ne) = (v, write_other m a w h x ne ∙ e, record { loose = λ z. z; units = λ u k. refl })
+    go h x u v l g p e (inl r) =
+        let (o, e1, e2) = bind_some ev in
+        let same : o ≡ v = some_val (sym e1 ∙ ap₂ (local_at m) (sym r.0) (sym r.1) ∙ e) in
+        let ty : at.local ≡ u = some_eq D G at.local u (G h x) (ap₂ G r.0 r.1 ∙ at.is) g in
+        let pt : path_ty D u a.path ≡ Some t = subst (λ y. path_ty D y a.path ≡ Some t) ty at.path in
+        let e2' : Rattle.mir_semantics.specs.Values.at_path a.path v ≡ Some old = subst (λ o. Rattle.mir_semantics.specs.Values.at_path a.path o ≡ Some old) same e2 in
+        (put a.path w v, write_same m a w h x r ∙ ap (option_map (put a.path w)) e, record {
+          loose = λ z. put_loose D a.path u t w v (deep (let f = r.0 in omega (arith, l, f))) z pt;
+          units = λ ps hp. kept_by_write D apart proper G ps a.path u t v old w p hp pt prt told tw e2' (ok (let f = r.0 in omega (arith, l, f)));
+        })
+      where
+        deep : a.frame < n → Deep D t w
+        deep l = pick (needs_drop D t) refl
+          where
+            pick : (b : Bool) → needs_drop D t ≡ b → Deep D t w
+            pick true q = whole_deep D w t (ok l q).1
+            pick false q = needless_deep D needs w t q
+
+module _ (X : Change) (inits : Inits) (apart : (d : ℕ) → holds X.source.shapes (length X.source.shapes) d d ≡ false) (proper : ProperShapes X.source.shapes) (proper_locals : (x : ℕ) (t : Tree) → slice_get X.body1.locals x ≡ Some t → Proper t) (S : stages.Sorted X inits apart proper) where
+  abbrev D : List Shape
+  D = X.source.shapes
+
+  abbrev us : List Place
+  us = stand.us X inits apart proper
+
+  module _ (G : TypeMap) (j j' : Renaming) (c2 c1 : Control) (n2 n1 : ℕ) (m2' m1' m2 m1 : Memory) (l1 : c1.frame < n1) (l2 : c2.frame < n2) (lv : Leaves X.source.shapes G j j' n2 n1 m2' m1' m2 m1) (ul : UnitsLeft X.source.shapes G n1 m1' m1) (known : (x : ℕ) (t : Tree) → slice_get X.body1.locals x ≡ Some t → G c1.frame x ≡ Some t) (fr : stand.Frame X inits apart proper j c2 c1 m2 m1) where
+    unmapped : (y : ℕ) → slice_get X.body1.locals y ≡ None → (h x : ℕ) → j h x ≡ Some (c2.frame, y) → ⊥
+    unmapped y q h x e = let (a, b, (t, z)) = fr.only h x y e in let u : ◌≡◌ {A = Option Tree} None (Some t) = sym q ∙ z in grind arith
+
+    flag_kept : (y : ℕ) → slice_get X.body1.locals y ≡ None → local_at m2' c2.frame y ≡ local_at m2 c2.frame y
+    flag_kept y q = lv.target c2.frame y l2 (unmapped y q)
+
+    held_kept : (u : Place) → Has us u → held m1' c1.frame u ≡ held m1 c1.frame u
+    held_kept u h =
+        let (y, lt, q, el, hu) = unit_of_local D 0 X.body1.locals u h in
+        let z : u.local ≡ y = q ∙ (let z : 0 + y ≡ y = omega arith in z) in
+        let (v, ev, lo) = fr.there y lt el in
+        let (v', ev', k) = ul.at c1.frame y lt v l1 (known y lt el) (proper_locals y lt el) ev in
+        ap held_in (some_bind (hole_at u.proj) {o = local_at m1' c1.frame u.local} (ap (local_at m1' c1.frame) z ∙ ev') refl ∙ k.units u.proj hu ∙ sym (some_bind (hole_at u.proj) {o = local_at m1 c1.frame u.local} (ap (local_at m1 c1.frame) z ∙ ev) refl))
+
+    pub frame_kept : stand.Frame X inits apart proper j' c2 c1 m2' m1'
+    frame_kept = record {
+      function1 = fr.function1;
+      function2 = fr.function2;
+      roots = λ x t e. lv.up c1.frame x _ (fr.roots x t e);
+      none = λ x e. lv.same1 c1.frame x l1 ∙ fr.none x e;
+      only = λ h x y e. fr.only h x y (lv.same2 h x c2.frame y l2 e);
+      there = λ x t e. (let (v, ev, lo) = fr.there x t e in let (v', ev', k) = ul.at c1.frame x t v l1 (known x t e) (proper_locals x t e) ev in (v', ev', k.loose lo));
+      absent = λ x e. lv.source c1.frame x l1 (fr.none x e) ∙ fr.absent x e;
+      slots = λ x t e q. (let (v, ev) = fr.slots x t e q in (v, flag_kept x q ∙ ev));
+    }
+
+    says_kept : (u : Place) (x : ℕ) → stand.flag_of X inits apart proper u ≡ Some x → local_at m2' c2.frame x ≡ local_at m2 c2.frame x
+    says_kept u x e = let (t, a, b) = S.flags_there u x e in flag_kept x b
+
+    pub dropped_kept : (k : TypedBlock) (p : Place) (d : Dropping) (cur : Option ℕ) (inner os : List Visit) → stand.Dropped X inits apart proper k p d cur inner os c2 c1 m2 m1 → stand.Dropped X inits apart proper k p d cur inner os c2 c1 m2' m1'
+    dropped_kept k p d cur inner os st = record {
+      is = st.is;
+      block = st.block;
+      ends = st.ends;
+      term = st.term;
+      addr = st.addr;
+      ty = st.ty;
+      items = st.items;
+      inside = all_then (stand.Inside X inits apart proper m1 c1.frame) (stand.Inside X inits apart proper m1' c1.frame) inner (λ i h. record { frame = h.frame; unit = h.unit; known = h.known; local = h.local; rest = h.rest; path = h.path; plain = h.plain; fine = h.fine; live = held_kept h.unit h.known ∙ h.live }) st.inside;
+      outside = st.outside;
+      done = st.done;
+      split = st.split;
+      zero = λ u x h e. zeroed u x e (st.zero u x h e);
+      right = λ u x h e. says_kept u x e ∙ st.right u x h e ∙ ap (λ b. Some (number (flag b))) (sym (held_kept u (S.kept p u (subst (λ ws. Has ws u) (sym st.split) (has_back st.done (stand.left X inits apart proper os) u h))).0));
+      current = st.current;
+      others = λ u x h n e. says_kept u x e ∙ st.others u x h n e ∙ ap (λ b. Some (number (flag b))) (sym (held_kept u h));
+      sound = sound_same X.source.shapes X.body1 c1.block k [] (held m1 c1.frame) (held m1' c1.frame) held_kept st.sound;
+    }
+      where
+        zeroed : (u : Place) (x : ℕ) → stand.flag_of X inits apart proper u ≡ Some x → (cur ≡ Some x) ⊎ stand.Says X inits apart proper m2 c2.frame x false → (cur ≡ Some x) ⊎ stand.Says X inits apart proper m2' c2.frame x false
+        zeroed u x e (inl q) = inl q
+        zeroed u x e (inr q) = inr (says_kept u x e ∙ q)
+
+    -- the law of the layer for a frame of the elaborated function that waits
+    pub waits_kept : (d2 d1 : Option Dest) (gs : List Control) → (stand.pass X inits apart proper).waits j d2 d1 c2 c1 gs m2 m1 → (stand.pass X inits apart proper).waits j' d2 d1 c2 c1 gs m2' m1'
+    waits_kept d2 d1 gs (e, f, w) = (e, frame_kept, pick w)
+      where
+        pick : ((d1 ≡ None) × stand.Waits X inits apart proper d2 c2 c1 m2 m1) ⊎ stand.Called X inits apart proper j d2 d1 c2 c1 m2 m1 → ((d1 ≡ None) × stand.Waits X inits apart proper d2 c2 c1 m2' m1') ⊎ stand.Called X inits apart proper j' d2 d1 c2 c1 m2' m1'
+        pick (inl (q, w)) = inl (q, record { block = w.block; dropped = w.dropped; drop = w.drop; cur = w.cur; item = w.item; inner = w.inner; os = w.os; state = dropped_kept w.block w.dropped w.drop w.cur (w.item ∷ w.inner) w.os w.state; calm = w.calm; begins = w.begins; paused = w.paused; unread = w.unread; far = w.far; there = w.there; dest = w.dest })
+        pick (inr w) = inr (record {
+          from = w.from;
+          block = w.block;
+          is = w.is;
+          place = w.place;
+          callee = w.callee;
+          args = w.args;
+          next = w.next;
+          term = w.term;
+          dests = dests_up j j' lv.up d1 d2 w.dests;
+          goal = w.goal;
+          stands1 = w.stands1;
+          stands2 = w.stands2;
+          sets = w.sets;
+          says = λ u x h n e. says_kept u x e ∙ w.says u x h n e ∙ ap (λ b. Some (number (flag b))) (sym (held_kept u h));
+          sound = sound_at_same X.source.shapes X.body1 w.next (λ u. begun u w.block.term || held m1 c1.frame u) (λ u. begun u w.block.term || held m1' c1.frame u) (λ u h. ap (λ b. begun u w.block.term || b) (held_kept u h)) w.sound;
+        })
