@@ -4,6 +4,7 @@ pub mod Runs
 pub mod Machine
 pub mod Glue
 pub mod Items
+pub mod Propers
 pub mod Weights
 pub mod Near
 pub mod Visits

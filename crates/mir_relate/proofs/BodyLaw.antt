@@ -23,6 +23,7 @@ use Rattle.mir_renaming.proofs.Items.{step_drops}
 use Rattle.mir_relate.specs.Alike.{AllSame}
 use Rattle.mir_relate.specs.Frames.{Change, target, Pass, lowest, opened, Agrees, Twin, Below, Base, Core}
 use Rattle.mir_relate.specs.Pass.{Valids, GentleTo, Laws, Goes, Answers, Related}
+use Rattle.mir_relate.proofs.Wholes.{all_plain}
 use Rattle.mir_relate.proofs.Leaves.{some_val}
 use Rattle.mir_relate.proofs.Opens.{opened_at, opened_parts, opened_old, linked_open}
 use Rattle.mir_relate.proofs.Others.{other_step}
@@ -143,7 +144,7 @@ module _ (X : Change) (P : Pass) (V : Valids X) (Inv : State → Type 0) (laws :
       let vs = new_slots D X.body1.locals e.args in
       let j' = opened nothing 0 0 P.place in
       let l' = linked_open nothing 0 0 P.place none1 none2 [] [] ws vs no_memory laws.frames.once (λ x y q v k. laws.frames.slots j' e.args e.args (same_args j' e.args h) few x y q v k) in
-      let (n, own) = laws.frames.begins nothing 0 0 None None [] [] e.args e.args (same_args nothing e.args h) few none1 none2 l' in (
+      let (n, own) = laws.frames.begins nothing 0 0 None None [] [] e.args e.args (same_args nothing e.args h) (all_plain e.args h) few none1 none2 l' in (
         n,
         record {
           lent = j';

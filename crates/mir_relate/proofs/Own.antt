@@ -17,7 +17,7 @@ use Rattle.mir_syntax.proofs.Binds.{bind_some, some_bind}
 use Rattle.mir_renaming.proofs.Statements.{Linked}
 use Rattle.mir_renaming.proofs.Types.{TypeMap}
 use Rattle.mir_renaming.proofs.Ghosts.{Flat}
-use Rattle.mir_relate.specs.Alike.{Between, Sides, Same, AllSame, Reads, AllRead}
+use Rattle.mir_relate.specs.Alike.{Between, Sides, Same, AllSame, Reads, AllRead, AllWhole}
 use Rattle.mir_relate.specs.Leaves.{Leaves}
 use Rattle.mir_relate.specs.Mild.{Gentle}
 use Rattle.mir_relate.specs.Frames.{Change, target, Pass, lowest, Below, Core}
@@ -28,7 +28,7 @@ use Rattle.mir_relate.proofs.Enter.{goes_at, goes_by, enter_goes, enter_gentle}
 use Rattle.mir_relate.proofs.Mild.{gentle_less, gentle_on}
 use Rattle.mir_relate.proofs.Returns.{return_goes, closed1, closed2}
 use Rattle.mir_relate.proofs.Others.{read_long, numbers_same}
-use Rattle.mir_relate.proofs.Wholes.{read_at_whole}
+use Rattle.mir_relate.proofs.Wholes.{read_at_whole, all_whole}
 
 -- the lowest control of a group, whatever the place of the highest
 low_frame : (c c' : Control) (gs : List Control) → c'.frame ≡ c.frame → (lowest c' gs).frame ≡ (lowest c gs).frame
@@ -162,11 +162,11 @@ module _ (X : Change) (P : Pass) (V : Valids X) (Inv : State → Type 0) (laws :
     below_this : (A : Memory → Type 0) (m2 m1 : Memory) → A m1 → (u2 u1 : ℕ) (d2 d1 : Dest) → Q m2 m1 → GoalIf A d2 d1 u2 u1 → Gentle D G s1.top.frame m1 s1.memory → Below X P j (Some d2) (Some d1) s2.next s1.next (to_block u2 s2.top ∷ s2.callers) (to_block u1 s1.top ∷ s1.callers) m2 m1
     below_this A m2 m1 am u2 u1 d2 d1 q gl ge = inr (to_block u1 s1.top, gs, ds, ap (λ cs. to_block u1 s1.top ∷ cs) split, r.core.base.top1, r.core.base.top2, low_at (to_block u1 s1.top) refl, gl.waits m2 m1 q am, below_at m2 m1 (to_block u2 s2.top) (to_block u1 s1.top) refl refl refl refl (left m2 m1 q) ge)
 
-    call_goes : (A : Memory → Type 0) (m2 m1 : Memory) → A m1 → (u2 u1 : ℕ) (d2 d1 : Dest) (g : Callee) (os : List Operand) (vs ws : List Value) (x : Next) → GentleTo X G s1.top.frame s1.memory x → FewArgs X.source g os → length vs ≡ length os → Q m2 m1 → GoalIf A d2 d1 u2 u1 → AllSame j vs ws → call X.source s1 m1 (to_block u1 s1.top) d1 g vs ≡ Some x → Goes X P (call (target X) s2 m2 (to_block u2 s2.top) d2 g ws) x
+    call_goes : (A : Memory → Type 0) (m2 m1 : Memory) → A m1 → (u2 u1 : ℕ) (d2 d1 : Dest) (g : Callee) (os : List Operand) (vs ws : List Value) (x : Next) → GentleTo X G s1.top.frame s1.memory x → FewArgs X.source g os → length vs ≡ length os → Q m2 m1 → GoalIf A d2 d1 u2 u1 → AllSame j vs ws → AllWhole vs → call X.source s1 m1 (to_block u1 s1.top) d1 g vs ≡ Some x → Goes X P (call (target X) s2 m2 (to_block u2 s2.top) d2 g ws) x
     unfolding call
-    call_goes A m2 m1 am u2 u1 d2 d1 (callee.Local g) os vs ws x ge few long q gl hv e =
-        enter_goes X P V Inv laws G j s2 s1 m2 m1 r.core.base (left m2 m1 q).0 (to_block u2 s2.top) (to_block u1 s1.top) (Some d2) (Some d1) knows (below_this A m2 m1 am u2 u1 d2 d1 q gl (enter_gentle X G s1.top.frame s1.memory s1 m1 (to_block u1 s1.top) g.0 vs (Some d1) x r.core.base.top1 e ge)) vs ws hv g.0 x (λ b eb. (let f = few b eb in omega (arith, f, long))) e
-    call_goes A m2 m1 am u2 u1 d2 d1 (callee.Outside o) os vs ws x ge few long q gl hv e =
+    call_goes A m2 m1 am u2 u1 d2 d1 (callee.Local g) os vs ws x ge few long q gl hv wh e =
+        enter_goes X P V Inv laws G j s2 s1 m2 m1 r.core.base (left m2 m1 q).0 (to_block u2 s2.top) (to_block u1 s1.top) (Some d2) (Some d1) knows (below_this A m2 m1 am u2 u1 d2 d1 q gl (enter_gentle X G s1.top.frame s1.memory s1 m1 (to_block u1 s1.top) g.0 vs (Some d1) x r.core.base.top1 e ge)) vs ws hv wh g.0 x (λ b eb. (let f = few b eb in omega (arith, f, long))) e
+    call_goes A m2 m1 am u2 u1 d2 d1 (callee.Outside o) os vs ws x ge few long q gl hv wh e =
         let (out, e1, k1) = bind_some e in
         let (ns, e2, k2) = bind_some k1 in
         goes_by X P _ _ x (some_bind _ e1 (some_bind _ (numbers_same j vs ws ns hv.0 e2) (ap (λ an. ask D s2 m2 (to_block u2 s2.top) d2 o.0 ns out.result an) r.core.base.answers))) (ask_goes A m2 m1 am u2 u1 d2 d1 o.0 ns out.result s1.answers x ge q gl k2)
@@ -207,7 +207,7 @@ module _ (X : Change) (P : Pass) (V : Valids X) (Inv : State → Type 0) (laws :
           let (a, e2, k2) = bind_some k1 in
           let (d2, g1, gl) = hd d1 e1 in
           let (a', g2, hv, q) = all_read S Q os ps ho s2.memory s1.memory a first e2 in
-          goes_by X P _ _ x (some_bind _ g1 (some_bind _ g2 (ap (λ g. call (target X) s2 a'.1 (to_block u2 s2.top) d2 g a'.0) (sym hg)))) (call_goes (Spent os) a'.1 a.1 (a.0, e2) u2 u1 d2 d1 g os a.0 a'.0 x ge few (read_long S.source os s1.memory a e2) q gl (subst (λ i. AllSame i a.0 a'.0) lent hv) k2)
+          goes_by X P _ _ x (some_bind _ g1 (some_bind _ g2 (ap (λ g. call (target X) s2 a'.1 (to_block u2 s2.top) d2 g a'.0) (sym hg)))) (call_goes (Spent os) a'.1 a.1 (a.0, e2) u2 u1 d2 d1 g os a.0 a'.0 x ge few (read_long S.source os s1.memory a e2) q gl (subst (λ i. AllSame i a.0 a'.0) lent hv) (all_whole S.source s1.memory os a e2) k2)
       step_if_goes (Assert o c words os u1) (Assert p c' words' ps u2) x few (hp, hc, hw, ho, he) e fl ge =
           let (a, e1, k1) = bind_some e in
           let (a', g1, same, q) = number_read S Q o p hp s2.memory s1.memory a first e1 in

@@ -26,6 +26,7 @@ use Rattle.mir_relate.proofs.Leaves.{some_val, leaves_then, leaves_target}
 use Rattle.mir_relate.proofs.Stacks.{knows_all, below_kept}
 use Rattle.drop_elab.proofs.refines.Runs.{here_at, beside, moves_then}
 use Rattle.drop_elab.proofs.refines.Machine.{place_in, on_at}
+use Rattle.drop_elab.proofs.refines.Propers.{direct_proper}
 use Rattle.drop_elab.proofs.refines.Items.{Proper, ProperShapes}
 use Rattle.drop_elab.proofs.refines.Weights.{weigh}
 use Rattle.drop_elab.proofs.refines.Visits as visits
@@ -237,7 +238,7 @@ module _ (X : Change) (inits : Inits) (apart : (d : ℕ) → holds X.source.shap
         let d : Dropping = record W.drop { items = is } in
         let (at, (lt, el, pt)) = ends.typed_place X inits apart proper proper_locals S edges G c1.frame W.dropped W.drop.place.ty own_locals W.state.ty in
         let (di, th) = edges.direct c1.block W.block W.dropped W.drop.target lt W.state.block W.state.term el in
-        let prt : Proper W.drop.place.ty = ended.proper_path X inits apart proper proper_locals S W.dropped.proj lt W.drop.place.ty (proper_locals W.dropped.local lt el) di pt in
+        let prt : Proper W.drop.place.ty = direct_proper X.source.shapes proper W.dropped.proj lt W.drop.place.ty (proper_locals W.dropped.local lt el) di pt in
         let B = blank D W.drop.place.ty in
         let M = write m1 W.drop.place.addr B in
         let ev' : value_at m1 (stand.addr_at X inits apart proper c1.frame W.dropped) ≡ Some old = subst (λ a. value_at m1 a ≡ Some old) W.state.addr e1 in

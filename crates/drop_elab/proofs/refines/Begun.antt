@@ -18,6 +18,7 @@ use Rattle.mir_relate.specs.Frames.{Change, Pass, Below}
 use Rattle.mir_relate.specs.Pass.{Valids, FrameLaws, Answers, Related}
 use Rattle.mir_relate.proofs.Rest.{drop_none}
 use Rattle.drop_elab.proofs.refines.Places.{Stands}
+use Rattle.drop_elab.proofs.refines.Propers.{direct_proper}
 use Rattle.drop_elab.proofs.refines.Items.{Proper, ProperShapes}
 use Rattle.drop_elab.proofs.refines.Outer.{outer_units, plan_at}
 use Rattle.drop_elab.proofs.refines.Weights.{weigh}
@@ -60,7 +61,7 @@ module _ (X : Change) (inits : Inits) (apart : (d : ℕ) → holds X.source.shap
     d = record { place = I; target = t; items = I ∷ [] }
 
     prt : Proper ty
-    prt = ended.proper_path X inits apart proper proper_locals S p.proj lt ty (proper_locals p.local lt el) (edges.direct s1.top.block k p t lt ek term el).0 ep
+    prt = direct_proper X.source.shapes proper p.proj lt ty (proper_locals p.local lt el) (edges.direct s1.top.block k p t lt ek term el).0 ep
 
     same_units : kept_units p us ≡ stand.left X inits apart proper (I ∷ [])
     same_units =

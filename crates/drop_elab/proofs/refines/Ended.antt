@@ -106,40 +106,6 @@ module _ (X : Change) (inits : Inits) (apart : (d : ℕ) → holds X.source.shap
       let (y, lt, ul, el, hu) = unit_of_local D 0 X.body1.locals u h in
       units_fields D apart proper u.proj lt (proper_locals y lt el) hu
 
-  -- the type at a place of fields is proper
-  field_proper : (i : ℕ) (us u : Tree) → Proper us → field_ty us i ≡ Some u → Proper u
-  field_proper zero (more t ts) u pr e = subst Proper (let z : t ≡ u = grind arith in z) pr.0
-  field_proper (suc i) (more t ts) u pr e = field_proper i ts u pr.2 e
-  field_proper zero us u pr e = absurd (grind arith)
-  field_proper (suc i) us u pr e = absurd (grind arith)
-
-  fields_proper : (t us : Tree) → Proper t → fields_of D t ≡ Some us → Proper us
-  fields_proper (more t ts) us pr e = subst Proper (let z : more t ts ≡ us = grind arith in z) pr
-  fields_proper empty us pr e = subst Proper (let z : empty ≡ us = grind arith in z) pr
-  fields_proper (named d) us pr e =
-      let (s, e1, e2) = bind_some e in
-      go s e1 s.is_enum e2
-    where
-      first : (ts : List Tree) → ((k : ℕ) (t : Tree) → slice_get ts k ≡ Some t → IsTuple t × Proper t) → Proper (first_variant ts)
-      first [] h = tt
-      first (t ∷ ts) h = (h 0 t refl).1
-
-      go : (s : Shape) → slice_get D d ≡ Some s → (b : Bool) → (if b then None else Some (struct_fields s)) ≡ Some us → Proper us
-      go s e1 true e2 = absurd (grind arith)
-      go s e1 false e2 = subst Proper (let z : struct_fields s ≡ us = grind arith in z) (first s.variants (proper d s e1))
-  fields_proper (scalar s) us pr e = absurd (grind arith)
-  fields_proper (tree.ref t) us pr e = absurd (grind arith)
-  fields_proper (tree.ref_mut t) us pr e = absurd (grind arith)
-
-  pub proper_path : (ps : List Proj) (t u : Tree) → Proper t → is_direct ps ≡ true → path_ty D t ps ≡ Some u → Proper u
-  proper_path [] t u pr di e = subst Proper (let z : t ≡ u = grind arith in z) pr
-  proper_path (Field i ∷ ps) t u pr di e =
-      let (t', e1, e2) = bind_some e in
-      let (us, f1, f2) = bind_some e1 in
-      proper_path ps t' u (field_proper i us t' (fields_proper t us pr f1) f2) di e2
-  proper_path (Downcast k ∷ ps) t u pr di e = absurd (grind arith)
-  proper_path (Deref ∷ ps) t u pr di e = absurd (grind arith)
-
   module _ (G : TypeMap) (m1 : Memory) (f : ℕ) (p : Place) (t : Tree) (old : Value) (lk : (x : ℕ) (t : Tree) → slice_get X.body1.locals x ≡ Some t → G f x ≡ Some t) (at : AddrTy X.source.shapes G (stand.addr_at X inits apart proper f p) t) (prt : Proper t) (ev : value_at m1 (stand.addr_at X inits apart proper f p) ≡ Some old) where
     abbrev A : Addr
     A = stand.addr_at X inits apart proper f p

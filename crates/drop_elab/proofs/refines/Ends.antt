@@ -21,6 +21,7 @@ use Rattle.mir_relate.proofs.Leaves.{some_val, leaves_then}
 use Rattle.mir_relate.proofs.Own as own
 use Rattle.drop_elab.proofs.refines.Runs.{moves_then}
 use Rattle.drop_elab.proofs.refines.Machine.{place_in, on_at}
+use Rattle.drop_elab.proofs.refines.Propers.{direct_proper}
 use Rattle.drop_elab.proofs.refines.Items.{Proper, ProperShapes}
 use Rattle.drop_elab.proofs.refines.Visits as visits
 use Rattle.drop_elab.proofs.refines.Drops as machine
@@ -68,7 +69,7 @@ module _ (X : Change) (inits : Inits) (apart : (d : ℕ) → holds X.source.shap
   done_at G j k p d c2 c2' c1 m2 m1 old mt lk ev f2 g2 b2 a2 q2 l fr st =
       let (at, (lt, el, pt)) = typed_place G c1.frame p d.place.ty lk st.ty in
       let (di, th) = edges.direct c1.block k p d.target lt st.block st.term el in
-      let prt : Proper d.place.ty = ended.proper_path X inits apart proper proper_locals S p.proj lt d.place.ty (proper_locals p.local lt el) di pt in
+      let prt : Proper d.place.ty = direct_proper X.source.shapes proper p.proj lt d.place.ty (proper_locals p.local lt el) di pt in
       let ev' : value_at m1 (stand.addr_at X inits apart proper c1.frame p) ≡ Some old = subst (λ a. value_at m1 a ≡ Some old) st.addr ev in
       subst (λ a. Linked j j m2 (write m1 a (blank D d.place.ty)) × stand.Frame X inits apart proper j c2' (to_block d.target c1) m2 (write m1 a (blank D d.place.ty)) × stand.Stated X inits apart proper c2' (to_block d.target c1) m2 (write m1 a (blank D d.place.ty)) × (a.frame ≡ c1.frame)) (sym st.addr) (
         ended.linked_after X inits apart proper proper_locals S G m1 c1.frame p d.place.ty old lk at prt ev' j m2 mt l,

@@ -34,9 +34,9 @@ module _ (D : List Shape) (apart : (d : ℕ) → holds D (length D) d d ≡ fals
   write_here m a w o g x u r e = ap (λ q. q >>= hole_at u) (write_same m a w g x r ∙ ap (option_map (put a.path w)) e) ∙ some_bind (hole_at u) {o = Some (put a.path w o)} refl refl
 
   -- a write that leaves no unit as a hole where none was, and of a type that needs drop only over a full value
-  pub write_keeps : (m : Memory) (a : Addr) (t : Tree) (old w : Value) → MemTy D G m → (h : AddrTy D G a t) → Proper t → value_at m a ≡ Some old → HasTy D G t w → (needs_drop D t ≡ true → (full D t old ≡ true) × (whole w ≡ true)) → (g x : ℕ) (lt : Tree) (u : List Proj) → G g x ≡ Some lt → Proper lt → Has (units D lt) u → unit_hole (write m a w) g x u ≡ unit_hole m g x u
+  pub write_keeps : (m : Memory) (a : Addr) (t : Tree) (old w : Value) → MemTy D G m → (h : AddrTy D G a t) → value_at m a ≡ Some old → HasTy D G t w → (needs_drop D t ≡ true → (full D t old ≡ true) × (whole w ≡ true)) → (g x : ℕ) (lt : Tree) (u : List Proj) → G g x ≡ Some lt → Proper lt → Has (units D lt) u → unit_hole (write m a w) g x u ≡ unit_hole m g x u
   unfolding value_at
-  write_keeps m a t old w mt h prt ev tw ok g x lt u gt pr hu =
+  write_keeps m a t old w mt h ev tw ok g x lt u gt pr hu =
       let (o, e1, e2) = bind_some ev in
       let told = value_at_ty D G m a t old mt h ev in
       go o e1 e2 told (root_or_not a g x)
@@ -47,20 +47,20 @@ module _ (D : List Shape) (apart : (d : ℕ) → holds D (length D) d d ≡ fals
           let here : local_at m g x ≡ Some o = ap₂ (local_at m) r.0 r.1 ∙ e1 in
           let z : h.local ≡ lt = some_eq D G h.local lt (G g x) (ap₂ G r.0 r.1 ∙ h.is) gt in
           let pt : path_ty D lt a.path ≡ Some t = subst (λ lt. path_ty D lt a.path ≡ Some t) z h.path in
-          write_here m a w o g x u r here ∙ kept_by_write D apart proper G u a.path lt t o old w pr hu pt prt told tw e2 ok ∙ sym (some_bind (hole_at u) here refl)
+          write_here m a w o g x u r here ∙ kept_by_write D apart proper G u a.path lt t o old w pr hu pt tw e2 (λ n. (let k = ok n in (k.0, k.1, told))) ∙ sym (some_bind (hole_at u) here refl)
 
   -- an assignment through a reference, or a result that is written through one: the guard stands, or the type needs no drop
-  pub store_keeps : (m m' : Memory) (d : Dest) (t : Tree) (v : Value) → MemTy D G m → AddrTy D G d.addr t → Proper t → HasTy D G t v → whole v ≡ true → (needs_drop D t ≡ true → d.guard ≡ Some t) → store D m d v ≡ Some m' → (g x : ℕ) (lt : Tree) (u : List Proj) → G g x ≡ Some lt → Proper lt → Has (units D lt) u → unit_hole m' g x u ≡ unit_hole m g x u
+  pub store_keeps : (m m' : Memory) (d : Dest) (t : Tree) (v : Value) → MemTy D G m → AddrTy D G d.addr t → HasTy D G t v → whole v ≡ true → (needs_drop D t ≡ true → d.guard ≡ Some t) → store D m d v ≡ Some m' → (g x : ℕ) (lt : Tree) (u : List Proj) → G g x ≡ Some lt → Proper lt → Has (units D lt) u → unit_hole m' g x u ≡ unit_hole m g x u
   unfolding store
-  store_keeps m m' d t v mt h prt tv wh guard e g x lt u gt pr hu =
+  store_keeps m m' d t v mt h tv wh guard e g x lt u gt pr hu =
       let (old, e1, e2) = bind_some e in
       let (ok, z) = only_true (allows D d.guard old) (write m d.addr v) m' e2 in
       subst (λ m'. unit_hole m' g x u ≡ unit_hole m g x u) z
-      (write_keeps m d.addr t old v mt h prt e1 tv (λ n. (subst (λ q. allows D q old ≡ true) (guard n) ok, wh)) g x lt u gt pr hu)
+      (write_keeps m d.addr t old v mt h e1 tv (λ n. (subst (λ q. allows D q old ≡ true) (guard n) ok, wh)) g x lt u gt pr hu)
 
   -- what is moved out through a reference or a variant needs no drop
-  pub move_keeps : (m : Memory) (a : Addr) (t : Tree) (old : Value) → MemTy D G m → AddrTy D G a t → Proper t → value_at m a ≡ Some old → HasTy D G t (blank D t) → needs_drop D t ≡ false → (g x : ℕ) (lt : Tree) (u : List Proj) → G g x ≡ Some lt → Proper lt → Has (units D lt) u → unit_hole (write m a (blank D t)) g x u ≡ unit_hole m g x u
-  move_keeps m a t old mt h prt ev tb no_need g x lt u gt pr hu = write_keeps m a t old (blank D t) mt h prt ev tb (λ n. absurd (let z : true ≡ false = sym n ∙ no_need in grind arith)) g x lt u gt pr hu
+  pub move_keeps : (m : Memory) (a : Addr) (t : Tree) (old : Value) → MemTy D G m → AddrTy D G a t → value_at m a ≡ Some old → HasTy D G t (blank D t) → needs_drop D t ≡ false → (g x : ℕ) (lt : Tree) (u : List Proj) → G g x ≡ Some lt → Proper lt → Has (units D lt) u → unit_hole (write m a (blank D t)) g x u ≡ unit_hole m g x u
+  move_keeps m a t old mt h ev tb no_need g x lt u gt pr hu = write_keeps m a t old (blank D t) mt h ev tb (λ n. absurd (let z : true ≡ false = sym n ∙ no_need in grind arith)) g x lt u gt pr hu
 
   -- a move, a storage statement or the end of a drop, at a place above the unit
   pub blank_ends : (m : Memory) (a : Addr) (t : Tree) (old : Value) → AddrTy D G a t → Proper t → value_at m a ≡ Some old → (lt : Tree) (u rest : List Proj) → G a.frame a.local ≡ Some lt → Proper lt → Has (units D lt) u → u ≡ a.path ++ rest → unit_hole (write m a (blank D t)) a.frame a.local u ≡ Some true

@@ -16,6 +16,7 @@ use Rattle.mir_syntax.proofs.Binds.{bind_some, some_bind}
 use Rattle.mir_renaming.proofs.Memory.{at_path_rel, put_rel, put_same}
 use Rattle.mir_renaming.proofs.Types.{TypeMap, HasTy, some_eq, can_hole, holds_by, at_path_ty, blank_any}
 use Rattle.drop_elab.proofs.refines.Glue.{pointwise1}
+use Rattle.drop_elab.proofs.refines.Propers.{there_proper}
 use Rattle.drop_elab.proofs.refines.Items.{Proper, ProperShapes}
 use Rattle.drop_elab.proofs.refines.Sound.{Has}
 use Rattle.drop_elab.proofs.refines.Puts.{field_cases, hole_at, Above, Fields, put_under, put_beside, whole_at}
@@ -205,14 +206,15 @@ module _ (D : List Shape) (apart : (d : ℕ) → holds D (length D) d d ≡ fals
   whole_solid hole h = absurd (grind arith)
 
   -- of a whole value over a full one, or of a type that needs no drop
-  pub kept_by_write : (G : TypeMap) (u ps : List Proj) (lt t : Tree) (o old w : Value) → Proper lt → Has (units D lt) u → path_ty D lt ps ≡ Some t → Proper t → HasTy D G t old → HasTy D G t w → at_path ps o ≡ Some old → (needs_drop D t ≡ true → (full D t old ≡ true) × (whole w ≡ true)) → hole_at u (put ps w o) ≡ hole_at u o
-  kept_by_write G u ps lt t o old w pr h pt prt to tw e ok = go (above_or_not ps u (units_fields u lt pr h))
+  pub kept_by_write : (G : TypeMap) (u ps : List Proj) (lt t : Tree) (o old w : Value) → Proper lt → Has (units D lt) u → path_ty D lt ps ≡ Some t → HasTy D G t w → at_path ps o ≡ Some old → (needs_drop D t ≡ true → (full D t old ≡ true) × (whole w ≡ true) × HasTy D G t old) → hole_at u (put ps w o) ≡ hole_at u o
+  kept_by_write G u ps lt t o old w pr h pt tw e ok = go (above_or_not ps u (units_fields u lt pr h))
     where
       go : Above ps u ⊎ (Above ps u → ⊥) → hole_at u (put ps w o) ≡ hole_at u o
       go (inr n) = put_beside ps u w o (units_fields u lt pr h) n
       go (inl (rest, eu)) =
           let h' : Has (units D t) rest = unit_under D apart proper ps lt t rest pr (subst (λ u. Has (units D lt) u) eu h) pt in
-          let (f, wh) = ok (unit_needs t rest h') in
+          let prt = there_proper D proper ps lt t o old pr pt e in
+          let (f, wh, to) = ok (unit_needs t rest h') in
           let (x, ex) = unit_there G rest t w prt h' tw in
           let (y, ey) = unit_there G rest t old prt h' to in
           let new : hole_at u (put ps w o) ≡ Some false = ap (λ u. hole_at u (put ps w o)) eu ∙ ap (option_map is_hole) (put_under ps rest w o old e ∙ ex) ∙ ap (λ b. Some b) (whole_solid x (whole_at rest w x wh ex)) in

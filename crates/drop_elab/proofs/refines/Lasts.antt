@@ -19,6 +19,8 @@ use Rattle.mir_renaming.proofs.Agree.{NeedsOk}
 use Rattle.move_paths.specs.Effects.{begun}
 use Rattle.drop_elab.specs.Elab.{Inits}
 use Rattle.mir_relate.specs.Leaves.{Leaves}
+use Rattle.mir_relate.specs.Mild.{Mild, same, more, Gentle}
+use Rattle.mir_relate.specs.Pass.{KeptLaw}
 use Rattle.mir_relate.specs.Frames.{Change}
 use Rattle.mir_relate.proofs.Leaves.{some_val}
 use Rattle.mir_relate.proofs.Stacks.{dests_up}
@@ -34,64 +36,32 @@ use Rattle.drop_elab.proofs.refines.Parts.{all_then}
 use Rattle.drop_elab.proofs.refines.Stages as stages
 use Rattle.drop_elab.proofs.refines.Stages.{has_front, has_back}
 
--- a value in its place has the same units as holes, and is loose where it was
-pub record Mild (D : List Shape) (t : Tree) (v v' : Value) : Type 0 where
-  pub loose : Loose D t v → Loose D t v'
-  pub units : (u : List Proj) → Has (units D t) u → hole_at u v' ≡ hole_at u v
+-- mild writes change no unit from a hole or to one, and leave a value loose
+module _ (D : List Shape) (apart : (d : ℕ) → holds D (length D) d d ≡ false) (proper : ProperShapes D) (G : TypeMap) (t : Tree) (pr : Proper t) where
+  pub mild_units : (v v' : Value) → Mild D G t v v' → (u : List Proj) → Has (units D t) u → hole_at u v' ≡ hole_at u v
+  mild_units v w (same _) u hu = refl
+  mild_units v w (more _ y z ps b f) u hu = kept_by_write D apart proper G u ps t f.part y f.old z pr hu f.ty f.fits f.was (λ n. ok n f.fair) ∙ mild_units v y b u hu
+    where
+      ok : needs_drop D f.part ≡ true → (needs_drop D f.part ≡ false) ⊎ (full D f.part f.old ≡ true) × (whole z ≡ true) × HasTy D G f.part f.old → (full D f.part f.old ≡ true) × (whole z ≡ true) × HasTy D G f.part f.old
+      ok n (inl q) = absurd (let e : true ≡ false = sym n ∙ q in grind arith)
+      ok n (inr q) = q
 
--- of all locals of frames below a number
-pub record UnitsLeft (D : List Shape) (G : TypeMap) (n : ℕ) (m' m : Memory) : Type 0 where
-  pub at : (h x : ℕ) (t : Tree) (v : Value) → h < n → G h x ≡ Some t → Proper t → local_at m h x ≡ Some v → (v' : Value) × (local_at m' h x ≡ Some v') × Mild D t v v'
+  pub mild_loose : NeedsOk D → (v v' : Value) → Mild D G t v v' → Loose D t v → Loose D t v'
+  mild_loose needs v w (same _) h = h
+  mild_loose needs v w (more _ y z ps b f) h = put_loose D ps t f.part z y (deep f.fair) (mild_loose needs v y b h) f.ty
+    where
+      deep : (needs_drop D f.part ≡ false) ⊎ (full D f.part f.old ≡ true) × (whole z ≡ true) × HasTy D G f.part f.old → Deep D f.part z
+      deep (inl q) = needless_deep D needs z f.part q
+      deep (inr q) = whole_deep D z f.part q.1
 
-pub left_refl : (D : List Shape) (G : TypeMap) (n : ℕ) (m : Memory) → UnitsLeft D G n m m
-left_refl D G n m = record { at = λ h x t v l g p e. (v, e, record { loose = λ z. z; units = λ u k. refl }) }
-
-pub left_then : (D : List Shape) (G : TypeMap) (n : ℕ) (m m' m'' : Memory) → UnitsLeft D G n m' m → UnitsLeft D G n m'' m' → UnitsLeft D G n m'' m
-left_then D G n m m' m'' a b = record { at = λ h x t v l g p e. (let (v', e', k) = a.at h x t v l g p e in let (v'', e'', k') = b.at h x t v' l g p e' in (v'', e'', record { loose = λ z. k'.loose (k.loose z); units = λ u hu. k'.units u hu ∙ k.units u hu })) }
-
-pub left_less : (D : List Shape) (G : TypeMap) (n k : ℕ) (m' m : Memory) → k ≤ n → UnitsLeft D G n m' m → UnitsLeft D G k m' m
-left_less D G n k m' m le a = record { at = λ h x t v l g p e. a.at h x t v (omega (arith, l, le)) g p e }
-
--- nothing changes below
-pub left_same : (D : List Shape) (G : TypeMap) (n : ℕ) (m' m : Memory) → ((h x : ℕ) → h < n → local_at m' h x ≡ local_at m h x) → UnitsLeft D G n m' m
-left_same D G n m' m same = record { at = λ h x t v l g p e. (v, same h x l ∙ e, record { loose = λ z. z; units = λ u k. refl }) }
-
--- a write above, or one that is guarded, or of a type that needs no drop
-pub left_write : (D : List Shape) (apart : (d : ℕ) → holds D (length D) d d ≡ false) (proper : ProperShapes D) (needs : NeedsOk D) (G : TypeMap) (n : ℕ) (m : Memory) (a : Addr) (t : Tree) (old w : Value) → MemTy D G m → (at : AddrTy D G a t) → Proper t → value_at m a ≡ Some old → HasTy D G t w → (a.frame < n → needs_drop D t ≡ true → (full D t old ≡ true) × (whole w ≡ true)) → UnitsLeft D G n (write m a w) m
-unfolding value_at
-left_write D apart proper needs G n m a t old w mt at prt ev tw ok = record { at = λ h x u v l g p e. go h x u v l g p e (root_or_not a h x) }
-  where
-    told : HasTy D G t old
-    told = value_at_ty D G m a t old mt at ev
-
-    go : (h x : ℕ) (u : Tree) (v : Value) → h < n → G h x ≡ Some u → Proper u → local_at m h x ≡ Some v → RootOf a h x ⊎ (h ≡ a.frame → x ≡ a.local → ⊥) → (v' : Value) × (local_at (write m a w) h x ≡ Some v') × Mild D u v v'
-    go h x u v l g p e (inr ne) = (v, write_other m a w h x ne ∙ e, record { loose = λ z. z; units = λ u k. refl })
-    go h x u v l g p e (inl r) =
-        let (o, e1, e2) = bind_some ev in
-        let same : o ≡ v = some_val (sym e1 ∙ ap₂ (local_at m) (sym r.0) (sym r.1) ∙ e) in
-        let ty : at.local ≡ u = some_eq D G at.local u (G h x) (ap₂ G r.0 r.1 ∙ at.is) g in
-        let pt : path_ty D u a.path ≡ Some t = subst (λ y. path_ty D y a.path ≡ Some t) ty at.path in
-        let e2' : Rattle.mir_semantics.specs.Values.at_path a.path v ≡ Some old = subst (λ o. Rattle.mir_semantics.specs.Values.at_path a.path o ≡ Some old) same e2 in
-        (put a.path w v, write_same m a w h x r ∙ ap (option_map (put a.path w)) e, record {
-          loose = λ z. put_loose D a.path u t w v (deep (let f = r.0 in omega (arith, l, f))) z pt;
-          units = λ ps hp. kept_by_write D apart proper G ps a.path u t v old w p hp pt prt told tw e2' (ok (let f = r.0 in omega (arith, l, f)));
-        })
-      where
-        deep : a.frame < n → Deep D t w
-        deep l = pick (needs_drop D t) refl
-          where
-            pick : (b : Bool) → needs_drop D t ≡ b → Deep D t w
-            pick true q = whole_deep D w t (ok l q).1
-            pick false q = needless_deep D needs w t q
-
-module _ (X : Change) (inits : Inits) (apart : (d : ℕ) → holds X.source.shapes (length X.source.shapes) d d ≡ false) (proper : ProperShapes X.source.shapes) (proper_locals : (x : ℕ) (t : Tree) → slice_get X.body1.locals x ≡ Some t → Proper t) (S : stages.Sorted X inits apart proper) where
+module _ (X : Change) (inits : Inits) (apart : (d : ℕ) → holds X.source.shapes (length X.source.shapes) d d ≡ false) (proper : ProperShapes X.source.shapes) (proper_locals : (x : ℕ) (t : Tree) → slice_get X.body1.locals x ≡ Some t → Proper t) (S : stages.Sorted X inits apart proper) (needs : NeedsOk X.source.shapes) where
   abbrev D : List Shape
   D = X.source.shapes
 
   abbrev us : List Place
   us = stand.us X inits apart proper
 
-  module _ (G : TypeMap) (j j' : Renaming) (c2 c1 : Control) (n2 n1 : ℕ) (m2' m1' m2 m1 : Memory) (l1 : c1.frame < n1) (l2 : c2.frame < n2) (lv : Leaves X.source.shapes G j j' n2 n1 m2' m1' m2 m1) (ul : UnitsLeft X.source.shapes G n1 m1' m1) (known : (x : ℕ) (t : Tree) → slice_get X.body1.locals x ≡ Some t → G c1.frame x ≡ Some t) (fr : stand.Frame X inits apart proper j c2 c1 m2 m1) where
+  module _ (G : TypeMap) (j j' : Renaming) (c2 c1 : Control) (n2 n1 : ℕ) (m2' m1' m2 m1 : Memory) (l1 : c1.frame < n1) (l2 : c2.frame < n2) (lv : Leaves X.source.shapes G j j' n2 n1 m2' m1' m2 m1) (ge : Gentle X.source.shapes G n1 m1' m1) (known : (x : ℕ) (t : Tree) → slice_get X.body1.locals x ≡ Some t → G c1.frame x ≡ Some t) (fr : stand.Frame X inits apart proper j c2 c1 m2 m1) where
     unmapped : (y : ℕ) → slice_get X.body1.locals y ≡ None → (h x : ℕ) → j h x ≡ Some (c2.frame, y) → ⊥
     unmapped y q h x e = let (a, b, (t, z)) = fr.only h x y e in let u : ◌≡◌ {A = Option Tree} None (Some t) = sym q ∙ z in grind arith
 
@@ -103,8 +73,8 @@ module _ (X : Change) (inits : Inits) (apart : (d : ℕ) → holds X.source.shap
         let (y, lt, q, el, hu) = unit_of_local D 0 X.body1.locals u h in
         let z : u.local ≡ y = q ∙ (let z : 0 + y ≡ y = omega arith in z) in
         let (v, ev, lo) = fr.there y lt el in
-        let (v', ev', k) = ul.at c1.frame y lt v l1 (known y lt el) (proper_locals y lt el) ev in
-        ap held_in (some_bind (hole_at u.proj) {o = local_at m1' c1.frame u.local} (ap (local_at m1' c1.frame) z ∙ ev') refl ∙ k.units u.proj hu ∙ sym (some_bind (hole_at u.proj) {o = local_at m1 c1.frame u.local} (ap (local_at m1 c1.frame) z ∙ ev) refl))
+        let (v', ev', k) = ge.mild c1.frame y lt v l1 (known y lt el) ev in
+        ap held_in (some_bind (hole_at u.proj) {o = local_at m1' c1.frame u.local} (ap (local_at m1' c1.frame) z ∙ ev') refl ∙ mild_units D apart proper G lt (proper_locals y lt el) v v' k u.proj hu ∙ sym (some_bind (hole_at u.proj) {o = local_at m1 c1.frame u.local} (ap (local_at m1 c1.frame) z ∙ ev) refl))
 
     pub frame_kept : stand.Frame X inits apart proper j' c2 c1 m2' m1'
     frame_kept = record {
@@ -113,7 +83,7 @@ module _ (X : Change) (inits : Inits) (apart : (d : ℕ) → holds X.source.shap
       roots = λ x t e. lv.up c1.frame x _ (fr.roots x t e);
       none = λ x e. lv.same1 c1.frame x l1 ∙ fr.none x e;
       only = λ h x y e. fr.only h x y (lv.same2 h x c2.frame y l2 e);
-      there = λ x t e. (let (v, ev, lo) = fr.there x t e in let (v', ev', k) = ul.at c1.frame x t v l1 (known x t e) (proper_locals x t e) ev in (v', ev', k.loose lo));
+      there = λ x t e. (let (v, ev, lo) = fr.there x t e in let (v', ev', k) = ge.mild c1.frame x t v l1 (known x t e) ev in (v', ev', mild_loose D apart proper G t (proper_locals x t e) needs v v' k lo));
       absent = λ x e. lv.source c1.frame x l1 (fr.none x e) ∙ fr.absent x e;
       slots = λ x t e q. (let (v, ev) = fr.slots x t e q in (v, flag_kept x q ∙ ev));
     }
@@ -168,3 +138,7 @@ module _ (X : Change) (inits : Inits) (apart : (d : ℕ) → holds X.source.shap
           says = λ u x h n e. says_kept u x e ∙ w.says u x h n e ∙ ap (λ b. Some (number (flag b))) (sym (held_kept u h));
           sound = sound_at_same X.source.shapes X.body1 w.next (λ u. begun u w.block.term || held m1 c1.frame u) (λ u. begun u w.block.term || held m1' c1.frame u) (λ u h. ap (λ b. begun u w.block.term || b) (held_kept u h)) w.sound;
         })
+
+  -- the frames that wait last
+  pub kept_law : KeptLaw X (stand.pass X inits apart proper)
+  kept_law G j j' d2 d1 c2 c1 gs n2 n1 m2' m1' m2 m1 ks l1 l2 lo lv ge w = waits_kept G j j' c2 c1 n2 n1 m2' m1' m2 m1 l1 l2 lv ge (ks.0 X.body1 (ap (slice_get X.source.bodies) w.1.function1 ∙ X.at1)) w.1 d2 d1 gs w

@@ -196,7 +196,7 @@ module _ (X : Change) (inits : Inits) (apart : (d : ℕ) → holds X.source.shap
         unfolding enter local_addr entered
         call_goes d i cur others os ms x ps st g dg en kk b a b1 a1 l n1 n2 mv sp le ut by pa =
             answers_step (suc kk) (on_at s2 s2.top n1 b1 a1) (enter T s2 n2 (place_in s2.top b 0) g (pointer (over s2.top.frame i.addr) ∷ []) (Some dest)) x mv refl sp
-            (enter_goes X P V Inv frames G j s2 s1 n2 s1.memory r.core.base lf.0 (place_in s2.top b 0) c1 (Some dest) None knows below (pointer i.addr ∷ []) (pointer (over s2.top.frame i.addr) ∷ []) ((record { root = root_of_item i st.inside.0; path = refl }, tt), (tt, tt)) g x (λ bo eo. V.destroys i.ty g bo dg eo) en)
+            (enter_goes X P V Inv frames G j s2 s1 n2 s1.memory r.core.base lf.0 (place_in s2.top b 0) c1 (Some dest) None knows below (pointer i.addr ∷ []) (pointer (over s2.top.frame i.addr) ∷ []) ((record { root = root_of_item i st.inside.0; path = refl }, tt), (tt, tt)) (refl, tt) g x (λ bo eo. V.destroys i.ty g bo dg eo) en)
           where
             dest : Dest
             dest = record { addr = record { frame = s2.top.frame; local = suc l; path = [] }; guard = None }

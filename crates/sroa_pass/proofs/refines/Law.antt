@@ -199,7 +199,7 @@ module _ (X : Change) (P : Plan X.source.shapes X.body1.locals X.body2.locals) (
     kept = kept_law;
     once = λ x x' y e e'. sym (same_lent x y e) ∙ same_lent x' y e';
     slots = λ j vs ws hv few x y e v q. slot j vs ws hv few x y (P.lends x y e) v q;
-    begins = λ j k2 k1 d2 d1 m2 m1 vs ws hv few f1 f2 l. (
+    begins = λ j k2 k1 d2 d1 m2 m1 vs ws hv wh few f1 f2 l. (
         let (n, h) = begins_at (new_control X.f k2 d2) (new_control X.f k1 d1) refl refl in
         (n, (refl, record { function1 = refl; function2 = refl; block = refl; calm = refl; roots = begin_roots j k2 k1 f1 f2; here = h }, begin_own j k2 k1 d2 d1 m2 m1 vs ws (opened_up j k2 k1 P.lent f1 f2) hv few)));
     resumes = λ n s2 s1 r m2 m1 c2 c1 gs ds cs2 v w x q q2 p2 p1 l wt be l1 l2 lo dt hv wh k ge. resumed n s2 s1 r m2 m1 c2 c1 gs ds cs2 v w x q l wt be l1 l2 dt hv k ge;
