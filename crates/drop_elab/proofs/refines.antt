@@ -32,6 +32,7 @@ pub mod Back
 pub mod Begin
 pub mod Begun
 pub mod Flags
+pub mod Settings
 pub mod Statuses
 pub mod Once
 pub mod Plans

@@ -32,14 +32,14 @@ module _ (low : ℕ) (C : Code) (body : TypedBody) (s : State) (c : Control) (is
   F = c.frame
 
   -- a statement of the code
-  stmt_step : (m m' : Memory) (i a : ℕ) (k : Laid) (x : TypedStmt) (rest : List TypedStmt) → GoesOn body i a k → k.stmts ≡ x ∷ rest → exec H m x ≡ Some m' → step C (on_at s c m i a) ≡ Some (on (on_at s c m' i (suc a)))
+  pub stmt_step : (m m' : Memory) (i a : ℕ) (k : Laid) (x : TypedStmt) (rest : List TypedStmt) → GoesOn body i a k → k.stmts ≡ x ∷ rest → exec H m x ≡ Some m' → step C (on_at s c m i a) ≡ Some (on (on_at s c m' i (suc a)))
   unfolding step perform
   stmt_step m m' i a k x rest (b, at, ss, t) e ex =
       let (there, _) = first_left a b.stmts x rest (ss ∙ e) in
       some_bind _ is (some_bind _ at (ap (perform C H (on_at s c m i a) b.term) there ∙ some_bind _ ex refl))
 
   -- the code's end
-  term_step : (m : Memory) (i a : ℕ) (k : Laid) → GoesOn body i a k → k.stmts ≡ [] → step C (on_at s c m i a) ≡ finish C H (on_at s c m i a) k.term
+  pub term_step : (m : Memory) (i a : ℕ) (k : Laid) → GoesOn body i a k → k.stmts ≡ [] → step C (on_at s c m i a) ≡ finish C H (on_at s c m i a) k.term
   unfolding step perform
   term_step m i a k (b, at, ss, t) e =
       some_bind _ is (some_bind _ at (ap (perform C H (on_at s c m i a) b.term) (none_left a b.stmts (ss ∙ e)) ∙ ap (finish C H (on_at s c m i a)) t))
