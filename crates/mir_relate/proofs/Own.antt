@@ -21,7 +21,7 @@ use Rattle.mir_relate.specs.Alike.{Between, Sides, Same, AllSame, Reads, AllRead
 use Rattle.mir_relate.specs.Leaves.{Leaves}
 use Rattle.mir_relate.specs.Mild.{Gentle}
 use Rattle.mir_relate.specs.Frames.{Change, target, Pass, lowest, Below, Core}
-use Rattle.mir_relate.specs.Pass.{KnowsAll, Valids, FewArgs, FewTerm, GentleTo, FrameLaws, Goes, Related}
+use Rattle.mir_relate.specs.Pass.{KnowsAll, Valids, AllArgs, ArgsTerm, GentleTo, FrameLaws, Goes, Related}
 use Rattle.mir_relate.proofs.Alike.{number_read, all_read, integers_read}
 use Rattle.mir_relate.proofs.Stacks.{knows_all, knows_later, below_kept}
 use Rattle.mir_relate.proofs.Enter.{goes_at, goes_by, enter_goes, enter_gentle}
@@ -162,10 +162,10 @@ module _ (X : Change) (P : Pass) (V : Valids X) (Inv : State → Type 0) (laws :
     below_this : (A : Memory → Type 0) (m2 m1 : Memory) → A m1 → (u2 u1 : ℕ) (d2 d1 : Dest) → Q m2 m1 → GoalIf A d2 d1 u2 u1 → Gentle D G s1.top.frame m1 s1.memory → Below X P j (Some d2) (Some d1) s2.next s1.next (to_block u2 s2.top ∷ s2.callers) (to_block u1 s1.top ∷ s1.callers) m2 m1
     below_this A m2 m1 am u2 u1 d2 d1 q gl ge = inr (to_block u1 s1.top, gs, ds, ap (λ cs. to_block u1 s1.top ∷ cs) split, r.core.base.top1, r.core.base.top2, low_at (to_block u1 s1.top) refl, gl.waits m2 m1 q am, below_at m2 m1 (to_block u2 s2.top) (to_block u1 s1.top) refl refl refl refl (left m2 m1 q) ge)
 
-    call_goes : (A : Memory → Type 0) (m2 m1 : Memory) → A m1 → (u2 u1 : ℕ) (d2 d1 : Dest) (g : Callee) (os : List Operand) (vs ws : List Value) (x : Next) → GentleTo X G s1.top.frame s1.memory x → FewArgs X.source g os → length vs ≡ length os → Q m2 m1 → GoalIf A d2 d1 u2 u1 → AllSame j vs ws → AllWhole vs → call X.source s1 m1 (to_block u1 s1.top) d1 g vs ≡ Some x → Goes X P (call (target X) s2 m2 (to_block u2 s2.top) d2 g ws) x
+    call_goes : (A : Memory → Type 0) (m2 m1 : Memory) → A m1 → (u2 u1 : ℕ) (d2 d1 : Dest) (g : Callee) (os : List Operand) (vs ws : List Value) (x : Next) → GentleTo X G s1.top.frame s1.memory x → AllArgs X.source g os → length vs ≡ length os → Q m2 m1 → GoalIf A d2 d1 u2 u1 → AllSame j vs ws → AllWhole vs → call X.source s1 m1 (to_block u1 s1.top) d1 g vs ≡ Some x → Goes X P (call (target X) s2 m2 (to_block u2 s2.top) d2 g ws) x
     unfolding call
     call_goes A m2 m1 am u2 u1 d2 d1 (callee.Local g) os vs ws x ge few long q gl hv wh e =
-        enter_goes X P V Inv laws G j s2 s1 m2 m1 r.core.base (left m2 m1 q).0 (to_block u2 s2.top) (to_block u1 s1.top) (Some d2) (Some d1) knows (below_this A m2 m1 am u2 u1 d2 d1 q gl (enter_gentle X G s1.top.frame s1.memory s1 m1 (to_block u1 s1.top) g.0 vs (Some d1) x r.core.base.top1 e ge)) vs ws hv wh g.0 x (λ b eb. (let f = few b eb in omega (arith, f, long))) e
+        enter_goes X P V Inv laws G j s2 s1 m2 m1 r.core.base (left m2 m1 q).0 (to_block u2 s2.top) (to_block u1 s1.top) (Some d2) (Some d1) knows (below_this A m2 m1 am u2 u1 d2 d1 q gl (enter_gentle X G s1.top.frame s1.memory s1 m1 (to_block u1 s1.top) g.0 vs (Some d1) x r.core.base.top1 e ge)) vs ws hv wh g.0 x (λ b eb. long ∙ few b eb) e
     call_goes A m2 m1 am u2 u1 d2 d1 (callee.Outside o) os vs ws x ge few long q gl hv wh e =
         let (out, e1, k1) = bind_some e in
         let (ns, e2, k2) = bind_some k1 in
@@ -189,7 +189,7 @@ module _ (X : Change) (P : Pass) (V : Valids X) (Inv : State → Type 0) (laws :
           go [] e q b = subst (λ cs. Below X P j s2.top.dest s1.top.dest s2.top.frame s1.top.frame s2.callers cs s2.memory s1.memory) (sym q) b
           go (g ∷ gs) e q b = absurd (grind arith)
 
-      pub step_if_goes : (t u : Term) (x : Next) → FewTerm X.source t → SameStepIf t u → finish X.source S.source s1 t ≡ Some x → Flat x → GentleTo X G s1.top.frame s1.memory x → Goes X P (finish (target X) S.target s2 u) x
+      pub step_if_goes : (t u : Term) (x : Next) → ArgsTerm X.source t → SameStepIf t u → finish X.source S.source s1 t ≡ Some x → Flat x → GentleTo X G s1.top.frame s1.memory x → Goes X P (finish (target X) S.target s2 u) x
       unfolding finish closed1 closed2
       step_if_goes (Goto u1) (Goto u2) x few h e fl ge = to_goes s2.memory s1.memory u2 u1 x ge first h e
       step_if_goes (Switch o arms1 u1) (Switch p arms2 u2) x few (ho, he) e fl ge =
@@ -214,5 +214,5 @@ module _ (X : Change) (P : Pass) (V : Valids X) (Inv : State → Type 0) (laws :
           goes_by X P _ _ x (some_bind _ g1 (ap₂ (λ c words. check S.target s2 a'.1 (nat_eq a'.0 (flag c)) words ps u2) (sym hc) (sym hw) ∙ ap (λ i. check S.target s2 a'.1 (nat_eq i (flag c)) words ps u2) (sym same))) (check_goes a'.1 a.1 (nat_eq a.0 (flag c)) words os ps u2 u1 x ge q ho (λ z. he a.0 z a'.1 a.1 q e1) k1)
       step_if_goes t u x few h e fl ge = absurd h
 
-      pub same_step_goes : (t u : Term) (x : Next) → FewTerm X.source t → SameStep t u → finish X.source S.source s1 t ≡ Some x → Flat x → GentleTo X G s1.top.frame s1.memory x → Goes X P (finish (target X) S.target s2 u) x
+      pub same_step_goes : (t u : Term) (x : Next) → ArgsTerm X.source t → SameStep t u → finish X.source S.source s1 t ≡ Some x → Flat x → GentleTo X G s1.top.frame s1.memory x → Goes X P (finish (target X) S.target s2 u) x
       same_step_goes t u x few h e fl ge = step_if_goes t u x few (same_step_if t u h) e fl ge

@@ -1,5 +1,5 @@
 -- Text of two frames that does alike to memories in a relation. This project's own.
-use Rattle.std.specs.Prelude.{◌≡◌, true, List, [], ◌∷◌, Option, Some}
+use Rattle.std.specs.Prelude.{◌≡◌, ℕ, true, List, [], ◌∷◌, length, Option, Some}
 use Rattle.mir_syntax.specs.declared.body.Place.{Place}
 use Rattle.mir_syntax.specs.declared.body.Operand.{Operand}
 use Rattle.mir_syntax.specs.Crate.{TypedRvalue, «use», binary, overflow, unary, cast, discriminant, tuple, build, TypedStmt}
@@ -40,6 +40,11 @@ AllSame j vs ws = ValuesRel j vs ws × Tights vs ws
 abbrev pub AllWhole : List Value → Type 0
 AllWhole [] = Unit {0}
 AllWhole (v ∷ vs) = (whole v ≡ true) × AllWhole vs
+
+-- arguments of a call, all of them
+pub record Arguments (count : ℕ) (vs : List Value) : Type 0 where
+  pub whole : AllWhole vs
+  pub all : length vs ≡ count
 
 -- the operand of the target reads what that of the source reads
 pub record Reads (X : Sides) (Q : Between) (o p : Operand) : Type 0 where
