@@ -32,6 +32,7 @@ pub mod Back
 pub mod Begin
 pub mod Begun
 pub mod Flags
+pub mod Opened
 pub mod Settings
 pub mod Statuses
 pub mod Once

@@ -118,7 +118,7 @@ module _ (X : Change) (inits : Inits) (apart : (d : ℕ) → holds X.source.shap
       lent = j;
       base = record { fresh1 = r.core.base.fresh1; fresh2 = r.core.base.fresh2; top1 = (let t = r.core.base.top1 in omega (arith, f1, t, lt1)); top2 = (let t = r.core.base.top2 in omega (arith, t, lt2)); answers = r.core.base.answers; trace = r.core.base.trace };
       linked = l;
-      runs = inr ([], ds, refl, omega arith, (refl, o), subst (λ f. Below X P j c2.dest c1'.dest c2.frame f cs2 ds M2 M1) (sym f1) (subst (λ d. Below X P j c2.dest d c2.frame c1.frame cs2 ds M2 M1) (sym d1) (below_kept X P kept G j j c2.dest c1.dest c2.frame c1.frame cs2 ds M2 M1 m2 m1 (knows_all X V G ds callers_typed.1) lv ge be)));
+      runs = inr ([], ds, refl, omega arith, (refl, λ G mt lk. o), subst (λ f. Below X P j c2.dest c1'.dest c2.frame f cs2 ds M2 M1) (sym f1) (subst (λ d. Below X P j c2.dest d c2.frame c1.frame cs2 ds M2 M1) (sym d1) (below_kept X P kept G j j c2.dest c1.dest c2.frame c1.frame cs2 ds M2 M1 m2 m1 (knows_all X V G ds callers_typed.1) lv ge be)));
     }
 
     -- the result is written to a local that nobody reads

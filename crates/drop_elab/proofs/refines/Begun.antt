@@ -129,7 +129,7 @@ module _ (X : Change) (inits : Inits) (apart : (d : ℕ) → holds X.source.shap
         lent = r.core.lent;
         base = record { fresh1 = r.core.base.fresh1; fresh2 = r.core.base.fresh2; top1 = r.core.base.top1; top2 = r.core.base.top2; answers = r.core.base.answers; trace = r.core.base.trace };
         linked = r.core.linked;
-        runs = inr ([], s1.callers, refl, omega arith, (refl, λ s. record {
+        runs = inr ([], s1.callers, refl, omega arith, (refl, λ G mt lk s. record {
           control = s2.top;
           memory = s2.memory;
           count = 0;

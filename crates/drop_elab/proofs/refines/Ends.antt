@@ -110,7 +110,7 @@ module _ (X : Change) (inits : Inits) (apart : (d : ℕ) → holds X.source.shap
           stand.number_of X inits apart proper d.target,
           on_at s2 s2.top m' d.target 0,
           moves_then T kk (suc k') s2 (on_at s2 s2.top m i a) (Some (on_at s2 s2.top m' d.target 0)) mv mv',
-          own.own_core X P V Inv frames n s2 s1 r [] s1.callers refl (omega arith) be (stand.number_of X inits apart proper d.target) m' M c2' (to_block d.target s1.top) refl refl refl refl (l, lv) (gentle_above D r.typed1.types s1.top.frame s1.memory d.place.addr (blank D d.place.ty) (omega (arith, af))) (refl, λ s. record {
+          own.own_core X P V Inv frames n s2 s1 r [] s1.callers refl (omega arith) be (stand.number_of X inits apart proper d.target) m' M c2' (to_block d.target s1.top) refl refl refl refl (l, lv) (gentle_above D r.typed1.types s1.top.frame s1.memory d.place.addr (blank D d.place.ty) (omega (arith, af))) (refl, λ G mt lk s. record {
             control = c2';
             memory = m';
             count = 0;

@@ -17,6 +17,7 @@ use Rattle.mir_semantics.specs.Memory.{Memory, local_at}
 use Rattle.mir_semantics.specs.Step.{Dest, Visit, Dropping, Control, State}
 use Rattle.mir_syntax.specs.Parts.{has_deref}
 use Rattle.mir_renaming.specs.Renaming.{Renaming}
+use Rattle.mir_renaming.proofs.Types.{TypeMap, MemTy}
 use Rattle.mir_relate.specs.Simulation.{moves}
 use Rattle.move_paths.specs.Effects.{units_of_body, is_under, begun}
 use Rattle.drop_elab.specs.Elab.{Inits, statuses_at, Flagged, settings, with_settings, only_if, elab_by}
@@ -249,10 +250,14 @@ module _ (X : Change) (inits : Inits) (apart : (d : ℕ) → holds X.source.shap
     pub says : (u : Place) (x : ℕ) → Has us u → begun u block.term ≡ false → flag_of u ≡ Some x → Says m2 c2.frame x (held m1 c1.frame u)
     pub sound : SoundAt X.source.shapes X.body1 next (λ u. begun u block.term || held m1 c1.frame u)
 
+  -- where the source's memory and this frame's locals have types
+  abbrev pub IfTyped : Control → Memory → Type 0 → Type 0
+  IfTyped c1 m1 A = (G : TypeMap) → MemTy X.source.shapes G m1 → ((x : ℕ) (t : Tree) → slice_get X.body1.locals x ≡ Some t → G c1.frame x ≡ Some t) → A
+
   -- one frame for one; each local of the source is lent
   abbrev pub pass : Pass
   pass = record {
-    own = λ n j c2 c1 gs m2 m1. (gs ≡ []) × Own n j c2 c1 m2 m1;
+    own = λ n j c2 c1 gs m2 m1. (gs ≡ []) × IfTyped c1 m1 (Own n j c2 c1 m2 m1);
     waits = λ j d2 d1 c2 c1 gs m2 m1. (gs ≡ []) × Frame j c2 c1 m2 m1 × (((d1 ≡ None) × Waits d2 c2 c1 m2 m1) ⊎ Called j d2 d1 c2 c1 m2 m1);
     place = place;
   }

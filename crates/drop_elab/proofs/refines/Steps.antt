@@ -144,7 +144,7 @@ module _ (X : Change) (inits : Inits) (apart : (d : ℕ) → holds X.source.shap
       pub drop_core : (d : Dropping) (cur : Option ℕ) (inner os : List Visit) (m : Memory) (i a : ℕ) → Past s2.top.frame s2.memory m → Dropped (record d { items = inner ++ os }) cur inner os (place_in s2.top i a) (with_items s1.top d (inner ++ os)) m s1.memory → Working cur inner os i a d.target → Core X P (weigh D (inner ++ os)) (on_at s2 s2.top m i a) (record s1 { top = with_items s1.top d (inner ++ os) })
       drop_core d cur inner os m i a ps st w =
           own.own_core X P V Inv frames n s2 s1 r [] s1.callers refl (omega arith) be (weigh D (inner ++ os)) m s1.memory (place_in s2.top i a) (with_items s1.top d (inner ++ os)) refl refl refl refl (left_past m ps) (gentle_none D G s1.top.frame s1.memory)
-          (refl, λ s. record {
+          (refl, λ G mt lk s. record {
             control = place_in s2.top i a;
             memory = m;
             count = 0;
