@@ -40,4 +40,5 @@ pub mod Plans
 pub mod Sorts
 pub mod Edging
 pub mod Lasts
+pub mod Starts
 pub mod Follows

@@ -147,6 +147,14 @@ module _ (X : Change) (inits : Inits) where
       let (t, et) = get_mid X.body1.locals (flag_locals wanted) _ y lo hi in
       (t, et, get_none X.body1.locals y lo)
 
+  -- each flag is a further local
+  pub flag_local : (k : ℕ) (f : Flagged) (y : ℕ) → slice_get fs k ≡ Some f → f.flag ≡ Some y → (t : Tree) × (slice_get (elab_by X.source.shapes X.body1 inits).locals y ≡ Some t) × (slice_get X.body1.locals y ≡ None)
+  unfolding elab_by
+  flag_local k f y a b =
+      let (lo, hi) = flags_range (length X.body1.locals) us wanted k f y a b in
+      let (t, et) = get_mid X.body1.locals (flag_locals wanted) _ y lo hi in
+      (t, et, get_none X.body1.locals y lo)
+
   pub flags_low : (q : Place) (y : ℕ) → flag_in q fs ≡ Some y → y < first_new X.source.shapes X.body1 inits
   flags_low q y e =
       let (k, f, a, b, c) = flag_found q fs y e in
