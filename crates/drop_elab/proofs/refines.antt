@@ -39,6 +39,7 @@ pub mod Once
 pub mod Plans
 pub mod Sorts
 pub mod Edging
+pub mod Texts
 pub mod Changes
 pub mod Lasts
 pub mod Starts
