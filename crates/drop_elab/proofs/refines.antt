@@ -43,4 +43,5 @@ pub mod Texts
 pub mod Changes
 pub mod Lasts
 pub mod Starts
+pub mod Statements
 pub mod Follows

@@ -253,7 +253,7 @@ module _ (X : Change) (P : Pass) (V : Valids X) (Inv : State → Type 0) (laws :
     finish_goes Return x fw ok ty hd e fl ge =
         let (v, e1, k1) = bind_some e in
         let ((w, g1, rel), at) = text.read_at_rel D bo.locals bo.locals s1.top.frame s2.top.frame j j low s2.memory s1.memory (local_addr s1.top.frame 0) (local_addr s2.top.frame 0) v zero r.core.linked.mem e1 in
-        goes_by X P _ _ x (some_bind _ g1 refl) (return_goes X P V Inv laws n s2 s1 r (λ h x y v e q. (al.only h x y e).0) (λ h x y lt e. (let same = (al.only h x y e).0 in omega (arith, same, lt))) be bo eb v w x (rel, whole_tight j v w rel (read_at_whole s1.memory (local_addr s1.top.frame 0) v e1)) (read_at_whole s1.memory (local_addr s1.top.frame 0) v e1) k1 fl ge)
+        goes_by X P _ _ x (some_bind _ g1 refl) (return_goes X P V Inv laws n s2 s1 r (λ h x y v e q. (al.only h x y e).0) (λ h x y lt e. (let same = (al.only h x y e).0 in omega (arith, same, lt))) be bo eb v w x (rel, whole_tight j v w rel (read_at_whole s1.memory (local_addr s1.top.frame 0) v e1)) e1 k1 fl ge)
       where
         zero : AddrRel j (local_addr s1.top.frame 0) (local_addr s2.top.frame 0)
         zero = zero_rel j s1.top.frame s2.top.frame (al.roots 0)

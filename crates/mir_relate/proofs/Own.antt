@@ -200,7 +200,7 @@ module _ (X : Change) (P : Pass) (V : Valids X) (Inv : State → Type 0) (laws :
           let (v, e1, k1) = bind_some e in
           let (w, g1, hv) = h.1 v e1 in
           goes_by X P _ _ x (some_bind _ g1 (ap (λ i. return_to D s2 (close_frame s2.memory i) s2.top.dest s2.callers w) frame2))
-          (return_goes X P V Inv laws n s2 s1 r only none (alone h.0) bo eb v w x hv (read_at_whole s1.memory (local_addr S.source.frame 0) v e1) (ap (λ i. return_to D s1 (close_frame s1.memory i) s1.top.dest s1.callers v) (sym frame1) ∙ k1) fl ge)
+          (return_goes X P V Inv laws n s2 s1 r only none (alone h.0) bo eb v w x hv (subst (λ i. read_at s1.memory (local_addr i 0) ≡ Some v) frame1 e1) (ap (λ i. return_to D s1 (close_frame s1.memory i) s1.top.dest s1.callers v) (sym frame1) ∙ k1) fl ge)
       step_if_goes Unreachable u x few h e fl ge = absurd (grind arith)
       step_if_goes (Call p g os u1) (Call p' g' ps u2) x few (hg, ho, hd) e fl ge =
           let (d1, e1, k1) = bind_some e in

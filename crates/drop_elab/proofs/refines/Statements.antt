@@ -182,17 +182,9 @@ module _ (X : Change) (inits : Inits) (apart : (d : ℕ) → holds X.source.shap
         let (k0, ek0, q) = running.stepped r fr.function1 fr.function2 x e in
         let z : k0 ≡ k = some_val (sym ek0 ∙ ek) in
         let q' : perform X.source (record { shapes = X.source.shapes; locals = X.body1.locals; frame = s1.top.frame }) s1 k.term (Some s) ≡ Some x = ap (perform X.source (record { shapes = X.source.shapes; locals = X.body1.locals; frame = s1.top.frame }) s1 k.term) (sym es) ∙ subst (λ (k : TypedBlock). perform X.source (record { shapes = X.source.shapes; locals = X.body1.locals; frame = s1.top.frame }) s1 k.term (slice_get k.stmts s1.top.at) ≡ Some x) z q in
-        performed x q' e
+        let (m1', ex, go) = performs X s1 k.term s X.body1 x q' in
+        answer m1' ex x go e
       where
-        performed : (x : Next) → perform X.source (record { shapes = X.source.shapes; locals = X.body1.locals; frame = s1.top.frame }) s1 k.term (Some s) ≡ Some x → step X.source s1 ≡ Some x → Answers X P n s2 x
-        performed x q e = goes x (does q) e
-          where
-            does : perform X.source (record { shapes = X.source.shapes; locals = X.body1.locals; frame = s1.top.frame }) s1 k.term (Some s) ≡ Some x → (m1' : Memory) × (exec (record { shapes = X.source.shapes; locals = X.body1.locals; frame = s1.top.frame }) s1.memory s ≡ Some m1') × (Some (on (record s1 { memory = m1'; top = next_stmt s1.top })) ≡ Some x)
-            does q = performs X s1 k.term s X.body1 x q
-
-            goes : (x : Next) → (m1' : Memory) × (exec (record { shapes = X.source.shapes; locals = X.body1.locals; frame = s1.top.frame }) s1.memory s ≡ Some m1') × (Some (on (record s1 { memory = m1'; top = next_stmt s1.top })) ≡ Some x) → step X.source s1 ≡ Some x → Answers X P n s2 x
-            goes x (m1', ex, go) e = answer m1' ex x go e
-
         answer : (m1' : Memory) → exec (record { shapes = X.source.shapes; locals = X.body1.locals; frame = s1.top.frame }) s1.memory s ≡ Some m1' → (x : Next) → Some (on (record s1 { memory = m1'; top = next_stmt s1.top })) ≡ Some x → step X.source s1 ≡ Some x → Answers X P n s2 x
         answer m1' ex x go e =
             let (m2', g2, q) = done m1' ex in
