@@ -170,7 +170,7 @@ module _ (X : Change) (inits : Inits) (apart : (d : ℕ) → holds X.source.shap
           subst (λ t. moves T k t ≡ Some (on_at s c2 m i a)) (here_is s) mv,
           steps.past_beyond X inits apart proper proper_locals S at2 c2.frame M2 m by,
           stages.flags_same X inits apart proper S W.block W.dropped (record W.drop { items = visits_of D W.item.addr W.item.ty v' ++ (W.inner ++ W.os) }) W.cur (visits_of D W.item.addr W.item.ty v' ++ W.inner) W.os c2 (place_in c2 i a) (with_items (visits_of D W.item.addr W.item.ty v' ++ (W.inner ++ W.os))) m2 m m1 refl (λ y lt. by.others c2.frame y (λ _ q. omega (arith, lt, q)) ∙ stays_low y lt)
-          (stages.parts_in X inits apart proper S W.block W.dropped W.drop W.cur W.item W.inner W.os (visits_of D W.item.addr W.item.ty v') c2 c1 m2 m1 (inr (v', refl)) W.state),
+              (stages.parts_in X inits apart proper S W.block W.dropped W.drop W.cur W.item W.inner W.os (visits_of D W.item.addr W.item.ty v') c2 c1 m2 m1 (inr (v', refl)) W.state),
           wk,
         )
 

@@ -129,16 +129,26 @@ module _ (X : Change) (inits : Inits) (apart : (d : ℕ) → holds X.source.shap
         lent = r.core.lent;
         base = record { fresh1 = r.core.base.fresh1; fresh2 = r.core.base.fresh2; top1 = r.core.base.top1; top2 = r.core.base.top2; answers = r.core.base.answers; trace = r.core.base.trace };
         linked = r.core.linked;
-        runs = inr ([], s1.callers, refl, omega arith, (refl, λ G mt lk s. record {
-          control = s2.top;
-          memory = s2.memory;
-          count = 0;
-          comes = refl;
-          same = (refl, refl);
-          past = steps.past_refl X inits apart proper proper_locals S at2 s2.top.frame s2.memory;
-          frame = frame1;
-          ready = inr (k, p, d, None, [], I ∷ [], dropped, number_is, st.calm2, working);
-        }), be);
+        runs = inr (
+          [],
+          s1.callers,
+          refl,
+          omega arith,
+          (
+            refl,
+            λ G mt lk s. record {
+              control = s2.top;
+              memory = s2.memory;
+              count = 0;
+              comes = refl;
+              same = (refl, refl);
+              past = steps.past_refl X inits apart proper proper_locals S at2 s2.top.frame s2.memory;
+              frame = frame1;
+              ready = inr (k, p, d, None, [], I ∷ [], dropped, number_is, st.calm2, working);
+            },
+          ),
+          be,
+        );
       };
       typed1 = typed;
       typed2 = r.typed2;

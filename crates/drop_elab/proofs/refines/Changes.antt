@@ -241,7 +241,7 @@ module _ (X : Change) (inits : Inits) (apart : (d : ℕ) → holds X.source.shap
       typed = write_ty D G m A t (blank D t) h.typed at (bok t);
       there = write_there m A (blank D t) (λ x lt v r e ev lo. put_blank D p.proj lt t (blank D t) v (blank_loose D proper t) lo (path_of A t at x lt r e) di (ap (λ o. path_through D o p.proj) (sym (ap (slice_get X.body1.locals) (sym r.1) ∙ e)) ∙ th)) h;
     },
-    λ u hu. held_put m p (blank D t) old false ev ends u hu ∙ ap (λ o. after_effect o (held m f u)) (ended_is (is_under p u))
+    λ u hu. held_put m p (blank D t) old false ev ends u hu ∙ ap (λ o. after_effect o (held m f u)) (ended_is (is_under p u)),
   )
     where
       A : Addr
@@ -271,7 +271,7 @@ module _ (X : Change) (inits : Inits) (apart : (d : ℕ) → holds X.source.shap
             let (lt, el, gl, pr, hp) = of_unit u hu in
             ap held_in (move_keeps D apart proper G m a t v h.typed at ev (bok t) (calm q) f u.local lt u.proj gl pr hp)
             ∙ ap (λ b. after_effect (ended_if b) (held m f u)) (sym (ap (λ b. nat_eq p.local u.local && b) (indirect_not p.proj u.proj (unit_fields u hu) q) ∙ no_and (nat_eq p.local u.local)))
-        )
+            ),
       )
         where
           no_and : (b : Bool) → (b && false) ≡ false
@@ -380,8 +380,10 @@ module _ (X : Change) (inits : Inits) (apart : (d : ℕ) → holds X.source.shap
       go a v t w e1 e2 e3 e4 false =
           let at : AddrTy D G a t = resolve_ty D G bok X.body1.locals f lok m p a t h.typed e3 e1 in
           let new : HasTy D G t (variant i (blank D w)) = (w, e4, bok w) in
-          let nd = calm p i t refl e3 in
-          (deep_locals m a t (variant i (blank D w)) at new (needless_deep D needs (variant i (blank D w)) t nd) h, λ u hu. (
-              let (lt, el, gl, pr, hp) = of_unit u hu in
-              ap held_in (write_keeps D apart proper G m a t v (variant i (blank D w)) h.typed at e2 new (λ n. absurd (let z : true ≡ false = sym n ∙ nd in grind arith)) f u.local lt u.proj gl pr hp)
-          ))
+          let nd = calm p i t refl e3 in (
+            deep_locals m a t (variant i (blank D w)) at new (needless_deep D needs (variant i (blank D w)) t nd) h,
+            λ u hu. (
+                let (lt, el, gl, pr, hp) = of_unit u hu in
+                ap held_in (write_keeps D apart proper G m a t v (variant i (blank D w)) h.typed at e2 new (λ n. absurd (let z : true ≡ false = sym n ∙ nd in grind arith)) f u.local lt u.proj gl pr hp)
+                ),
+          )

@@ -75,7 +75,7 @@ module _ (X : Change) (inits : Inits) (apart : (d : ℕ) → holds X.source.shap
         ended.linked_after X inits apart proper proper_locals S G m1 c1.frame p d.place.ty old lk at prt ev' j m2 mt l,
         ended.frame_after X inits apart proper proper_locals S G m1 c1.frame p d.place.ty old lk at prt ev' j c2' c1 (to_block d.target c1) m2 refl refl refl lt el di th fr,
         ended.stated_after X inits apart proper proper_locals S edges k p d c2 c2' c1 m2 m1 (write m1 (stand.addr_at X inits apart proper c1.frame p) (blank D d.place.ty)) f2 b2 a2 q2 st
-        (λ u hu. ended.held_after X inits apart proper proper_locals S G m1 c1.frame p d.place.ty old lk at prt ev' u hu),
+            (λ u hu. ended.held_after X inits apart proper proper_locals S G m1 c1.frame p d.place.ty old lk at prt ev' u hu),
         refl,
       )
 
@@ -110,16 +110,19 @@ module _ (X : Change) (inits : Inits) (apart : (d : ℕ) → holds X.source.shap
           stand.number_of X inits apart proper d.target,
           on_at s2 s2.top m' d.target 0,
           moves_then T kk (suc k') s2 (on_at s2 s2.top m i a) (Some (on_at s2 s2.top m' d.target 0)) mv mv',
-          own.own_core X P V Inv frames n s2 s1 r [] s1.callers refl (omega arith) be (stand.number_of X inits apart proper d.target) m' M c2' (to_block d.target s1.top) refl refl refl refl (l, lv) (gentle_above D r.typed1.types s1.top.frame s1.memory d.place.addr (blank D d.place.ty) (omega (arith, af))) (refl, λ G mt lk s. record {
-            control = c2';
-            memory = m';
-            count = 0;
-            comes = refl;
-            same = (refl, refl);
-            past = steps.past_refl X inits apart proper proper_locals S at2 s2.top.frame m';
-            frame = fr';
-            ready = inl (refl, sd);
-          }),
+          own.own_core X P V Inv frames n s2 s1 r [] s1.callers refl (omega arith) be (stand.number_of X inits apart proper d.target) m' M c2' (to_block d.target s1.top) refl refl refl refl (l, lv) (gentle_above D r.typed1.types s1.top.frame s1.memory d.place.addr (blank D d.place.ty) (omega (arith, af))) (
+            refl,
+            λ G mt lk s. record {
+              control = c2';
+              memory = m';
+              count = 0;
+              comes = refl;
+              same = (refl, refl);
+              past = steps.past_refl X inits apart proper proper_locals S at2 s2.top.frame m';
+              frame = fr';
+              ready = inl (refl, sd);
+            },
+          ),
           inl (omega arith),
         )
       where

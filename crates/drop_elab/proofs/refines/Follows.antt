@@ -60,13 +60,18 @@ module _ (X : Change) (inits : Inits) (apart : (d : ℕ) → holds X.source.shap
       let O = o s2 in
       let s : State = record s2 { memory = O.memory; top = O.control } in
       let lf = left O.memory O.control O.past O.frame O.same.0 in
-      let bl = own.below_left X P V Inv frames n s2 s1 r [] s1.callers refl (omega arith) be O.memory s1.memory lf (gentle_none X.source.shapes r.typed1.types s1.top.frame s1.memory) in
-      (O.count, s, O.comes, refl, record {
-        related = record { core = record { lent = r.core.lent; base = c_base O.control O.same.0 O.memory; linked = lf.0; runs = inr ([], s1.callers, refl, omega arith, (refl, λ G mt lk t. record { control = O.control; memory = O.memory; count = 0; comes = refl; same = (refl, refl); past = steps.past_refl X inits apart proper proper_locals S at2 O.control.frame O.memory; frame = O.frame; ready = O.ready }), at_control O.control O.memory O.same.0 O.same.1 bl) }; typed1 = r.typed1; typed2 = typed_moves X V O.count s2 s r.typed2 O.comes; drops = r.drops; dests = r.dests; inv = r.inv };
-        below = at_control O.control O.memory O.same.0 O.same.1 bl;
-        frame = O.frame;
-        ready = O.ready;
-      })
+      let bl = own.below_left X P V Inv frames n s2 s1 r [] s1.callers refl (omega arith) be O.memory s1.memory lf (gentle_none X.source.shapes r.typed1.types s1.top.frame s1.memory) in (
+        O.count,
+        s,
+        O.comes,
+        refl,
+        record {
+          related = record { core = record { lent = r.core.lent; base = c_base O.control O.same.0 O.memory; linked = lf.0; runs = inr ([], s1.callers, refl, omega arith, (refl, λ G mt lk t. record { control = O.control; memory = O.memory; count = 0; comes = refl; same = (refl, refl); past = steps.past_refl X inits apart proper proper_locals S at2 O.control.frame O.memory; frame = O.frame; ready = O.ready }), at_control O.control O.memory O.same.0 O.same.1 bl) }; typed1 = r.typed1; typed2 = typed_moves X V O.count s2 s r.typed2 O.comes; drops = r.drops; dests = r.dests; inv = r.inv };
+          below = at_control O.control O.memory O.same.0 O.same.1 bl;
+          frame = O.frame;
+          ready = O.ready;
+        },
+      )
     where
       at_control : (c : Control) (m : Memory) → c.frame ≡ s2.top.frame → c.dest ≡ s2.top.dest → Below X (stand.pass X inits apart proper) r.core.lent s2.top.dest s1.top.dest s2.top.frame s1.top.frame s2.callers s1.callers m s1.memory → Below X (stand.pass X inits apart proper) r.core.lent c.dest s1.top.dest c.frame s1.top.frame s2.callers s1.callers m s1.memory
       at_control c m f d b = subst (λ f. Below X (stand.pass X inits apart proper) r.core.lent c.dest s1.top.dest f s1.top.frame s2.callers s1.callers m s1.memory) (sym f) (subst (λ d. Below X (stand.pass X inits apart proper) r.core.lent d s1.top.dest s2.top.frame s1.top.frame s2.callers s1.callers m s1.memory) (sym d) b)

@@ -86,12 +86,18 @@ module _ (C : Code) (body : TypedBody) (s : State) (c : Control) (is : slice_get
           let M = write m (local_addr c.frame x) (number (flag b)) in
           let code : Laid = record { stmts = set_flag x b ∷ (settings change fs ++ rest); term = block.term; locals = []; blocks = []; heads = [] } in
           let first = stmt_step 0 C body s c is m M i a code (set_flag x b) (settings change fs ++ rest) (block, at, e, refl) refl (flag_set 0 C body s c is m x b t old et eo) in
-          let (n, a', m', mv, d, st) = ih M (suc a) (there_after fs m x (number (flag b)) old eo (λ k' y hk q. h k' y (later k' k fs hk) q)) (first_left a block.stmts (set_flag x b) (settings change fs ++ rest) e).1 in
-          (1 + n, a', m', moves_then C 1 n (on_at s c m i a) (on_at s c M i (suc a)) (Some (on_at s c m' i a')) (one_move C (on_at s c m i a) (on_at s c M i (suc a)) first) mv, d, record {
-            kept = λ g y ne. st.kept g y (λ p k' hk q. ne p k' (later k' k fs hk) q) ∙ beside (here_at C.shapes body.locals c.frame) m x (number (flag b)) g y (λ p q. ne p k (0, refl) (qo ∙ ap (λ x. Some x) (sym q)));
-            there = λ y v ev. (let (w, ew) = (beyond_write (here_at C.shapes body.locals c.frame) x x m (number (flag b)) old (omega arith) eo).there y v ev in st.there y w ew);
-            set = set M m' eo st;
-          })
+          let (n, a', m', mv, d, st) = ih M (suc a) (there_after fs m x (number (flag b)) old eo (λ k' y hk q. h k' y (later k' k fs hk) q)) (first_left a block.stmts (set_flag x b) (settings change fs ++ rest) e).1 in (
+            1 + n,
+            a',
+            m',
+            moves_then C 1 n (on_at s c m i a) (on_at s c M i (suc a)) (Some (on_at s c m' i a')) (one_move C (on_at s c m i a) (on_at s c M i (suc a)) first) mv,
+            d,
+            record {
+              kept = λ g y ne. st.kept g y (λ p k' hk q. ne p k' (later k' k fs hk) q) ∙ beside (here_at C.shapes body.locals c.frame) m x (number (flag b)) g y (λ p q. ne p k (0, refl) (qo ∙ ap (λ x. Some x) (sym q)));
+              there = λ y v ev. (let (w, ew) = (beyond_write (here_at C.shapes body.locals c.frame) x x m (number (flag b)) old (omega arith) eo).there y v ev in st.there y w ew);
+              set = set M m' eo st;
+            },
+          )
         where
           set : (M m' : Memory) → local_at m c.frame x ≡ Some (h k x (0, refl) qo).1 → Sets c.frame change fs (write m (local_addr c.frame x) (number (flag b))) m' → (k' : Flagged) (y : ℕ) → Has (k ∷ fs) k' → k'.flag ≡ Some y → local_at m' c.frame y ≡ set_value (change k'.unit) (local_at m c.frame y)
           set M m' eo st k' y (zero, ek) q =

@@ -178,20 +178,23 @@ module _ (X : Change) (inits : Inits) (apart : (d : ℕ) → holds X.source.shap
             same = (refl, refl);
             past = past_sets (λ u. Some (is_argument X.body1.args u)) k2 M2 m' se;
             frame = frame m' se.there (place_in C2 0 a') refl refl;
-            ready = inl (refl, record {
-              calm = refl;
-              calm2 = refl;
-              says = says_after (λ u. Some (is_argument X.body1.args u)) k2 M2 m' (λ u. false) (held M1 k1) se (λ u hu. held_now G mt lk u hu) (λ u x hu q e. absurd (grind arith));
-              block = refl;
-              here = λ q1 q2 e1 e2. (
-                end,
-                ap (λ (b : TypedBlock). drop a' b.stmts) (some_val (sym e2 ∙ eb)) ∙ dr ∙ ap (λ (k : TypedBlock). with_settings fs k.stmts ++ end.stmts) (some_val (sym ek ∙ e1)),
-                (
-                  (l, b, le, ap (λ (k : TypedBlock). end_of D X.body1 us fs inits 0 k l b) (some_val (sym ek ∙ e1)), ap (λ (b : TypedBlock). b.term) (some_val (sym e2 ∙ eb)), st),
-                  sound_start D X.body1 0 q1 (held M1 k1) (λ u hu. (0, (refl, held_now G mt lk u hu)))
-                ),
-              );
-            });
+            ready = inl (
+              refl,
+              record {
+                calm = refl;
+                calm2 = refl;
+                says = says_after (λ u. Some (is_argument X.body1.args u)) k2 M2 m' (λ u. false) (held M1 k1) se (λ u hu. held_now G mt lk u hu) (λ u x hu q e. absurd (grind arith));
+                block = refl;
+                here = λ q1 q2 e1 e2. (
+                  end,
+                  ap (λ (b : TypedBlock). drop a' b.stmts) (some_val (sym e2 ∙ eb)) ∙ dr ∙ ap (λ (k : TypedBlock). with_settings fs k.stmts ++ end.stmts) (some_val (sym ek ∙ e1)),
+                  (
+                    (l, b, le, ap (λ (k : TypedBlock). end_of D X.body1 us fs inits 0 k l b) (some_val (sym ek ∙ e1)), ap (λ (b : TypedBlock). b.term) (some_val (sym e2 ∙ eb)), st),
+                    sound_start D X.body1 0 q1 (held M1 k1) (λ u hu. (0, (refl, held_now G mt lk u hu))),
+                  ),
+                );
+              },
+            );
           }
         where
           there : (k : Flagged) (x : ℕ) → Has fs k → k.flag ≡ Some x → (t : Tree) × (old : Value) × (slice_get E.locals x ≡ Some t) × (local_at M2 k2 x ≡ Some old)

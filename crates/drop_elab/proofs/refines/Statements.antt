@@ -212,20 +212,23 @@ module _ (X : Change) (inits : Inits) (apart : (d : ℕ) → holds X.source.shap
                   same = (refl, refl);
                   past = past;
                   frame = record { function1 = fr'.function1; function2 = fr'.function2; roots = fr'.roots; none = fr'.none; only = fr'.only; there = fr'.there; absent = fr'.absent; slots = λ x t e none. (let (v, ev) = fr'.slots x t e none in se.there x v ev) };
-                  ready = inl (refl, record {
-                    calm = st.calm;
-                    calm2 = refl;
-                    says = says_after X inits apart proper (λ u. effect u s) f2 m2' m' (held s1.memory f1) (held m1' f1) se tu (λ u x hu none ef. flag_still m2' m1' q u x ef ∙ st.says u x hu ef);
-                    block = st.block;
-                    here = λ q1 q2 e1 e2. (
-                      end,
-                      ap (λ (b : TypedBlock). drop a' b.stmts) (some_val (sym e2 ∙ ek2)) ∙ dr' ∙ ap (λ (k : TypedBlock). with_settings fs (drop (suc s1.top.at) k.stmts) ++ end.stmts) (some_val (sym ek ∙ e1)),
-                      (
-                        subst (λ q1. stand.Ending X inits apart proper s1.top.block q1 q2 end) (some_val (sym ek ∙ e1)) (subst (λ q2. stand.Ending X inits apart proper s1.top.block k q2 end) (some_val (sym ek2 ∙ e2)) en),
-                        subst (λ q1. SoundBefore D X.body1 s1.top.block q1 (drop (suc s1.top.at) q1.stmts) (held m1' f1)) (some_val (sym ek ∙ e1)) (sound_after D X.body1 s1.top.block k s (drop (suc s1.top.at) k.stmts) (held s1.memory f1) (held m1' f1) tu (subst (λ ss. SoundBefore D X.body1 s1.top.block k ss (held s1.memory f1)) (drop_some k.stmts s1.top.at s es) so))
-                      ),
-                    );
-                  });
+                  ready = inl (
+                    refl,
+                    record {
+                      calm = st.calm;
+                      calm2 = refl;
+                      says = says_after X inits apart proper (λ u. effect u s) f2 m2' m' (held s1.memory f1) (held m1' f1) se tu (λ u x hu none ef. flag_still m2' m1' q u x ef ∙ st.says u x hu ef);
+                      block = st.block;
+                      here = λ q1 q2 e1 e2. (
+                        end,
+                        ap (λ (b : TypedBlock). drop a' b.stmts) (some_val (sym e2 ∙ ek2)) ∙ dr' ∙ ap (λ (k : TypedBlock). with_settings fs (drop (suc s1.top.at) k.stmts) ++ end.stmts) (some_val (sym ek ∙ e1)),
+                        (
+                          subst (λ q1. stand.Ending X inits apart proper s1.top.block q1 q2 end) (some_val (sym ek ∙ e1)) (subst (λ q2. stand.Ending X inits apart proper s1.top.block k q2 end) (some_val (sym ek2 ∙ e2)) en),
+                          subst (λ q1. SoundBefore D X.body1 s1.top.block q1 (drop (suc s1.top.at) q1.stmts) (held m1' f1)) (some_val (sym ek ∙ e1)) (sound_after D X.body1 s1.top.block k s (drop (suc s1.top.at) k.stmts) (held s1.memory f1) (held m1' f1) tu (subst (λ ss. SoundBefore D X.body1 s1.top.block k ss (held s1.memory f1)) (drop_some k.stmts s1.top.at s es) so)),
+                        ),
+                      );
+                    },
+                  );
                 }
               where
                 there : (k : Flagged) (x : ℕ) → Has fs k → k.flag ≡ Some x → (t : Tree) × (old : Value) × (slice_get X.body2.locals x ≡ Some t) × (local_at m2' f2 x ≡ Some old)

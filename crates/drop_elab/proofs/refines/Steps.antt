@@ -143,17 +143,19 @@ module _ (X : Change) (inits : Inits) (apart : (d : ℕ) → holds X.source.shap
 
       pub drop_core : (d : Dropping) (cur : Option ℕ) (inner os : List Visit) (m : Memory) (i a : ℕ) → Past s2.top.frame s2.memory m → Dropped (record d { items = inner ++ os }) cur inner os (place_in s2.top i a) (with_items s1.top d (inner ++ os)) m s1.memory → Working cur inner os i a d.target → Core X P (weigh D (inner ++ os)) (on_at s2 s2.top m i a) (record s1 { top = with_items s1.top d (inner ++ os) })
       drop_core d cur inner os m i a ps st w =
-          own.own_core X P V Inv frames n s2 s1 r [] s1.callers refl (omega arith) be (weigh D (inner ++ os)) m s1.memory (place_in s2.top i a) (with_items s1.top d (inner ++ os)) refl refl refl refl (left_past m ps) (gentle_none D G s1.top.frame s1.memory)
-          (refl, λ G mt lk s. record {
-            control = place_in s2.top i a;
-            memory = m;
-            count = 0;
-            comes = refl;
-            same = (refl, refl);
-            past = past_refl s2.top.frame m;
-            frame = frame_past j s2.top (place_in s2.top i a) s1.top (with_items s1.top d (inner ++ os)) s2.memory m s1.memory refl refl refl refl ps fr;
-            ready = inr (k, p, record d { items = inner ++ os }, cur, inner, os, st, refl, refl, w);
-          })
+          own.own_core X P V Inv frames n s2 s1 r [] s1.callers refl (omega arith) be (weigh D (inner ++ os)) m s1.memory (place_in s2.top i a) (with_items s1.top d (inner ++ os)) refl refl refl refl (left_past m ps) (gentle_none D G s1.top.frame s1.memory) (
+            refl,
+            λ G mt lk s. record {
+              control = place_in s2.top i a;
+              memory = m;
+              count = 0;
+              comes = refl;
+              same = (refl, refl);
+              past = past_refl s2.top.frame m;
+              frame = frame_past j s2.top (place_in s2.top i a) s1.top (with_items s1.top d (inner ++ os)) s2.memory m s1.memory refl refl refl refl ps fr;
+              ready = inr (k, p, record d { items = inner ++ os }, cur, inner, os, st, refl, refl, w);
+            },
+          )
 
       module _ (calm2 : s2.top.dropping ≡ None) where
         abbrev ov : Over
@@ -222,23 +224,30 @@ module _ (X : Change) (inits : Inits) (apart : (d : ℕ) → holds X.source.shap
               r.core.base.top1,
               r.core.base.top2,
               omega arith,
-              (refl, frame_past j s2.top (place_in s2.top b 0) s1.top c1 s2.memory n2 s1.memory refl refl refl refl ps' fr, inl (refl, record {
-                block = k;
-                dropped = p;
-                drop = record d { items = i ∷ (others ++ os) };
-                cur = cur;
-                item = i;
-                inner = others;
-                os = os;
-                state = state;
-                calm = refl;
-                begins = refl;
-                paused = pa;
-                unread = suc l;
-                far = omega (arith, le);
-                there = ut;
-                dest = refl;
-              })),
+              (
+                refl,
+                frame_past j s2.top (place_in s2.top b 0) s1.top c1 s2.memory n2 s1.memory refl refl refl refl ps' fr,
+                inl (
+                  refl,
+                  record {
+                    block = k;
+                    dropped = p;
+                    drop = record d { items = i ∷ (others ++ os) };
+                    cur = cur;
+                    item = i;
+                    inner = others;
+                    os = os;
+                    state = state;
+                    calm = refl;
+                    begins = refl;
+                    paused = pa;
+                    unread = suc l;
+                    far = omega (arith, le);
+                    there = ut;
+                    dest = refl;
+                  },
+                ),
+              ),
               own.below_left X P V Inv frames n s2 s1 r [] s1.callers refl (omega arith) be n2 s1.memory lf (gentle_none D G s1.top.frame s1.memory),
             )
 
@@ -270,7 +279,7 @@ module _ (X : Change) (inits : Inits) (apart : (d : ℕ) → holds X.source.shap
             let at = (subst (λ is. Rattle.mir_renaming.proofs.Typed.VisitsTy X.source V.valid1 G is) st.items typed.1).0 in
             inner_goes ends d i cur others os s2.memory x h.fine h.frame h.plain (past_refl s2.top.frame s2.memory) (as_is st) (omega (arith, wn))
             (machine.inner_step low X.source X.bodies E apart proper X.body1.locals marks s2 s2.top eb2 ov s1.memory fr.absent s1 d i x s2.memory near slots s2.top.block s2.top.at d.target h.fine refl h.frame h.plain G cur others os w
-                (λ nd v ev. running.inner_known X inits apart proper proper_locals G s1.memory s2.top s1.top s2.memory j i r.typed1.mem own_locals fr h at nd v ev) e)
+            (λ nd v ev. running.inner_known X inits apart proper proper_locals G s1.memory s2.top s1.top s2.memory j i r.typed1.mem own_locals fr h at nd v ev) e)
           where
             as_is : Dropped d cur (i ∷ others) os s2.top s1.top s2.memory s1.memory → Dropped (record d { items = i ∷ (others ++ os) }) cur (i ∷ others) os s2.top (with_items s1.top d (i ∷ (others ++ os))) s2.memory s1.memory
             as_is st = record { is = refl; block = st.block; ends = st.ends; term = st.term; addr = st.addr; ty = st.ty; items = refl; inside = st.inside; outside = st.outside; done = st.done; split = st.split; zero = st.zero; right = st.right; current = st.current; others = st.others; sound = st.sound }
@@ -337,7 +346,7 @@ module _ (X : Change) (inits : Inits) (apart : (d : ℕ) → holds X.source.shap
             let typed = item_typed d st.is in
             let at = (subst (λ is. Rattle.mir_renaming.proofs.Typed.VisitsTy X.source V.valid1 G is) st.items typed.1).0 in
             finish_outer h.fine h.frame h.plain (machine.outer_step low X.source X.bodies E apart proper X.body1.locals marks s2 s2.top eb2 ov s1.memory fr.absent s1 d i x s2.memory near slots s2.top.block s2.top.at d.target h.fine refl h.frame h.plain flags_there cur os G w
-                (item_place at h.frame, λ ms nms sms cl nd v ev. (value_at_ty D G s1.memory i.addr i.ty v r.typed1.mem at ev, λ un. known_unit d i os ms nms sms v (cleared_state d cur (i ∷ os) ms cl st) nd un ev)) e)
+            (item_place at h.frame, λ ms nms sms cl nd v ev. (value_at_ty D G s1.memory i.addr i.ty v r.typed1.mem at ev, λ un. known_unit d i os ms nms sms v (cleared_state d cur (i ∷ os) ms cl st) nd un ev)) e)
           where
             item_place : (at : AddrTy D G i.addr i.ty) → i.addr.frame ≡ s1.top.frame → place_ty D X.body1.locals (place_of i.addr) ≡ Some i.ty
             item_place at q = go st.outside.0.known
