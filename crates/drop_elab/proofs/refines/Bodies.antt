@@ -1,14 +1,13 @@
 -- Where the end of each block stands in the elaborated body.
-use Rattle.std.proofs.Common.{◌≡◌, refl, ap, ◌∙◌, subst, ℕ, zero, suc, ◌+◌, ◌≤◌, List, [], ◌∷◌, ◌++◌, length, drop, Some, slice_get, arith}
+use Rattle.std.proofs.Common.{◌≡◌, refl, ap, subst, ℕ, zero, suc, ◌+◌, ◌≤◌, List, [], ◌∷◌, ◌++◌, length, Some, slice_get, arith}
 use Rattle.mir_syntax.specs.declared.body.Place.{Place}
-use Rattle.mir_syntax.specs.declared.body.Term.TheVariants.{Drop}
 use Rattle.mir_syntax.specs.Tree.{Tree}
 use Rattle.mir_syntax.specs.Crate.{TypedBlock, TypedBody}
 use Rattle.mir_syntax.specs.Shapes.{Shape}
 use Rattle.move_paths.specs.Effects.{units_of_body}
-use Rattle.drop_elab.specs.Elab.{Inits, statuses_at, want_flags, Flagged, with_flags, flag_locals, with_settings, first_settings, lay_end, LaidBlocks, lay_blocks, plan_drop, elab_by}
-use Rattle.drop_elab.specs.Plan.{Laid, lay}
-use Rattle.drop_elab.proofs.refines.Places.{At, StandsIn, Stands, left_stands, right_stands}
+use Rattle.drop_elab.specs.Elab.{Inits, statuses_at, want_flags, Flagged, with_flags, flag_locals, with_settings, first_settings, lay_end, LaidBlocks, lay_blocks, elab_by}
+use Rattle.drop_elab.specs.Plan.{Laid}
+use Rattle.drop_elab.proofs.refines.Places.{StandsIn, Stands, left_stands, right_stands}
 
 module _ (D : List Shape) (body : TypedBody) (us : List Place) (fs : List Flagged) (inits : Inits) where
   abbrev pub end_of : ℕ → TypedBlock → ℕ → ℕ → Laid

@@ -1,5 +1,5 @@
 -- What the source's statements and operands do to the units of its frame, and that its locals stay loose.
-use Rattle.std.proofs.Common.{◌≡◌, ◌⊎◌, inl, inr, refl, sym, ap, ap₂, ◌∙◌, subst, ℕ, zero, suc, ◌+◌, Bool, true, false, not, nat_eq, ◌&&◌, ◌||◌, if◌then◌else◌, List, [], ◌∷◌, ◌++◌, length, Option, Some, None, slice_get, option_map, arith}
+use Rattle.std.proofs.Common.{◌≡◌, ◌⊎◌, inl, inr, refl, sym, ap, ap₂, ◌∙◌, subst, ℕ, ◌+◌, Bool, true, false, not, nat_eq, ◌&&◌, ◌||◌, if◌then◌else◌, List, [], ◌∷◌, ◌++◌, length, Option, Some, None, slice_get, option_map, arith}
 use Rattle.std.specs.List.{list_any}
 use Rattle.std.proofs.lemmas.Bool.{eqb-true}
 use Rattle.mir_syntax.specs.declared.body.Place.{Place}
@@ -11,19 +11,19 @@ use Rattle.mir_syntax.specs.Tree.{Tree}
 use Rattle.mir_syntax.specs.Crate.{TypedRvalue, «use», binary, overflow, unary, cast, discriminant, tuple, build, TypedStmt, assign, storage_live, storage_dead, set_discriminant}
 use Rattle.mir_syntax.specs.Crate as rvalue
 use Rattle.mir_syntax.specs.Parts.{is_direct, has_deref, rvalue_operands}
-use Rattle.mir_syntax.specs.Shapes.{Shape, path_ty, place_ty, path_through, goes_through_destructor, needs_drop, variant_ty}
+use Rattle.mir_syntax.specs.Shapes.{Shape, path_ty, path_through, goes_through_destructor, needs_drop, variant_ty}
 use Rattle.mir_rules.specs.DefinitionRules.{holds}
 use Rattle.mir_rules.specs.BodyRules.{some_needs_drop, moves_through_destructor, moves_needing_indirectly, breaks_v21, breaks_v22}
 use Rattle.mir_rules.specs.Weights.{units}
 use Rattle.mir_rules.proofs.Lists.{or_false-left, or_false-right}
-use Rattle.mir_semantics.specs.Values.{Addr, Value, put, at_path, whole, full, blank, variant, is_hole}
+use Rattle.mir_semantics.specs.Values.{Addr, Value, put, at_path, whole, blank, variant}
 use Rattle.mir_semantics.specs.Memory.{Memory, local_at, value_at, write}
 use Rattle.mir_semantics.specs.Step.{Here, Dest, resolve, type_of, guard_of, dest_of, allows, store, local_addr, read_at, read, read_all, read_number, read_two, eval, is_variant, write_unless, set_blank, exec}
 use Rattle.mir_renaming.specs.Renaming.{RootOf}
 use Rattle.mir_syntax.proofs.Binds.{bind_some, some_bind}
 use Rattle.mir_renaming.proofs.Memory.{root_or_not, write_same, write_other}
 use Rattle.mir_renaming.proofs.Statements.{only_true}
-use Rattle.mir_renaming.proofs.Types.{TypeMap, HasTy, AddrTy, MemTy, LocalsTy, StmtTy, some_eq, write_ty, resolve_ty, eval_ty, dest_ty}
+use Rattle.mir_renaming.proofs.Types.{TypeMap, HasTy, AddrTy, MemTy, StmtTy, some_eq, write_ty, resolve_ty, eval_ty, dest_ty}
 use Rattle.mir_renaming.proofs.Agree.{NeedsOk}
 use Rattle.mir_renaming.proofs.Frames.{equal}
 use Rattle.mir_renaming.proofs.Walks.{walk_plain}
@@ -36,8 +36,8 @@ use Rattle.mir_relate.proofs.Single.{set_blank_is}
 use Rattle.mir_relate.proofs.Wholes.{eval_whole}
 use Rattle.drop_elab.proofs.refines.Items.{Proper, ProperShapes}
 use Rattle.drop_elab.proofs.refines.Propers.{there_proper}
-use Rattle.drop_elab.proofs.refines.Sound.{Has, Held}
-use Rattle.drop_elab.proofs.refines.Puts.{Fields, field_cases, hole_at}
+use Rattle.drop_elab.proofs.refines.Sound.{Has}
+use Rattle.drop_elab.proofs.refines.Puts.{Fields, field_cases}
 use Rattle.drop_elab.proofs.refines.Kept.{units_fields}
 use Rattle.drop_elab.proofs.refines.Deep.{Loose, Deep, put_loose, put_blank, blank_loose, whole_deep, needless_deep}
 use Rattle.drop_elab.proofs.refines.Held.{unit_hole, write_keeps, store_keeps, move_keeps, blank_ends, value_begins, write_beside, write_elsewhere}

@@ -5,10 +5,9 @@ use Rattle.mir_syntax.specs.declared.body.Proj.{Proj}
 use Rattle.mir_syntax.specs.declared.body.Proj.TheVariants.{Field, Downcast, Deref}
 use Rattle.mir_syntax.specs.declared.body.Place.{Place}
 use Rattle.mir_syntax.specs.declared.body.Term.TheVariants.{Drop}
-use Rattle.mir_syntax.specs.Tree.{Tree, scalar, empty, more, named}
-use Rattle.mir_syntax.specs.Tree as tree
+use Rattle.mir_syntax.specs.Tree.{Tree}
 use Rattle.mir_syntax.specs.Crate.{TypedBlock}
-use Rattle.mir_syntax.specs.Shapes.{Shape, first_variant, struct_fields, fields_of, field_ty, path_ty, path_through}
+use Rattle.mir_syntax.specs.Shapes.{Shape, path_ty, path_through}
 use Rattle.mir_num.specs.Numbers.{flag}
 use Rattle.mir_rules.specs.DefinitionRules.{holds}
 use Rattle.mir_syntax.specs.Parts.{is_direct, targets}
@@ -29,7 +28,7 @@ use Rattle.drop_elab.specs.Plan.{Plan, done}
 use Rattle.mir_relate.specs.Leaves.{Leaves}
 use Rattle.mir_relate.specs.Frames.{Change}
 use Rattle.mir_relate.proofs.Leaves.{some_val}
-use Rattle.drop_elab.proofs.refines.Items.{IsTuple, Proper, ProperShapes}
+use Rattle.drop_elab.proofs.refines.Items.{Proper, ProperShapes}
 use Rattle.drop_elab.proofs.refines.Outer.{outer_units, plan_at}
 use Rattle.drop_elab.proofs.refines.Sound.{Has, Held, SoundAt, sound_start, sound_along}
 use Rattle.drop_elab.proofs.refines.Puts.{Fields, field_cases}

@@ -1,20 +1,19 @@
 -- What a frame that waits wants of the steps above it: that they leave its flags, and of its units which are holes. The steps of other frames do.
-use Rattle.std.proofs.Common.{◌≡◌, ◌⊎◌, inl, inr, refl, sym, ap, ap₂, ◌∙◌, subst, ℕ, ◌+◌, ◌<◌, ◌≤◌, Bool, true, false, ◌||◌, List, [], ◌∷◌, length, get_or, Option, Some, None, slice_get, option_map, arith}
+use Rattle.std.proofs.Common.{◌≡◌, ◌⊎◌, inl, inr, refl, sym, ap, ◌∙◌, subst, ℕ, ◌+◌, ◌<◌, true, false, ◌||◌, List, [], ◌∷◌, length, Option, Some, None, slice_get, arith}
 use Rattle.mir_syntax.specs.declared.body.Place.{Place}
 use Rattle.mir_syntax.specs.declared.body.Proj.{Proj}
 use Rattle.mir_syntax.specs.Tree.{Tree}
 use Rattle.mir_syntax.specs.Crate.{TypedBlock}
-use Rattle.mir_syntax.specs.Shapes.{Shape, path_ty, needs_drop}
+use Rattle.mir_syntax.specs.Shapes.{Shape, needs_drop}
 use Rattle.mir_rules.specs.DefinitionRules.{holds}
 use Rattle.mir_rules.specs.Weights.{units}
 use Rattle.mir_num.specs.Numbers.{flag}
-use Rattle.mir_semantics.specs.Values.{Addr, Value, number, whole, full, put}
-use Rattle.mir_semantics.specs.Memory.{Memory, local_at, value_at, write}
+use Rattle.mir_semantics.specs.Values.{Value, number, whole, full}
+use Rattle.mir_semantics.specs.Memory.{Memory, local_at}
 use Rattle.mir_semantics.specs.Step.{Dest, Visit, Dropping, Control}
-use Rattle.mir_renaming.specs.Renaming.{Renaming, RootOf}
-use Rattle.mir_syntax.proofs.Binds.{bind_some, some_bind}
-use Rattle.mir_renaming.proofs.Memory.{root_or_not, write_same, write_other}
-use Rattle.mir_renaming.proofs.Types.{TypeMap, HasTy, AddrTy, MemTy, some_eq, value_at_ty}
+use Rattle.mir_renaming.specs.Renaming.{Renaming}
+use Rattle.mir_syntax.proofs.Binds.{some_bind}
+use Rattle.mir_renaming.proofs.Types.{TypeMap, HasTy}
 use Rattle.mir_renaming.proofs.Agree.{NeedsOk}
 use Rattle.move_paths.specs.Effects.{begun}
 use Rattle.drop_elab.specs.Elab.{Inits}
@@ -22,10 +21,9 @@ use Rattle.mir_relate.specs.Leaves.{Leaves}
 use Rattle.mir_relate.specs.Mild.{Mild, same, more, Gentle}
 use Rattle.mir_relate.specs.Pass.{KeptLaw}
 use Rattle.mir_relate.specs.Frames.{Change}
-use Rattle.mir_relate.proofs.Leaves.{some_val}
 use Rattle.mir_relate.proofs.Stacks.{dests_up}
 use Rattle.drop_elab.proofs.refines.Items.{Proper, ProperShapes}
-use Rattle.drop_elab.proofs.refines.Sound.{Has, Held, sound_same, sound_at_same}
+use Rattle.drop_elab.proofs.refines.Sound.{Has, sound_same, sound_at_same}
 use Rattle.drop_elab.proofs.refines.Puts.{hole_at}
 use Rattle.drop_elab.proofs.refines.Kept.{kept_by_write}
 use Rattle.drop_elab.proofs.refines.Deep.{Loose, Deep, put_loose, whole_deep, needless_deep}

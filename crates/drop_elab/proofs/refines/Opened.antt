@@ -1,13 +1,9 @@
 -- The slots of new frames, one by one.
-use Rattle.std.proofs.Common.{◌≡◌, ◌⊎◌, inl, inr, refl, sym, ap, ap₂, ◌∙◌, subst, ℕ, zero, suc, ◌+◌, ◌<◌, ◌≤◌, Bool, true, false, not, nat_le, ◌&&◌, List, [], ◌∷◌, ◌++◌, map, length, drop, Option, Some, None, slice_get, option_map, arith}
-use Rattle.std.proofs.lemmas.Option.{slice_get_within}
-use Rattle.mir_syntax.specs.declared.body.Place.{Place}
-use Rattle.mir_syntax.specs.declared.body.Proj.{Proj}
+use Rattle.std.proofs.Common.{◌≡◌, refl, sym, ap, ◌∙◌, subst, ℕ, zero, suc, ◌+◌, ◌<◌, ◌≤◌, true, List, [], ◌∷◌, ◌++◌, map, length, drop, Some, None, slice_get, arith}
 use Rattle.mir_syntax.specs.Tree.{Tree}
 use Rattle.mir_syntax.specs.Shapes.{Shape}
-use Rattle.mir_rules.specs.Weights.{units}
-use Rattle.mir_semantics.specs.Values.{Value, whole, is_hole, blank}
-use Rattle.mir_semantics.specs.Step.{blanks, first_of, new_slots}
+use Rattle.mir_semantics.specs.Values.{Value, whole, blank}
+use Rattle.mir_semantics.specs.Step.{blanks, new_slots}
 use Rattle.mir_relate.specs.Alike.{AllWhole}
 
 map_at : {A B : Type 0} (f : A → B) (xs : List A) (i : ℕ) (x : A) → slice_get xs i ≡ Some x → slice_get (map f xs) i ≡ Some (f x)

@@ -7,7 +7,7 @@ use Rattle.mir_syntax.specs.Shapes.{Shape, place_ty}
 use Rattle.mir_semantics.specs.Values.{Addr, Value, number, variant, pointer, hole, blank}
 use Rattle.mir_semantics.specs.Memory.{Memory, local_at, value_at, write, walk}
 use Rattle.mir_semantics.specs.Step.{Code, Dest, Control, State, Next, on, Here, local_addr, resolve, type_of, guard_of, dest_of, store, const_value, read_at, read, read_all, read_number, eval, exec, to_block, next_stmt, go_on, take_arm, enter, call, finish, perform, step}
-use Rattle.mir_syntax.proofs.Binds.{bind_some, some_bind}
+use Rattle.mir_syntax.proofs.Binds.{some_bind}
 use Rattle.mir_renaming.proofs.Memory.{write_same, write_other, root_or_not}
 use Rattle.mir_relate.specs.Simulation.{keep_on, moves}
 use Rattle.drop_elab.specs.Plan.{local_place}

@@ -1,5 +1,5 @@
 -- Flags are set, one statement after another.
-use Rattle.std.proofs.Common.{◌≡◌, refl, sym, ap, ◌∙◌, subst, ℕ, zero, suc, ◌+◌, ◌<◌, ◌≤◌, Bool, true, false, List, [], ◌∷◌, ◌++◌, length, drop, Option, Some, None, slice_get, arith}
+use Rattle.std.proofs.Common.{◌≡◌, refl, sym, ap, ◌∙◌, subst, ℕ, zero, suc, ◌+◌, Bool, true, false, List, [], ◌∷◌, ◌++◌, drop, Option, Some, None, slice_get, arith}
 use Rattle.mir_syntax.specs.declared.body.Place.{Place}
 use Rattle.mir_syntax.specs.Tree.{Tree}
 use Rattle.mir_syntax.specs.Crate.{TypedStmt, TypedBlock, TypedBody}
@@ -13,8 +13,8 @@ use Rattle.drop_elab.specs.Elab.{Flagged, with_flags, set_to, settings}
 use Rattle.drop_elab.proofs.refines.Sound.{Has}
 use Rattle.drop_elab.proofs.refines.Flags.{flags_range}
 use Rattle.drop_elab.proofs.refines.Places.{first_left}
-use Rattle.drop_elab.proofs.refines.Runs.{one_move, moves_then, here_at, beside, written, Beyond, beyond_write}
-use Rattle.drop_elab.proofs.refines.Machine.{on_at, H, F, stmt_step, flag_set}
+use Rattle.drop_elab.proofs.refines.Runs.{one_move, moves_then, here_at, beside, written, beyond_write}
+use Rattle.drop_elab.proofs.refines.Machine.{on_at, stmt_step, flag_set}
 
 -- no two have one flag
 abbrev pub Distinct : List Flagged → Type 0

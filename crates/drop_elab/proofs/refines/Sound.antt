@@ -1,5 +1,5 @@
 -- What a run has made of the units is what some path leaves of them, so their statuses at drops are right.
-use Rattle.std.proofs.Common.{◌≡◌, ◌↔◌, refl, sym, ap, ap₂, ◌∙◌, subst, ℕ, zero, suc, ◌<◌, Bool, true, false, IsTrue, List, [], ◌∷◌, length, get_or, Option, Some, None, slice_get, arith}
+use Rattle.std.proofs.Common.{◌≡◌, refl, sym, ap, ◌∙◌, subst, ℕ, zero, suc, ◌<◌, Bool, true, false, IsTrue, List, [], ◌∷◌, length, get_or, Option, Some, None, slice_get, arith}
 use Rattle.std.specs.List.{Contains}
 use Rattle.mir_syntax.specs.declared.body.Place.{Place}
 use Rattle.mir_syntax.specs.Crate.{TypedStmt, TypedBlock, TypedBody}
@@ -7,7 +7,7 @@ use Rattle.mir_syntax.specs.Shapes.{Shape}
 use Rattle.mir_syntax.specs.Parts.{targets}
 use Rattle.bit_rows.specs.Rows.{row_at, flag}
 use Rattle.move_paths.specs.Effects.{units_of_body, effect}
-use Rattle.move_paths.specs.Inits.{after_effect, after_stmts, after_block, Comes, MaybeAt, SurelyAt}
+use Rattle.move_paths.specs.Inits.{after_effect, after_stmts, Comes, SurelyAt}
 use Rattle.drop_elab.specs.Elab.{Inits, IsInits, Status, dead, static, conditional, status_of, statuses, statuses_at}
 
 -- which units are initialised, now

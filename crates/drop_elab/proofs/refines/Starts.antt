@@ -1,25 +1,23 @@
 -- A call of the elaborated function: its new frames stand for each other, once the flags were set.
-use Rattle.std.proofs.Common.{◌≡◌, ◌⊎◌, inl, inr, refl, sym, ap, ap₂, ◌∙◌, subst, ℕ, zero, suc, ◌+◌, ◌<◌, ◌≤◌, Bool, true, false, not, nat_le, ◌&&◌, List, [], ◌∷◌, ◌++◌, length, drop, Option, Some, None, slice_get, option_map, arith}
+use Rattle.std.proofs.Common.{◌≡◌, inl, refl, sym, ap, ◌∙◌, subst, ℕ, suc, ◌+◌, ◌<◌, ◌≤◌, Bool, true, false, not, nat_le, ◌&&◌, List, [], ◌++◌, length, drop, Option, Some, None, slice_get, option_map, arith}
 use Rattle.mir_syntax.specs.declared.body.Place.{Place}
 use Rattle.mir_syntax.specs.declared.body.Proj.{Proj}
 use Rattle.mir_syntax.specs.Tree.{Tree}
-use Rattle.mir_syntax.specs.Crate.{TypedStmt, TypedBlock, TypedBody}
+use Rattle.mir_syntax.specs.Crate.{TypedBlock, TypedBody}
 use Rattle.mir_syntax.specs.Shapes.{Shape}
 use Rattle.mir_num.specs.Numbers.{flag}
 use Rattle.mir_rules.specs.DefinitionRules.{holds}
 use Rattle.mir_rules.specs.Weights.{units}
 use Rattle.mir_semantics.specs.Values.{Value, number, whole, is_hole, blank}
 use Rattle.mir_semantics.specs.Memory.{Memory, local_at, open_frame}
-use Rattle.mir_semantics.specs.Step.{Dest, Control, State, new_slots}
+use Rattle.mir_semantics.specs.Step.{Dest, Control, new_slots}
 use Rattle.mir_syntax.proofs.Binds.{some_bind}
 use Rattle.mir_renaming.specs.Renaming.{Renaming, SomeRel}
 use Rattle.mir_renaming.proofs.Frames.{open_same, new_control}
-use Rattle.mir_renaming.proofs.Slots.{slots_rel, value_in, same_length}
+use Rattle.mir_renaming.proofs.Slots.{slots_rel, value_in}
 use Rattle.mir_renaming.proofs.Types.{TypeMap, MemTy, HasTy}
-use Rattle.move_paths.specs.Effects.{units_of_body}
 use Rattle.move_paths.specs.Inits.{after_effect, is_argument}
-use Rattle.drop_elab.specs.Plan.{Laid}
-use Rattle.drop_elab.specs.Elab.{Inits, Flagged, settings, with_settings, first_settings, want_flags, elab_by}
+use Rattle.drop_elab.specs.Elab.{Inits, Flagged, with_settings, want_flags}
 use Rattle.mir_relate.specs.Alike.{AllSame, Arguments}
 use Rattle.mir_relate.specs.Frames.{Change, target, opened}
 use Rattle.mir_relate.proofs.Leaves.{some_val}
@@ -27,15 +25,15 @@ use Rattle.mir_relate.proofs.Opens.{opened_at}
 use Rattle.mir_relate.proofs.Single.{opened_none, opened_only}
 use Rattle.drop_elab.proofs.NoDrop.{more_locals}
 use Rattle.drop_elab.proofs.refines.Items.{Proper, ProperShapes}
-use Rattle.drop_elab.proofs.refines.Sound.{Has, Held, SoundAt, sound_start}
+use Rattle.drop_elab.proofs.refines.Sound.{Has, Held, sound_start}
 use Rattle.drop_elab.proofs.refines.Puts.{hole_at}
 use Rattle.drop_elab.proofs.refines.UnitPaths.{blank_at_unit}
 use Rattle.drop_elab.proofs.refines.Kept.{begun_by_whole}
 use Rattle.drop_elab.proofs.refines.Deep.{Loose, deep_loose, whole_deep, blank_loose}
 use Rattle.drop_elab.proofs.refines.Solid.{unit_of_local}
-use Rattle.drop_elab.proofs.refines.Bodies.{flags_of, end_of, block_of, elab_block}
+use Rattle.drop_elab.proofs.refines.Bodies.{end_of, block_of, elab_block}
 use Rattle.drop_elab.proofs.refines.Flags.{same_is, flag_found, flag_local}
-use Rattle.drop_elab.proofs.refines.Machine.{on_at, place_in}
+use Rattle.drop_elab.proofs.refines.Machine.{place_in}
 use Rattle.drop_elab.proofs.refines.Opened.{slots_there, slots_none, slots_more, whole_in}
 use Rattle.drop_elab.proofs.refines.Settings.{flags_distinct, Sets, set_value, run_settings}
 use Rattle.drop_elab.proofs.refines.Stand as stand

@@ -1,27 +1,25 @@
 -- A statement of the elaborated function: the target does the same, and then sets the flags of the units that it changes.
-use Rattle.std.proofs.Common.{◌≡◌, ◌⊎◌, inl, inr, refl, sym, ap, ap₂, ◌∙◌, subst, ℕ, zero, suc, ◌<◌, Bool, true, false, List, [], ◌∷◌, ◌++◌, length, drop, Option, Some, None, slice_get, append_assoc, arith}
-use Rattle.std.proofs.lemmas.Option.{slice_get_within}
+use Rattle.std.proofs.Common.{◌≡◌, inl, refl, sym, ap, ap₂, ◌∙◌, subst, ℕ, zero, suc, false, List, [], ◌∷◌, ◌++◌, length, drop, Option, Some, None, slice_get, append_assoc, arith}
 use Rattle.mir_syntax.specs.declared.body.Place.{Place}
 use Rattle.mir_syntax.specs.declared.body.Term.{Term}
 use Rattle.mir_syntax.specs.Tree.{Tree}
 use Rattle.mir_syntax.specs.Crate.{TypedRvalue, TypedStmt, assign, set_discriminant, TypedBlock, TypedBody}
 use Rattle.mir_syntax.specs.Shapes.{Shape, needs_drop}
 use Rattle.mir_syntax.specs.Parts.{rvalue_operands}
-use Rattle.mir_num.specs.Numbers.{flag}
 use Rattle.mir_rules.specs.BodyRules.{breaks_v21, breaks_v22}
 use Rattle.mir_rules.specs.DefinitionRules.{holds}
 use Rattle.mir_rules.proofs.Terminators.{slice_get_there}
-use Rattle.mir_semantics.specs.Values.{Value, number, blank}
+use Rattle.mir_semantics.specs.Values.{Value, blank}
 use Rattle.mir_semantics.specs.Memory.{Memory, local_at}
-use Rattle.mir_semantics.specs.Step.{Here, Control, State, Next, on, type_of, exec, next_stmt, perform, step}
+use Rattle.mir_semantics.specs.Step.{Control, State, Next, on, type_of, exec, next_stmt, perform, step}
 use Rattle.mir_syntax.proofs.Binds.{bind_some, some_bind}
 use Rattle.mir_renaming.specs.Renaming.{Renaming, Sub}
-use Rattle.mir_renaming.proofs.Types.{TypeMap, HasTy, MemTy}
+use Rattle.mir_renaming.proofs.Types.{TypeMap, HasTy}
 use Rattle.mir_relate.specs.Simulation.{moves, keep_on}
-use Rattle.mir_relate.specs.Alike.{Between, Sides, GotMemory}
+use Rattle.mir_relate.specs.Alike.{Between}
 use Rattle.mir_relate.specs.Renumbered.{StmtSame}
 use Rattle.mir_relate.specs.Frames.{Change, target, Pass, Below}
-use Rattle.mir_relate.specs.Pass.{StmtMoves, Valids, FrameLaws, Answers, Related, GentleTo}
+use Rattle.mir_relate.specs.Pass.{StmtMoves, Valids, FrameLaws, Answers, Related}
 use Rattle.mir_relate.proofs.Gentle.{step_gentle}
 use Rattle.mir_relate.proofs.Kept as kept
 use Rattle.mir_relate.proofs.Leaves.{some_val}
@@ -34,14 +32,12 @@ use Rattle.mir_relate.proofs.Own as own
 use Rattle.mir_relate.proofs.Rest.{drop_some}
 use Rattle.mir_relate.proofs.Running as running
 use Rattle.move_paths.specs.Effects.{effect}
-use Rattle.move_paths.specs.Inits.{after_effect}
 use Rattle.drop_elab.specs.Plan.{Laid}
 use Rattle.drop_elab.specs.Elab.{Inits, Flagged, settings, with_settings, want_flags}
 use Rattle.drop_elab.proofs.NoDrop.{more_locals}
 use Rattle.drop_elab.proofs.refines.Items.{Proper, ProperShapes}
-use Rattle.drop_elab.proofs.refines.Sound.{Has, Held, SoundBefore, sound_after}
+use Rattle.drop_elab.proofs.refines.Sound.{Has, SoundBefore, sound_after}
 use Rattle.drop_elab.proofs.refines.Deep.{Loose}
-use Rattle.drop_elab.proofs.refines.Bodies.{flags_of}
 use Rattle.drop_elab.proofs.refines.Flags.{flag_found, flag_local}
 use Rattle.drop_elab.proofs.refines.Machine.{on_at, place_in}
 use Rattle.drop_elab.proofs.refines.Places.{first_left}

@@ -1,5 +1,5 @@
 -- The text of a formed body names its own locals, so it is the same text in each frame that has them.
-use Rattle.std.proofs.Common.{◌≡◌, refl, ℕ, ◌<◌, Bool, true, ◌&&◌, nat_lt, List, [], ◌∷◌, length, ltb-true}
+use Rattle.std.proofs.Common.{◌≡◌, refl, ℕ, ◌<◌, true, ◌&&◌, nat_lt, List, [], ◌∷◌, length, ltb-true}
 use Rattle.std.specs.List.{list_all, flat_map}
 use Rattle.mir_syntax.specs.declared.body.Place.{Place}
 use Rattle.mir_syntax.specs.declared.body.Operand.{Operand}
