@@ -17,6 +17,10 @@ pub(crate) struct Worklist {
 
 impl Worklist {
     /// All of so many blocks wait; the last is the next.
+    ///
+    /// # Errors
+    ///
+    /// `OutOfMemory`.
     pub fn all(alloc: Global, blocks: u32) -> Result<Worklist, OutOfMemory>
         ensures work { IfOk result (λ made. IsWork blocks (waiting made) made.waits.items) }
         ensures marks { IfOk result (λ made. made.waits.items ≡ replicate blocks true) }
@@ -75,6 +79,10 @@ impl Worklist {
     }
 
     /// Lets a block wait if something changed there.
+    ///
+    /// # Errors
+    ///
+    /// `OutOfMemory`.
     pub fn add_if(&mut self, changed: bool, block: u32) -> Result<(), OutOfMemory>
         requires work { IsWork (length self.old.waits.items) (waiting self.old) self.old.waits.items }
         requires within { block < length self.old.waits.items }

@@ -29,6 +29,10 @@ pub fn closing_paren(symbols: &[Symbol]) -> Option<&[Symbol]>
 }
 
 /// Behind an item of a list in parentheses: whether the items end.
+///
+/// # Errors
+///
+/// `Fault` where neither a comma nor the closing parenthesis stands there.
 #[tactic(auto, unfolding(crate::specs::Lists::after_item))]
 pub fn after_item_paren(symbols: &[Symbol]) -> Result<(Turn, &[Symbol]), ParseRefused>
     ensures read { Gives (λ f. (f.0, f.1.now)) result (spec.after_item spec.closing_paren symbols.now) }
@@ -56,6 +60,10 @@ pub fn closing_brace(symbols: &[Symbol]) -> Option<&[Symbol]>
 }
 
 /// Behind an item of a list in braces: whether the items end.
+///
+/// # Errors
+///
+/// `Fault` where neither a comma nor the closing brace stands there.
 #[tactic(auto, unfolding(crate::specs::Lists::after_item))]
 pub fn after_item_brace(symbols: &[Symbol]) -> Result<(Turn, &[Symbol]), ParseRefused>
     ensures read { Gives (λ f. (f.0, f.1.now)) result (spec.after_item spec.closing_brace symbols.now) }

@@ -53,8 +53,11 @@ fn passed_functions(
     Ok(List::from_vec(passed))
 }
 
-/// The program with each body after the passes, in the order of the functions. The drops of the program are known, and stay known. `Err` is
-/// for want of memory alone, and the program is spent then.
+/// The program with each body after the passes, in the order of the functions. The drops of the program are known, and stay known.
+///
+/// # Errors
+///
+/// `OutOfMemory`; the program is spent then.
 pub fn optimised(alloc: Global, program: Program) -> Result<Program, OutOfMemory>
     requires knows { KnowsDrops program }
     requires ids { IdsInTable program }

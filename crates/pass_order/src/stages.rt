@@ -60,8 +60,12 @@ fn with_body(alloc: Global, function: &Function, body: Body) -> Result<Function,
     })
 }
 
-/// A function with its body as it is at a stage, of which the step is there (`passes_behind`): after the passes up to that step. The program stays
-/// as it is. `Err` is for want of memory alone.
+/// A function with its body as it is at a stage, of which the step is there (`passes_behind`): after the passes up to that step. The program
+/// stays as it is.
+///
+/// # Errors
+///
+/// `OutOfMemory`.
 pub fn dumped(
     alloc: Global,
     program: &Program,
