@@ -123,6 +123,10 @@ fn has_cycle(alloc: Global, blocks: &[Block]) -> Result<bool, OutOfMemory>
 }
 
 /// Whether a body has no call, no drop, no assert and no cycle of blocks; also blocks count that no path reaches.
+///
+/// # Errors
+///
+/// `OutOfMemory`.
 pub fn qualif(alloc: Global, body: &Body) -> Result<bool, OutOfMemory>
     requires { Closed (terms_of body.now) }
     ensures { IfOk result (λ yes. yes ≡ of.qualifies body.now) }

@@ -178,6 +178,10 @@ impl Behind {
     }
 
     /// The copy of a block, given the destination of the call and the block to which it returns.
+    ///
+    /// # Errors
+    ///
+    /// `OutOfMemory`.
     pub fn block(
         self,
         alloc: Global,

@@ -151,6 +151,10 @@ impl Copied for Block {
 
 impl Body {
     /// An equal body.
+    ///
+    /// # Errors
+    ///
+    /// `OutOfMemory`.
     pub fn copy(&self, alloc: Global) -> Result<Body, OutOfMemory>
         ensures { IfOk result (λ copy. copy ≡ self.now) }
     {

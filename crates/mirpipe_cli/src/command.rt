@@ -98,6 +98,10 @@ fn run(
 }
 
 /// Does the work of a command: what it writes, or why there is nothing to write. All memory is taken here.
+///
+/// # Errors
+///
+/// `Input` with the fault for which the command refuses the input; `ReadFault`, only where the source's count of faults rose; `OutOfMemory`.
 pub fn work<S: Source>(alloc: Global, command: Command, source: &mut S) -> Result<Output, Refusal>
     requires steps { AsksSteps command }
     ensures writes { (input : List ℕ) → S.left source.old ≡ Some input → IfOk result (λ output. Writes command input (bytes_of output)) }
@@ -120,7 +124,11 @@ pub fn work<S: Source>(alloc: Global, command: Command, source: &mut S) -> Resul
     }
 }
 
-/// Writes it. `Failed` comes only where the sink's count of faults rose, and then a front is written. No memory is taken.
+/// Writes it. No memory is taken.
+///
+/// # Errors
+///
+/// `Failed`, only where the sink's count of faults rose; a front of it is written then.
 pub fn write<K: Sink>(output: &Output, out: &mut K) -> Result<(), Failed>
     ensures { Prints (K.written out.old) (K.written out.new) (K.faults out.old) (K.faults out.new) (bytes_of output.now) result }
 {

@@ -132,6 +132,10 @@ fn turned_over(alloc: Global, rows: &BitRows, count: u32, bits: u32) -> Result<B
 
 /// Which units are initialised at the blocks' starts of a body whose edges lead to its blocks. In a block to which no path leads none may be,
 /// and each surely is.
+///
+/// # Errors
+///
+/// `OutOfMemory`.
 pub fn inits(alloc: Global, program: &Program, body: &Body) -> Result<InitRows, OutOfMemory>
     requires knows { KnowsDrops program.now }
     requires ids { IdsInTable program.now }

@@ -104,6 +104,10 @@ fn read_number(text: &[u8]) -> Option<Number>
 }
 
 /// The numbers that a word lists.
+///
+/// # Errors
+///
+/// `OutOfMemory`.
 pub fn read_numbers(alloc: Global, word: &str) -> Result<Option<List<Number>>, OutOfMemory>
     ensures { IfOk result (λ found. MatchOption found ((ns : List declared.Number) → IsNumbers word.now ns → ⊥) (λ ns. IsNumbers word.now ns)) }
 {
@@ -132,6 +136,10 @@ fn wrap(number: Number) -> u128
 }
 
 /// Numbers modulo 2^128.
+///
+/// # Errors
+///
+/// `OutOfMemory`.
 pub fn wrap_all(alloc: Global, numbers: &[Number]) -> Result<List<u128>, OutOfMemory>
     ensures { IfOk result (λ bits. bits ≡ map wrapped numbers.now) }
 {
