@@ -8,7 +8,7 @@ use dead_store::pruned;
 use escape_info::address_taken;
 use liveness::live;
 use mir_cfg::preds;
-use mir_syntax::{Body, List, OutOfMemory, Program, Stmt};
+use mir_syntax::{Body, FlatBody, List, OutOfMemory, Program, Stmt};
 use std::alloc::Global;
 use trim_locals::trimmed;
 
@@ -137,4 +137,25 @@ pub fn written(alloc: Global, body: &Body, block: usize) -> Result<Vec<u32>, Out
         }
     }
     Ok(locals)
+}
+
+/// The body in one table, if the body is ready.
+pub fn flat_if_ready(
+    alloc: Global,
+    program: &Program,
+    body: Body,
+) -> Result<Option<FlatBody>, OutOfMemory> {
+    if !is_ready(program, &body) {
+        return Ok(None);
+    }
+    Ok(Some(FlatBody::of(alloc, body)?))
+}
+
+/// How many statements each block of a body in one table has.
+pub fn stmt_counts(alloc: Global, flat: &FlatBody) -> Result<Vec<usize>, OutOfMemory> {
+    let mut counts = Vec::new(alloc);
+    for block in 0..flat.blocks() {
+        counts.push(flat.stmts(block).len())?;
+    }
+    Ok(counts)
 }

@@ -5,12 +5,13 @@
 //! a call stays where the body without it would pass a limit. Which bodies are taken of those that are lent (`CalleeBodies`) is `specs/Takes.antt`:
 //! by the function's attribute, by what the body costs, and by whether it is plain enough to be inlined more freely.
 //!
-//! The contract of `spliced` is that the result is the defined one. `copies` renumbers the callee's text, `call` puts it in the place of one call,
+//! The contract of `spliced` is that the result is the defined one. A callee is a `FlatBody`: `copies` renumbers slices of its one table, `call` puts them in the place of one call,
 //! `size` tells beforehand whether there is room, and `splice` goes over the blocks (`proofs/equal`).
 //!
 //! The laws (`laws`): where each body that is taken stands at its function in the crate (`Lent` of `specs/Lent.antt`), the body in which calls are
 //! replaced is valid, and a crate without `drop` is refined by the crate with it. One call is followed by a simulation in which the callee's frame
-//! stands in the caller's (`proofs/refines/Stacks.antt` has the relation); the calls are taken one after the other (`proofs/Rounds.antt`).
+//! stands in the caller's (`proofs/refines/Stacks.antt` has the relation); the calls are taken one after the other (`proofs/Rounds.antt`). `asked_are_lent`
+//! gives `Lent` of bodies that the function asks for.
 #![tactic(auto)]
 
 mod call;
@@ -21,5 +22,5 @@ mod size;
 mod splice;
 
 pub use callees::CalleeBodies;
-pub use laws::{spliced_refines, spliced_stays_valid};
+pub use laws::{asked_are_lent, spliced_refines, spliced_stays_valid};
 pub use splice::spliced;

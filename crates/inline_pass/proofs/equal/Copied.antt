@@ -1,7 +1,7 @@
 -- The copies that the code makes of a formed callee are those of the definition.
-use Rattle.std.proofs.Common.{◌≡◌, refl, ap, ap₂, ◌∙◌, ℕ, ◌+◌, ◌<◌, ◌^◌, true, List, [], ◌∷◌, ◌++◌, map, length, arith}
+use Rattle.std.proofs.Common.{◌≡◌, refl, sym, ap, ap₂, ◌∙◌, ℕ, ◌+◌, ◌<◌, ◌^◌, true, List, [], ◌∷◌, ◌++◌, append_assoc, map, length, get_or, take, arith}
 use Rattle.std.specs.List.{list_all}
-use Rattle.std.proofs.lemmas.List.{map-append}
+use Rattle.std.proofs.lemmas.List.{map-append, take_more}
 use Rattle.std.proofs.Math.Nat.{min-eq_left}
 use Rattle.mir_syntax.specs.declared.body.Place.{Place}
 use Rattle.mir_syntax.specs.declared.body.Rvalue.{Rvalue}
@@ -89,3 +89,10 @@ module _ (C : Crate) (h : TypedBody) (trees : List Tree) (locals blocks : ℕ) (
   blocks_copied (k ∷ ks) e =
       let rest = list_all (block_formed C h) (map (block_of trees) ks) in
       ap₂ (λ x xs. x ∷ xs) (block_copied k (and_true-left (block_formed C h (block_of trees k)) rest e)) (blocks_copied ks (and_true-right (block_formed C h (block_of trees k)) rest e))
+
+-- one block more at the end
+pub pushed_more : {A B : Type 0} (f : A → B) (old now now2 : List B) (xs : List A) (i : ℕ) (k : A) (copy : B) → i < length xs → k ≡ get_or xs i k → now ≡ old ++ map f (take i xs) → now2 ≡ now ++ copy ∷ [] → copy ≡ f k → now2 ≡ old ++ map f (take (i + 1) xs)
+pushed_more f old now now2 xs i k copy l there e more is =
+    more ∙ ap₂ (λ ys y. ys ++ y ∷ []) e (is ∙ ap f there)
+    ∙ append_assoc old (map f (take i xs)) (f (get_or xs i k) ∷ [])
+    ∙ ap (λ ys. old ++ ys) (sym (map-append f (take i xs) (get_or xs i k ∷ [])) ∙ ap (map f) (sym (take_more xs i k l)))

@@ -1,10 +1,8 @@
-use Rattle.std.proofs.Common.{◌-◌, length, map}
-use Rattle.mir_cfg.specs.Paths.{block_term}
-use Rattle.call_graph.specs.Ending.{IsEnding, ended_count}
+use Rattle.std.proofs.Common.{◌≡◌, ◌==◌, ℕ, ◌<◌, false}
+use Rattle.std.specs.List.{list_any}
+use Rattle.mir_cfg.specs.Paths.{sources, terms_of}
+use Rattle.call_graph.specs.Graph.{component_in}
 use Rattle.call_graph.proofs.cycles.has_cycle.Given as goal
 
-abbrev pub invariant-loop : goal.invariant-loop
-invariant-loop l = IsEnding (map block_term l.blocks) l.ended.items
-
-abbrev pub decreases-loop : goal.decreases-loop
-decreases-loop l = length l.blocks - ended_count l.ended.items
+abbrev pub invariant-loop-block : goal.invariant-loop-block
+invariant-loop-block l = (b : ℕ) → b < l.block → list_any (λ a. component_in l.components a == component_in l.components b) (sources (terms_of l.body) b) ≡ false

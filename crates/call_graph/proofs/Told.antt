@@ -51,6 +51,11 @@ module _ (G : Graph) (l : IsGraph G) (component : ℕ → ℕ) (c : IsComponents
       let b = back_is f g lt ((reach_grows G l u.0 m).below g u.2) (suc k.0, (u.0, u.1, k.1)) in
       ap (λ (t : Bool). t && (G.below f g || not (stands f (reach G g)))) some ∙ ap (λ (t : Bool). G.below f g || not t) b
 
+  -- the code's answer, where the first path isn't below the second
+  pub told_back : (f g : ℕ) (b same : Bool) → f < G.functions → some_reaches G (G.callees f) g ≡ true → b ≡ G.below f g → b ≡ false → same ≡ (component f == component g) → not same ≡ asks G f g
+  told_back f g b same lt some e no k =
+      ap not k ∙ ap (λ (t : Bool). t || not (component f == component g)) (sym no ∙ e) ∙ sym (told f g lt some)
+
 -- ---- what the code answers
 
 asked_is : (G : Graph) (f g : ℕ) → some_reaches G (G.callees f) g ≡ true → asks G f g ≡ (G.below f g || not (stands f (reach G g)))
