@@ -1,4 +1,5 @@
 pub mod Each
+pub mod Ending
 pub mod Writing
 pub mod Moves
 pub mod Onward

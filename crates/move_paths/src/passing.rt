@@ -93,7 +93,7 @@ impl Passing<'_> {
         }
     }
 
-    fn pass_stmts(&self, stmts: &[Stmt], rows: &mut BitRows, row: u32)
+    pub fn pass_stmts(&self, stmts: &[Stmt], rows: &mut BitRows, row: u32)
         requires within { row < length rows.old }
         requires bits { length (row_at rows.old row) ≡ length self.now.units.now.places }
         ensures { (trees : List Tree) → rows.new ≡ set rows.old row (each_unit (passed_stmts self.now.status (map (stmt_of trees) stmts.now)) self.now.units.now.places (row_at rows.old row)) }
