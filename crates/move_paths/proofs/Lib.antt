@@ -11,3 +11,4 @@ pub mod Statuses
 pub mod Solved
 pub mod Whole
 pub mod Facts
+pub mod Decided
