@@ -3,3 +3,4 @@ pub mod RowPaths
 pub mod OneResult
 pub mod NoDrop
 pub mod Elaborated
+pub mod refines

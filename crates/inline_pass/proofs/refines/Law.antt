@@ -28,8 +28,8 @@ use Rattle.valid_runs.proofs.Blanks.{shapes_tupled}
 use Rattle.valid_runs.proofs.Codes.{valid_code, body_there, body_back}
 use Rattle.valid_runs.proofs.Starts.{args_plain, start_typed}
 use Rattle.valid_runs.proofs.Shown.{Known, step_flat, step_known, start_known}
-use Rattle.mir_relate.specs.Pass.{FewTerm}
-use Rattle.mir_relate.proofs.Rules.{bodies_other, headers_set, calls_few}
+use Rattle.mir_relate.specs.Pass.{ArgsTerm}
+use Rattle.mir_relate.proofs.Rules.{bodies_other, headers_set, calls_all}
 use Rattle.mir_rules.specs.Drops.{is_drop}
 use Rattle.mir_relate.proofs.Leaves.{some_val}
 use Rattle.inline_pass.specs.Lent.{DropFree}
@@ -140,7 +140,7 @@ module _ (C : Crate) (valid : Valid C) (dropless : DropFree C) (f : ℕ) (fn : T
 
   few : suc (length s.args) ≤ length hn.body.locals
   few =
-      let l = subst (FewTerm C1) s.ends (calls_few C valid f fn.body s.block s.found (body_there C.functions f fn fn_at) s.is_found) hn.body (body_there C.functions s.called.0 hn hn_at) in
+      let l = subst (ArgsTerm C1) s.ends (calls_all C valid f fn.body s.block s.found (body_there C.functions f fn fn_at) s.is_found) hn.body (body_there C.functions s.called.0 hn hn_at) in
       let b = args_below C hn.body (body_formed_at C valid s.called.0 hn hn_at) in
       omega (arith, l, b)
 
