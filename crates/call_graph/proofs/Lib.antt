@@ -1,16 +1,16 @@
 pub mod Sums
-mod Once
-mod Reached
-mod Falls
+pub mod Once
+pub mod Reached
+pub mod Falls
 mod PathOrder
 mod Bits
-mod Told
+pub mod Told
 mod Opened
 mod Entering
 mod Listed
 pub mod Tests
 mod Rows
-mod Inside
+pub mod Inside
 pub mod Rising
 pub mod Entered
 pub mod Joining

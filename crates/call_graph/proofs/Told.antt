@@ -29,7 +29,7 @@ module _ (G : Graph) (l : IsGraph G) (component : ℕ → ℕ) (c : IsComponents
   along zero f g lt k = let e : component f ≡ component g = ap component k in omega (arith, e)
   along (suc n) f g lt k = let a = c.earlier f k.0 lt k.1 in let b = along n k.0 g (l.callees_below f k.0 k.1) k.2 in omega (arith, a, b)
 
-  reaches_earlier : (f g : ℕ) → f < G.functions → Reaches G f g → component g ≤ component f
+  pub reaches_earlier : (f g : ℕ) → f < G.functions → Reaches G f g → component g ≤ component f
   reaches_earlier f g lt r = along r.0 f g lt r.1
 
   -- whom f reaches reaches f exactly where they have one component
