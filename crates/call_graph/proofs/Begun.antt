@@ -1,13 +1,11 @@
 -- The search for components at its start.
-use Rattle.std.proofs.Common.{◌≡◌, ◌≢◌, refl, sym, ap, subst, ◌∙◌, ℕ, zero, suc, ◌+◌, ◌<◌, ◌≤◌, Bool, true, false, List, [], ◌∷◌, length, get_or, arith}
+use Rattle.std.proofs.Common.{◌≡◌, refl, sym, subst, ◌∙◌, ℕ, zero, suc, [], get_or, arith}
 use Rattle.std.specs.Prelude.{replicate}
 use Rattle.std.proofs.lemmas.List.{length-replicate}
 use Rattle.std.proofs.lemmas.List.Sums.{sum_by-cons}
-use Rattle.bit_rows.specs.Rows.{stands}
-use Rattle.call_graph.specs.declared.components.Mark.{Mark}
-use Rattle.call_graph.specs.declared.components.Mark.TheVariants.{Unseen, OnStack, Closed}
+use Rattle.call_graph.specs.declared.components.Mark.TheVariants.{Unseen}
 use Rattle.call_graph.specs.Graph.{Graph}
-use Rattle.call_graph.specs.Search.{State, mark_of, unseen_one, unseen, IsSearch}
+use Rattle.call_graph.specs.Search.{State, unseen_one, unseen, IsSearch}
 
 everywhere : {A : Type 0} (n : ℕ) (x : A) (i : ℕ) → get_or (replicate n x) i x ≡ x
 everywhere zero x i = refl

@@ -1,5 +1,5 @@
 -- A function is found in the search for components.
-use Rattle.std.proofs.Common.{◌≡◌, ◌≢◌, refl, sym, ap, subst, ◌∙◌, ℕ, zero, suc, ◌+◌, ◌*◌, ◌<◌, ◌≤◌, Bool, true, false, List, [], ◌∷◌, ◌++◌, length, get_or, set, ◌⊎◌, inl, inr, arith, length-append, get_or-set_same, get_or-set_other}
+use Rattle.std.proofs.Common.{◌≡◌, ◌≢◌, sym, ap, subst, ◌∙◌, ℕ, ◌+◌, ◌<◌, true, false, List, [], ◌∷◌, ◌++◌, length, get_or, set, ◌⊎◌, inl, inr, arith, length-append, get_or-set_same, get_or-set_other}
 use Rattle.std.proofs.Math.ListN.{get_or-append, length-set}
 use Rattle.std.proofs.Math.Seq.{get_or-append_seam}
 use Rattle.std.proofs.lemmas.List.Sums.{sum_by-set}
@@ -8,7 +8,7 @@ use Rattle.bit_rows.specs.Rows.{stands}
 use Rattle.call_graph.specs.declared.components.Mark.{Mark}
 use Rattle.call_graph.specs.declared.components.Mark.TheVariants.{Unseen, OnStack, Closed}
 use Rattle.call_graph.specs.Graph.{Graph, Reaches}
-use Rattle.call_graph.specs.Search.{State, mark_of, on_stack, Rising, Ahead, IsLed, unseen_one, unseen, IsSized, IsStack, IsPath, IsLooked, IsClosed, IsSearch, entered}
+use Rattle.call_graph.specs.Search.{State, mark_of, on_stack, Ahead, IsLed, unseen_one, unseen, IsSized, IsStack, IsPath, IsLooked, IsClosed, IsSearch, entered}
 use Rattle.call_graph.proofs.Once.{both, stands_first, stands_append, stands_left, stands_right}
 use Rattle.call_graph.proofs.Rising.{stands_one, not_left, rising_snoc}
 

@@ -1,12 +1,11 @@
 -- Parts are joined, and a callee more was looked at, in the search for components.
-use Rattle.std.proofs.Common.{◌≡◌, ◌≢◌, refl, sym, ap, subst, ◌∙◌, ℕ, zero, suc, ◌+◌, ◌<◌, ◌≤◌, Bool, true, false, List, [], ◌∷◌, ◌++◌, length, get_or, set, ◌⊎◌, inl, inr, arith, get_or-set_same, get_or-set_other}
+use Rattle.std.proofs.Common.{◌≡◌, ◌≢◌, refl, sym, ap, subst, ◌∙◌, ℕ, suc, ◌+◌, ◌<◌, ◌≤◌, true, false, List, length, get_or, ◌⊎◌, inl, inr, arith, get_or-set_same, get_or-set_other}
 use Rattle.std.proofs.Math.ListN.{length-set}
 use Rattle.std.proofs.lemmas.Bool.{cases_eq}
 use Rattle.bit_rows.specs.Rows.{stands}
-use Rattle.call_graph.specs.declared.components.Mark.{Mark}
-use Rattle.call_graph.specs.declared.components.Mark.TheVariants.{Unseen, OnStack, Closed}
-use Rattle.call_graph.specs.Graph.{Graph, Chain, Reaches}
-use Rattle.call_graph.specs.Search.{State, mark_of, on_stack, Rising, Ahead, IsLed, IsSized, IsStack, IsPath, IsLooked, IsClosed, IsSearch, Joined, looked_more}
+use Rattle.call_graph.specs.declared.components.Mark.TheVariants.{Unseen, OnStack}
+use Rattle.call_graph.specs.Graph.{Graph, Reaches}
+use Rattle.call_graph.specs.Search.{State, mark_of, on_stack, Ahead, IsLed, IsSearch, Joined, looked_more}
 use Rattle.call_graph.proofs.Once.{both}
 use Rattle.call_graph.proofs.Reached.{reaches_trans}
 use Rattle.call_graph.proofs.Rising.{Joins, rising_last}

@@ -1,14 +1,13 @@
 -- The last function of the path is left in the search for components, and closes one where a part begins with it.
-use Rattle.std.proofs.Common.{◌≡◌, ◌≢◌, refl, sym, ap, subst, ◌∙◌, ℕ, zero, suc, ◌+◌, ◌-◌, ◌<◌, ◌≤◌, Bool, true, false, List, [], ◌∷◌, ◌++◌, length, get_or, set, take, drop, length-drop, ◌⊎◌, inl, inr, arith}
+use Rattle.std.proofs.Common.{◌≡◌, ◌≢◌, sym, ap, subst, ◌∙◌, ℕ, ◌+◌, ◌-◌, ◌<◌, ◌≤◌, true, false, List, [], ◌∷◌, ◌++◌, length, get_or, drop, length-drop, ◌⊎◌, inl, inr, arith}
 use Rattle.std.proofs.lemmas.List.{get_or-drop, get_or-take, length-take-le}
 use Rattle.std.proofs.lemmas.Bool.{cases_eq}
 use Rattle.bit_rows.specs.Rows.{stands}
-use Rattle.call_graph.specs.declared.components.Mark.{Mark}
 use Rattle.call_graph.specs.declared.components.Mark.TheVariants.{Unseen, OnStack, Closed}
-use Rattle.call_graph.specs.Graph.{Graph, Chain, Reaches}
-use Rattle.call_graph.specs.Search.{State, mark_of, on_stack, Rising, Ahead, IsLed, unseen, IsSized, IsStack, IsPath, IsLooked, IsClosed, IsSearch, closed_from}
+use Rattle.call_graph.specs.Graph.{Graph, Reaches}
+use Rattle.call_graph.specs.Search.{State, mark_of, on_stack, Rising, Ahead, IsLed, unseen, IsStack, IsPath, IsLooked, IsClosed, IsSearch, closed_from}
 use Rattle.call_graph.proofs.Once.{bool_tells, both, stands_first, stands_append, stands_left, stands_right}
-use Rattle.call_graph.proofs.Rising.{stands_one, stands_at, stands_where, not_left, not_snoc, rising_front}
+use Rattle.call_graph.proofs.Rising.{stands_one, stands_at, stands_where, not_snoc, rising_front}
 use Rattle.call_graph.proofs.AllSet.{all_set_long, all_set_else, all_set_there, unseen_kept}
 
 module _ (G : Graph) (s : State) (c : IsSearch G s) (front : List ℕ) (p : ℕ) (popped : s.path ≡ front ++ p ∷ []) (done : get_or s.looked (on_stack s p) 0 ≡ length (G.callees (on_stack s p))) where

@@ -1,5 +1,5 @@
 -- What the search for components has found at its end.
-use Rattle.std.proofs.Common.{◌≡◌, ◌≢◌, refl, sym, ap, subst, ◌∙◌, ℕ, zero, suc, ◌<◌, ◌≤◌, Bool, true, false, List, [], ◌∷◌, length, get_or, ◌⊎◌, inl, inr, arith}
+use Rattle.std.proofs.Common.{◌≡◌, ◌≢◌, refl, sym, ap, subst, ℕ, zero, suc, ◌<◌, ◌≤◌, true, List, [], length, arith}
 use Rattle.std.specs.Prelude.{◌↔◌}
 use Rattle.bit_rows.specs.Rows.{stands}
 use Rattle.call_graph.specs.declared.components.Mark.{Mark}

@@ -1,14 +1,13 @@
 -- A step of the search for components keeps what holds, and leaves less to do.
-use Rattle.std.proofs.Common.{◌≡◌, ◌≢◌, refl, sym, ap, ap₂, subst, ◌∙◌, ℕ, zero, suc, ◌+◌, ◌-◌, ◌*◌, ◌<◌, ◌≤◌, Bool, true, false, List, [], ◌∷◌, ◌++◌, map, length, get_or, set, ◌⊎◌, inl, inr, arith, length-append, get_or-set_same, get_or-set_other}
+use Rattle.std.proofs.Common.{◌≡◌, ◌≢◌, refl, sym, ap, ap₂, subst, ◌∙◌, ℕ, zero, suc, ◌+◌, ◌-◌, ◌<◌, ◌≤◌, true, false, List, [], ◌∷◌, ◌++◌, map, length, get_or, set, ◌⊎◌, inl, inr, arith, length-append, get_or-set_same, get_or-set_other}
 use Rattle.std.proofs.lemmas.List.{length-map, get_or_default, get_or-map}
 use Rattle.std.proofs.Math.Seq.{get_or-append_seam}
 use Rattle.std.proofs.lemmas.Bool.{cases_eq}
 use Rattle.bit_rows.specs.Rows.{stands}
-use Rattle.call_graph.specs.declared.components.Mark.{Mark}
-use Rattle.call_graph.specs.declared.components.Mark.TheVariants.{Unseen, OnStack, Closed}
-use Rattle.call_graph.specs.Graph.{Graph, Reaches, listed, StaysInside}
-use Rattle.call_graph.specs.Search.{State, graph_by, mark_of, on_stack, IsLed, unseen, IsSearch, Joined, Left, LookedAt, Sees, Stepped, entered, looked_more, closed_from, to_look, work}
-use Rattle.call_graph.proofs.Once.{bool_tells, both}
+use Rattle.call_graph.specs.declared.components.Mark.TheVariants.{Unseen, OnStack}
+use Rattle.call_graph.specs.Graph.{Reaches, listed, StaysInside}
+use Rattle.call_graph.specs.Search.{State, graph_by, mark_of, on_stack, IsLed, IsSearch, Joined, Left, LookedAt, Sees, Stepped, entered, looked_more, closed_from, to_look}
+use Rattle.call_graph.proofs.Once.{bool_tells}
 use Rattle.call_graph.proofs.Reached.{reaches_trans}
 use Rattle.call_graph.proofs.Rising.{stands_at, rising_last}
 use Rattle.call_graph.proofs.Entered.{entering, unseen_less}

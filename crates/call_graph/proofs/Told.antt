@@ -53,8 +53,8 @@ module _ (G : Graph) (l : IsGraph G) (component : ℕ → ℕ) (c : IsComponents
 
   -- the code's answer, where the first path isn't below the second
   pub told_back : (f g : ℕ) (b same : Bool) → f < G.functions → some_reaches G (G.callees f) g ≡ true → b ≡ G.below f g → b ≡ false → same ≡ (component f == component g) → not same ≡ asks G f g
-  told_back f g b same lt some e no k =
-      ap not k ∙ ap (λ (t : Bool). t || not (component f == component g)) (sym no ∙ e) ∙ sym (told f g lt some)
+  told_back f g b same lt some e unlike k =
+      ap not k ∙ ap (λ (t : Bool). t || not (component f == component g)) (sym unlike ∙ e) ∙ sym (told f g lt some)
 
 -- ---- what the code answers
 

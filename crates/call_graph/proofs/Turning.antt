@@ -6,10 +6,12 @@ use Rattle.std.proofs.lemmas.Bool.{eq-eqb}
 use Rattle.std.proofs.lemmas.List.{length-map, get_or-map, get_or_past, map-id}
 use Rattle.std.proofs.lemmas.List.FromFn.{get_or-range_with_len, length-range_with_len}
 use Rattle.bit_rows.specs.Rows.{stands}
+use Rattle.mir_syntax.specs.declared.body.Block.{Block}
 use Rattle.mir_syntax.specs.declared.body.Term.{Term}
-use Rattle.mir_cfg.specs.Paths.{exits, Closed, edges_between, sources}
+use Rattle.mir_cfg.specs.Paths.{exits, block_term, Closed, edges_between, sources}
 use Rattle.call_graph.specs.Graph.{Graph, Chain, Reaches, IsComponents, HasLists, StaysInside, component_in}
 use Rattle.call_graph.specs.Qualif.{goes_on, has_cycle}
+use Rattle.call_graph.specs.Search.{is_with, turns}
 use Rattle.call_graph.proofs.Once.{bool_tells, both, stands_cases, stands_first, stands_later, stands_append, stands_left, stands_right}
 use Rattle.call_graph.proofs.Rising.{stands_at, stands_where}
 
@@ -49,7 +51,7 @@ flat_where f (z ∷ xs) x e = go (stands_append x (f z) (flat_map f xs) e) (flat
 
 range_has : (n x : ℕ) → x < n → stands x (range_with_len 0 n) ≡ true
 range_has n x l =
-    subst (λ y. stands y (range_with_len 0 n) ≡ true) (get_or-range_with_len 0 n x 0 l)
+    subst (λ y. stands y (range_with_len 0 n) ≡ true) (get_or-range_with_len 0 n x 0 l ∙ (let z : 0 + x ≡ x = omega arith in z))
     (stands_at (range_with_len 0 n) x (let k = length-range_with_len 0 n in omega (arith, k, l)))
 
 range_low : (n x : ℕ) → stands x (range_with_len 0 n) ≡ true → x < n
@@ -58,6 +60,21 @@ range_low n x e =
     let l : w.0 < n = (let k = length-range_with_len 0 n in let m = w.1 in omega (arith, k, m)) in
     let s = sym (get_or-range_with_len 0 n w.0 0 l) ∙ w.2 in
     omega (arith, s, l)
+
+pub some_below : (p : ℕ → Bool) (n b : ℕ) → b < n → p b ≡ true → list_any p (range_with_len 0 n) ≡ true
+some_below p n b l e = any_of p (range_with_len 0 n) b (range_has n b l) e
+
+none_below : (p : ℕ → Bool) (n : ℕ) → list_any p (range_with_len 0 n) ≡ false → (b : ℕ) → b < n → p b ≡ false
+none_below p n none b l = elim (bool_tells (p b)) [
+  | inr e ↦ e
+  | inl e ↦ absurd (both (list_any p (range_with_len 0 n)) (some_below p n b l e) none)
+]
+
+pub none_at_all : (p : ℕ → Bool) (n : ℕ) → ((b : ℕ) → b < n → p b ≡ false) → list_any p (range_with_len 0 n) ≡ false
+none_at_all p n none = elim (bool_tells (list_any p (range_with_len 0 n))) [
+  | inr e ↦ e
+  | inl e ↦ (let w = any_where p (range_with_len 0 n) e in absurd (both (p w.0) w.2 (none w.0 (range_low n w.0 w.1))))
+]
 
 -- ---- edges and their ends
 
@@ -118,8 +135,8 @@ module _ (terms : List Term) (closed : Closed terms) where
         subst (λ m. goes_on terms m a ≡ true) (let z : k + suc n ≡ suc k + n = omega arith in z) (goes_along k (suc n) h.0 a s.0 h.2 (goes_before n h.0 b s.1 e))
 
     -- an edge within a component is on a path that never ends
-    pub turns : (a b : ℕ) → b < length terms → stands a (sources terms b) ≡ true → component a ≡ component b → has_cycle terms ≡ true
-    turns a b l e same = any_of (goes_on terms (length terms)) (range_with_len 0 (length terms)) a (range_has (length terms) a s.0) (forever (length terms))
+    pub goes_round : (a b : ℕ) → b < length terms → stands a (sources terms b) ≡ true → component a ≡ component b → has_cycle terms ≡ true
+    goes_round a b l e same = any_of (goes_on terms (length terms)) (range_with_len 0 (length terms)) a (range_has (length terms) a s.0) (forever (length terms))
       where
         s : (a < length terms) × (stands b (exits terms a) ≡ true)
         s = source_where a b e
@@ -158,6 +175,11 @@ module _ (terms : List Term) (closed : Closed terms) where
 
 -- ---- the graph of the edges, each from its end to its source
 
+-- as many terminators as blocks
+pub by_terms : (blocks : List Block) (lists : List (List ℕ)) → lists ≡ map (sources (map block_term blocks)) (range_with_len 0 (length blocks))
+    → lists ≡ map (sources (map block_term blocks)) (range_with_len 0 (length (map block_term blocks)))
+by_terms blocks lists is = is ∙ ap (λ n. map (sources (map block_term blocks)) (range_with_len 0 n)) (sym (length-map blocks block_term))
+
 module _ (terms : List Term) (closed : Closed terms) (lists : List (List ℕ)) (is : lists ≡ map (sources terms) (range_with_len 0 (length terms))) where
   pub lists_long : length lists ≡ length terms
   lists_long = ap length is ∙ length-map (range_with_len 0 (length terms)) (sources terms) ∙ length-range_with_len 0 (length terms)
@@ -166,7 +188,7 @@ module _ (terms : List Term) (closed : Closed terms) (lists : List (List ℕ)) (
   lists_at b l =
       ap (λ xs. get_or xs b []) is
       ∙ get_or-map (sources terms) (range_with_len 0 (length terms)) b 0 [] (let k = length-range_with_len 0 (length terms) in omega (arith, k, l))
-      ∙ ap (sources terms) (get_or-range_with_len 0 (length terms) b 0 l)
+      ∙ ap (sources terms) (get_or-range_with_len 0 (length terms) b 0 l ∙ (let z : 0 + b ≡ b = omega arith in z))
 
   pub inside : StaysInside (λ n. n) lists
   inside f g e = elim (let d : (f < length terms) ⊎ (length terms ≤ f) = grind arith in d) [
@@ -184,13 +206,22 @@ module _ (terms : List Term) (closed : Closed terms) (lists : List (List ℕ)) (
     below : (a : ℕ) → a < length terms → component_in numbers a < length terms
     below a l = let k = lists_long in let m = low a (omega (arith, k, l)) in omega (arith, k, m)
 
-    pub cycle_there : (b : ℕ) → b < length terms → list_any (λ a. component_in numbers a == component_in numbers b) (sources terms b) ≡ true → has_cycle terms ≡ true
+    cycle_there : (b : ℕ) → b < length terms → list_any (is_with numbers b) (sources terms b) ≡ true → has_cycle terms ≡ true
     cycle_there b l e =
-        let w = any_where (λ a. component_in numbers a == component_in numbers b) (sources terms b) e in
+        let w = any_where (is_with numbers b) (sources terms b) e in
         let same : component_in numbers w.0 ≡ component_in numbers b = (let t = w.2 in grind (arith, nat_tests)) in
-        turns terms closed turned refl (λ b l. refl) (component_in numbers) c below w.0 b l w.1 same
+        goes_round terms closed turned refl (λ b l. refl) (component_in numbers) c below w.0 b l w.1 same
 
-    pub no_cycle : ((b : ℕ) → b < length terms → list_any (λ a. component_in numbers a == component_in numbers b) (sources terms b) ≡ false) → has_cycle terms ≡ false
+    no_cycle : ((b : ℕ) → b < length terms → list_any (is_with numbers b) (sources terms b) ≡ false) → has_cycle terms ≡ false
     no_cycle none = ends_all terms closed turned refl (λ b l. refl) (component_in numbers) c below (λ a b l e same.
-        both (list_any (λ a. component_in numbers a == component_in numbers b) (sources terms b))
-        (any_of (λ a. component_in numbers a == component_in numbers b) (sources terms b) a e (eq-eqb (component_in numbers a) (component_in numbers b) same)) (none b l))
+        both (list_any (is_with numbers b) (sources terms b))
+        (any_of (is_with numbers b) (sources terms b) a e (eq-eqb (component_in numbers a) (component_in numbers b) same)) (none b l))
+
+    pub cycle_is : list_any (turns numbers lists) (range_with_len 0 (length lists)) ≡ has_cycle terms
+    cycle_is = elim (bool_tells (list_any (turns numbers lists) (range_with_len 0 (length lists)))) [
+      | inl e ↦ (let w = any_where (turns numbers lists) (range_with_len 0 (length lists)) e in
+          let l : w.0 < length terms = (let k = range_low (length lists) w.0 w.1 in let n = lists_long in omega (arith, k, n)) in
+          e ∙ sym (cycle_there w.0 l (subst (λ xs. list_any (is_with numbers w.0) xs ≡ true) (lists_at w.0 l) w.2)))
+      | inr e ↦ e ∙ sym (no_cycle (λ b l. subst (λ xs. list_any (is_with numbers b) xs ≡ false) (lists_at b l)
+          (none_below (turns numbers lists) (length lists) e b (let n = lists_long in omega (arith, n, l)))))
+    ]

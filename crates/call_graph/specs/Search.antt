@@ -1,10 +1,11 @@
 -- What holds while components are found. No promise of a public call rests on these.
-use Rattle.std.specs.Prelude.{◌≡◌, ◌≢◌, ◌⊎◌, ℕ, ◌+◌, ◌-◌, ◌*◌, ◌<◌, ◌≤◌, Bool, true, false, List, [], ◌∷◌, ◌++◌, map, length, get_or, set, take, drop, sum_by}
+use Rattle.std.specs.Prelude.{◌≡◌, ◌≢◌, ◌⊎◌, ℕ, ◌+◌, ◌-◌, ◌*◌, ◌<◌, ◌≤◌, ◌==◌, Bool, true, false, List, [], ◌∷◌, ◌++◌, length, get_or, set, take, drop, sum_by}
+use Rattle.std.specs.List.{list_any}
 use Rattle.bit_rows.specs.Rows.{stands}
 use Rattle.call_graph.specs.declared.components.Mark.{Mark}
 use Rattle.call_graph.specs.declared.components.Mark.TheVariants.{Unseen, OnStack, Closed}
 use Rattle.call_graph.specs.declared.components.Search.{Search}
-use Rattle.call_graph.specs.Graph.{Graph, Reaches, listed}
+use Rattle.call_graph.specs.Graph.{Graph, Reaches, listed, component_in}
 
 -- the graph of these lists
 abbrev pub graph_by : {A : Type 0} → (A → ℕ) → List (List A) → Graph
@@ -171,3 +172,13 @@ pub record Stepped {A : Type 0} (number : A → ℕ) (lists : List (List A)) (s 
   pub search : IsSearch (graph_by number lists) t
   pub seen : Sees s t
   pub less : work lists t < work lists s
+
+-- ---- blocks that go round
+
+-- a node is in the component of another
+abbrev pub is_with : List ℕ → ℕ → ℕ → Bool
+is_with numbers b a = component_in numbers a == component_in numbers b
+
+-- one of those that lead to a node is in its component
+abbrev pub turns : List ℕ → List (List ℕ) → ℕ → Bool
+turns numbers sources b = list_any (is_with numbers b) (get_or sources b [])

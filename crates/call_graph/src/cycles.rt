@@ -1,13 +1,14 @@
 //! Bodies that may be inlined more freely.
-ghost use Rattle.std.specs.Prelude.{◌≡◌, ◌==◌, ◌<◌, ◌^◌, map, length, IfOk};
-ghost use Rattle.std.specs.List.{All, list_all, list_any};
+ghost use Rattle.std.specs.Prelude.{◌≡◌, ◌<◌, ◌^◌, map, length, IfOk};
+ghost use Rattle.std.specs.List.{All, list_all, list_any, range_with_len};
 ghost use Rattle.mir_cfg.specs.Paths.{block_term, terms_of, Closed};
-ghost use Rattle.call_graph.specs.Graph.{component_in};
+ghost use Rattle.call_graph.specs.Graph.{StaysInside};
 ghost use Rattle.call_graph.specs.Qualif as of;
+ghost use Rattle.call_graph.specs.Search.{is_with, turns};
 
 use crate::components::Components;
 use mir_cfg::preds;
-use mir_syntax::{Block, Body, OutOfMemory, Term};
+use mir_syntax::{Block, Body, List, OutOfMemory, Term};
 use std::alloc::Global;
 
 fn is_plain(term: &Term) -> bool
@@ -39,10 +40,25 @@ fn all_plain(blocks: &[Block]) -> bool
 fn turns_at(components: &Components, block: u32, sources: &[u32]) -> bool
     requires block { block < length components.now }
     requires sources { All (λ a. a < length components.now) sources.now }
-    ensures { result ≡ list_any (λ a. component_in components.now a == component_in components.now block) sources.now }
+    ensures { result ≡ list_any (is_with components.now block) sources.now }
 {
     for source in sources {
         if components.same(source, &block) {
+            return true;
+        }
+    }
+    false
+}
+
+/// Whether an edge joins two blocks of one component, where the blocks that go to each block are listed.
+fn some_turns(components: &Components, sources: &[List<u32>]) -> bool
+    requires blocks { length components.now ≡ length sources.now }
+    requires few { length sources.now < 2 ^ 32 }
+    requires inside { StaysInside (λ n. n) sources.now }
+    ensures { result ≡ list_any (turns components.now sources.now) (range_with_len 0 (length sources.now)) }
+{
+    for block in 0..sources.len() as u32 {
+        if turns_at(components, block, sources[block as usize].as_slice()) {
             return true;
         }
     }
@@ -57,13 +73,7 @@ fn has_cycle(alloc: Global, body: &Body) -> Result<bool, OutOfMemory>
 {
     let sources = preds(alloc, body)?;
     let components = Components::new(alloc, sources.as_slice())?;
-    for block in 0..body.blocks.len() as u32 {
-        let from = sources.as_slice()[block as usize].as_slice();
-        if turns_at(&components, block, from) {
-            return Ok(true);
-        }
-    }
-    Ok(false)
+    Ok(some_turns(&components, sources.as_slice()))
 }
 
 /// Whether a body has no call, no drop, no assert and no cycle of blocks; also blocks count that no path reaches.

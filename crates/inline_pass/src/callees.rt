@@ -40,16 +40,16 @@ fn most_cost(large: bool, free: bool) -> u64
     }
 }
 
-/// Whether a body is inlined that is lent for a function with this attribute.
-fn takes<C: CalleeBodies>(large: bool, inline: Inline, bodies: &C, g: FnId, body: &FlatBody) -> bool
-    requires { C.lent bodies.now g.0 ≢ None }
-    ensures { (trees : ListOf Tree) → result ≡ takes large inline (C.qualifies bodies.now g.0) (body_of trees body.now) }
+/// Whether a body is inlined into a caller that is large or isn't, by the attribute of its function and by whether that one qualifies to be
+/// inlined more freely.
+pub fn takes(large: bool, inline: Inline, qualifies: bool, body: &FlatBody) -> bool
+    ensures { (trees : ListOf Tree) → result ≡ takes large inline qualifies (body_of trees body.now) }
 {
     match inline {
         Inline::Always => true,
         Inline::Never => false,
         Inline::Hint => cost_flat(body) <= most_cost(large, true),
-        Inline::Plain => cost_flat(body) <= most_cost(large, bodies.qualif(g)),
+        Inline::Plain => cost_flat(body) <= most_cost(large, qualifies),
     }
 }
 
@@ -65,7 +65,7 @@ fn taken<'a, C: CalleeBodies>(
 {
     let function = program.functions.get(g.0 as usize)?;
     let body = bodies.body(g)?;
-    if takes(large, function.inline, bodies, g, body) {
+    if takes(large, function.inline, bodies.qualif(g), body) {
         Some(body)
     } else {
         None

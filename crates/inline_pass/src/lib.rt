@@ -3,7 +3,7 @@
 //! `specs/Spliced.antt` says what comes of a body: one call is replaced (`with_call`), all of them in rounds over the blocks (`spliced`), of a
 //! function that is inlined the parameter `taken` giving the body. A destination behind a reference is resolved before the callee runs, and
 //! a call stays where the body without it would pass a limit. Which bodies are taken of those that are lent (`CalleeBodies`) is `specs/Takes.antt`:
-//! by the function's attribute, by what the body costs, and by whether it is plain enough to be inlined more freely.
+//! by the function's attribute, by what the body costs, and by whether it is plain enough to be inlined more freely (`takes`).
 //!
 //! The contract of `spliced` is that the result is the defined one. A callee is a `FlatBody`: `copies` renumbers slices of its one table, `call` puts them in the place of one call,
 //! `size` tells beforehand whether there is room, and `splice` goes over the blocks (`proofs/equal`).
@@ -21,6 +21,6 @@ mod laws;
 mod size;
 mod splice;
 
-pub use callees::CalleeBodies;
+pub use callees::{CalleeBodies, takes};
 pub use laws::{asked_are_lent, spliced_refines, spliced_stays_valid};
 pub use splice::spliced;

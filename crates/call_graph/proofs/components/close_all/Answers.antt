@@ -1,7 +1,6 @@
-use Rattle.std.proofs.Common.{◌<◌, sym, ap, subst, length, arith}
+use Rattle.std.proofs.Common.{arith}
 use Rattle.call_graph.specs.declared.components.Mark.TheVariants.{Closed}
-use Rattle.call_graph.proofs.AllSet.{all_set_long, all_set_more}
-use Rattle.std.proofs.lemmas.List.{take_all}
+use Rattle.call_graph.proofs.AllSet.{all_set_more}
 use Rattle.call_graph.proofs.components.close_all.Goals as goal
 
 pub loop-f-preserved : goal.loop-f-preserved

@@ -1,4 +1,4 @@
-use Rattle.std.proofs.Common.{◌-◌, ◌^◌, List, length, min, ap, sym, ◌∙◌, map, get_or, arith}
+use Rattle.std.proofs.Common.{◌-◌, ◌^◌, min, ap, ◌∙◌, map, arith}
 use Rattle.std.specs.Prelude.{sum_by}
 use Rattle.std.proofs.lemmas.List.{take_all}
 use Rattle.mir_syntax.specs.declared.body.Block.{Block}
@@ -21,4 +21,4 @@ loop-block-preserved c =
 
 pub returns : goal.returns
 unfolding cost
-returns c = λ trees. c.loop-block.invariant trees ∙ ap (λ xs. min (sum_by block_cost (map (block_of trees) xs)) (2 ^ 64 - 1)) (take_all c.loop-block.block c.args.body.now.blocks (let e = c.loop-block-test.false in omega (arith, e, c.blocks.ensures)))
+returns c = λ trees. c.loop-block.invariant trees ∙ ap (λ xs. min (sum_by block_cost (map (block_of trees) xs)) (2 ^ 64 - 1)) (take_all c.loop-block.block c.args.body.now.blocks (let e = c.loop-block-test.false in let m = c.blocks-block-end.ensures in omega (arith, e, m)))

@@ -20,4 +20,4 @@ loop-block-preserved c =
     (c.copied.ensures trees ∙ ap (λ (b : Block). capped (copied_in (block_of trees b))) there.1)
 
 pub returns : goal.returns
-returns c = λ trees. c.loop-block.invariant trees ∙ ap (λ xs. capped (sum_by copied_in (map (block_of trees) xs))) (take_all c.loop-block.block c.args.callee.now.blocks (let e = c.loop-block-test.false in omega (arith, e, c.blocks.ensures)))
+returns c = λ trees. c.loop-block.invariant trees ∙ ap (λ xs. capped (sum_by copied_in (map (block_of trees) xs))) (take_all c.loop-block.block c.args.callee.now.blocks (let e = c.loop-block-test.false in let m = c.blocks-block-end.ensures in omega (arith, e, m)))

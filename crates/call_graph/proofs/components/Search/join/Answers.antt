@@ -1,4 +1,4 @@
-use Rattle.std.proofs.Common.{◌≡◌, ◌+◌, ◌-◌, ◌<◌, refl, sym, ap, ◌∙◌, suc, length, get_or, Some, arith}
+use Rattle.std.proofs.Common.{◌≡◌, ◌-◌, refl, sym, ap, ◌∙◌, length, get_or, Some, arith}
 use Rattle.std.proofs.lemmas.List.{get_or_default}
 use Rattle.call_graph.specs.Search.{State, state_of}
 use Rattle.call_graph.proofs.Rising.{joins_less, some_there, popped_last}
