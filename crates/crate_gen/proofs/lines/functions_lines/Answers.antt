@@ -1,4 +1,4 @@
-use Rattle.std.proofs.Common.{◌≡◌, ◌<◌, ◌+◌, ◌-◌, ◌*◌, ◌++◌, ◌∷◌, [], sym, ap, ◌∙◌, arith}
+use Rattle.std.proofs.Common.{◌≡◌, ◌<◌, ◌+◌, ◌-◌, ◌*◌, ◌++◌, ◌∷◌, sym, ap, ◌∙◌, arith}
 use Rattle.crate_gen.specs.Made.{functions_lines}
 use Rattle.crate_gen.proofs.Loops.{one_made, lines_more}
 use Rattle.crate_gen.proofs.lines.functions_lines.Goals as goal
