@@ -11,6 +11,6 @@ abbrev pub drawn : ℕ → ℕ → ℕ
 drawn below x = (next x / 65536) % below
 
 -- so many draws below a bound
-abbrev pub draws : ℕ → ℕ → ℕ → List ℕ
+unfoldable pub draws : ℕ → ℕ → ℕ → List ℕ
 draws below zero x = []
 draws below (suc count) x = drawn below x ∷ draws below count (next x)

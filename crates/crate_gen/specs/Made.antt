@@ -1,7 +1,6 @@
 -- The crate that is made from a number: so many functions of one shape, each of which compares a constant with a bound and calls one of two
 -- functions. What is compared and called is drawn.
 use Rattle.std.specs.Prelude.{ℕ, zero, suc, ◌+◌, ◌/◌, ◌%◌, List, [], ◌∷◌, false, None}
-use Rattle.mir_syntax.specs.declared.types.FnId.{FnId}
 use Rattle.mir_syntax.specs.declared.types.IntTy.TheVariants as int_ty
 use Rattle.mir_syntax.specs.declared.types.ScalarTy.TheVariants as scalar_ty
 use Rattle.mir_syntax.specs.declared.body.BinOp.{BinOp}

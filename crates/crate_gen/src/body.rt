@@ -1,6 +1,8 @@
-ghost use Rattle.std.specs.Prelude.{◌≡◌, [], ◌∷◌, List, map, IfOk};
+ghost use Rattle.std.specs.Prelude.{◌≡◌, ◌<◌, [], ◌∷◌, ℕ, List, map, IfOk, IsTrue};
 ghost use Rattle.mir_syntax.specs.Tree.{Tree, at_id};
 ghost use Rattle.mir_syntax.specs.Crate.{block_of, body_of};
+ghost use Rattle.mir_syntax.specs.Table.{all_below};
+ghost use Rattle.mir_syntax.specs.Ids.{block_below, body_below};
 ghost use Rattle.crate_gen.specs.Made.{whole, copied, number, number_ty, bool_ty, comparing, calling, returning, made_body};
 
 use crate::choice::Choice;
@@ -40,7 +42,8 @@ fn number(value: u32) -> Operand
 
 /// The block that compares.
 fn comparing(alloc: Global, choice: Choice) -> Result<Block, OutOfMemory>
-    ensures { IfOk result (λ block. (trees : List Tree) → block_of trees block ≡ comparing choice) }
+    ensures made { IfOk result (λ block. (trees : List Tree) → block_of trees block ≡ comparing choice) }
+    ensures ids { IfOk result (λ block. (n : ℕ) → IsTrue (block_below n block)) }
 {
     let made = Rvalue::Binary(choice.op, copied(alloc, 1), copied(alloc, 3));
     let compared = Rvalue::Binary(BinOp::Lt, copied(alloc, 3), number(choice.bound));
@@ -56,7 +59,8 @@ fn comparing(alloc: Global, choice: Choice) -> Result<Block, OutOfMemory>
 
 /// A block that calls a function with two locals.
 fn calling(alloc: Global, function: u32, a: u32, b: u32) -> Result<Block, OutOfMemory>
-    ensures { IfOk result (λ block. (trees : List Tree) → block_of trees block ≡ calling function a b) }
+    ensures made { IfOk result (λ block. (trees : List Tree) → block_of trees block ≡ calling function a b) }
+    ensures ids { IfOk result (λ block. (n : ℕ) → IsTrue (block_below n block)) }
 {
     let mut args = List::with_capacity(alloc, 2)?;
     args.push(copied(alloc, a))?;
@@ -68,8 +72,19 @@ fn calling(alloc: Global, function: u32, a: u32, b: u32) -> Result<Block, OutOfM
     })
 }
 
+fn returning(alloc: Global) -> Block
+    ensures made { (trees : List Tree) → block_of trees result ≡ returning }
+    ensures ids { (n : ℕ) → IsTrue (block_below n result) }
+{
+    Block {
+        stmts: List::new(alloc),
+        term: Term::Return,
+    }
+}
+
 fn locals(alloc: Global, types: Types) -> Result<List<TyId>, OutOfMemory>
-    ensures { IfOk result (λ locals. (trees : List Tree) → at_id trees types.number ≡ number_ty → map (at_id trees) locals ≡ number_ty ∷ number_ty ∷ number_ty ∷ number_ty ∷ number_ty ∷ at_id trees types.flag ∷ []) }
+    ensures made { IfOk result (λ locals. (trees : List Tree) → at_id trees types.number ≡ number_ty → map (at_id trees) locals ≡ number_ty ∷ number_ty ∷ number_ty ∷ number_ty ∷ number_ty ∷ at_id trees types.flag ∷ []) }
+    ensures ids { IfOk result (λ locals. (n : ℕ) → types.number.0 < n → types.flag.0 < n → IsTrue (all_below n locals)) }
 {
     let Types { number, flag } = types;
     let mut locals = List::with_capacity(alloc, 6)?;
@@ -79,16 +94,14 @@ fn locals(alloc: Global, types: Types) -> Result<List<TyId>, OutOfMemory>
 
 /// The body of a function.
 pub(crate) fn made_body(alloc: Global, types: Types, choice: Choice) -> Result<Body, OutOfMemory>
-    ensures { IfOk result (λ body. (trees : List Tree) → at_id trees types.number ≡ number_ty → at_id trees types.flag ≡ bool_ty → body_of trees body ≡ made_body choice) }
+    ensures made { IfOk result (λ body. (trees : List Tree) → at_id trees types.number ≡ number_ty → at_id trees types.flag ≡ bool_ty → body_of trees body ≡ made_body choice) }
+    ensures ids { IfOk result (λ body. (n : ℕ) → types.number.0 < n → types.flag.0 < n → IsTrue (body_below n body)) }
 {
     let mut blocks = List::with_capacity(alloc, 4)?;
     blocks.push(comparing(alloc, choice)?)?;
     blocks.push(calling(alloc, choice.below, 4, 2)?)?;
     blocks.push(calling(alloc, choice.otherwise, 2, 4)?)?;
-    blocks.push(Block {
-        stmts: List::new(alloc),
-        term: Term::Return,
-    })?;
+    blocks.push(returning(alloc))?;
     Ok(Body {
         args: 2,
         locals: locals(alloc, types)?,

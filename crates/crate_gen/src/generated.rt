@@ -1,7 +1,8 @@
-ghost use Rattle.std.specs.Prelude.{◌≡◌, ◌<◌, ◌≤◌, List, map, IfOk};
+ghost use Rattle.std.specs.Prelude.{◌≡◌, ◌<◌, ◌≤◌, ℕ, List, map, IfOk, IsTrue};
+ghost use Rattle.std.specs.List.{list_all};
 ghost use Rattle.mir_syntax.specs.Tree.{Tree, at_id};
 ghost use Rattle.mir_syntax.specs.Crate.{crate_of, function_of};
-ghost use Rattle.mir_syntax.specs.Ids.{IdsInTable};
+ghost use Rattle.mir_syntax.specs.Ids.{IdsInTable, function_below};
 ghost use Rattle.crate_gen.specs.Made.{number_ty, bool_ty, made_crate, made_function, made_functions, made_lines, made_path, digit};
 
 use crate::body::{Types, made_body};
@@ -42,7 +43,8 @@ fn path(alloc: Global, at: u32) -> Result<Name, OutOfMemory>
 }
 
 fn function(alloc: Global, types: Types, at: u32, choice: Choice) -> Result<Function, OutOfMemory>
-    ensures { IfOk result (λ function. (trees : List Tree) → at_id trees types.number ≡ number_ty → at_id trees types.flag ≡ bool_ty → function_of trees function ≡ made_function at choice) }
+    ensures made { IfOk result (λ function. (trees : List Tree) → at_id trees types.number ≡ number_ty → at_id trees types.flag ≡ bool_ty → function_of trees function ≡ made_function at choice) }
+    ensures ids { IfOk result (λ function. (n : ℕ) → types.number.0 < n → types.flag.0 < n → IsTrue (function_below n function)) }
 {
     Ok(Function {
         path: path(alloc, at)?,
@@ -59,7 +61,8 @@ fn functions_of(
     count: u32,
 ) -> Result<List<Function>, OutOfMemory>
     requires { 0 < count }
-    ensures { IfOk result (λ made. (trees : List Tree) → at_id trees types.number ≡ number_ty → at_id trees types.flag ≡ bool_ty → map (function_of trees) made ≡ made_functions count 0 count start) }
+    ensures made { IfOk result (λ made. (trees : List Tree) → at_id trees types.number ≡ number_ty → at_id trees types.flag ≡ bool_ty → map (function_of trees) made ≡ made_functions count 0 count start) }
+    ensures ids { IfOk result (λ made. (n : ℕ) → types.number.0 < n → types.flag.0 < n → IsTrue (list_all (function_below n) made)) }
 {
     let mut random = Random { state: start };
     let mut functions = List::with_capacity(alloc, count as usize)?;

@@ -13,3 +13,6 @@ mod random;
 
 pub use generated::{Generated, generate};
 pub use random::schedule;
+
+#[cfg(test)]
+mod tests;
