@@ -11,7 +11,7 @@ use Rattle.drop_elab.specs.Elaborated.{elaborated}
 use Rattle.inline_pass.specs.Takes.{takes}
 use Rattle.inline_pass.specs.Spliced.{spliced}
 use Rattle.pass_order.specs.Passes.{after_passes}
-use Rattle.pass_order.specs.Queries.{Pipeline, opt}
+use Rattle.query_plan.specs.Queries.{Pipeline, opt}
 use Rattle.pass_order.specs.Bodies.{body_at, inlining_at, with_bodies}
 
 -- a crate's bodies, and the steps that they go through. After calls are replaced come the passes in their order

@@ -14,7 +14,7 @@ use Rattle.mir_rules.specs.Calls.{Calls}
 use Rattle.mir_rules.specs.Drops.{is_drop, NoDrops}
 use Rattle.call_graph.specs.Callees.{called, called_in, all_called, once_after, callees}
 use Rattle.call_graph.proofs.Once.{bool_tells, stands_cases, stands_first, stands_later, stands_append, stands_left, stands_right}
-use Rattle.pass_order.proofs.plan.Calls.{in_once_after}
+use Rattle.query_plan.proofs.Calls.{in_once_after}
 
 -- the body calls the function of a number
 abbrev pub CallsFn : TypedBody → ℕ → Type 0

@@ -18,7 +18,7 @@ use Rattle.call_graph.specs.Callees.{callees}
 use Rattle.call_graph.specs.Graph.{IsGraph, asks}
 use Rattle.call_graph.proofs.Once.{both}
 use Rattle.call_graph.proofs.Falls.{asked_below}
-use Rattle.call_graph.proofs.Components.{in_order, not_itself}
+use Rattle.call_graph.proofs.Told.{in_order, not_itself}
 use Rattle.cfg_simplify.specs.Simple.{simple}
 use Rattle.inline_pass.specs.Spliced.{kept_local, fits, spliced}
 use Rattle.inline_pass.specs.Lent.{DropFree, Lent}
@@ -27,14 +27,14 @@ use Rattle.inline_pass.proofs.Rounds.{keeps_all}
 use Rattle.inline_pass.proofs.Terms.{spliced_no_drops}
 use Rattle.inline_pass.proofs.Whole.{valid_in_place, refines_in_place}
 use Rattle.pass_order.specs.Passes.{after_passes}
-use Rattle.pass_order.specs.Queries.{Pipeline, elab, graph, callees_of, taken, inlined, optimised, opt}
+use Rattle.query_plan.specs.Queries.{Pipeline, elab, graph, callees_of, taken, inlined, optimised, opt}
 use Rattle.pass_order.specs.Bodies.{body_or_none, with_bodies}
 use Rattle.pass_order.specs.OptCrate.{pipeline}
 use Rattle.pass_order.specs.Fits.{FitsAt}
 use Rattle.pass_order.proofs.Order.{passes_keep}
 use Rattle.pass_order.proofs.Fits.{fits_again}
-use Rattle.pass_order.proofs.plan.Outs.{opt_is}
-use Rattle.pass_order.proofs.plan.Calls.{taken_is}
+use Rattle.query_plan.proofs.Outs.{opt_is}
+use Rattle.query_plan.proofs.Calls.{taken_is}
 use Rattle.pass_order.proofs.compose.Bodies.{Bodies, same_bodies, stands_there, comes_from}
 use Rattle.pass_order.proofs.compose.Places.{Sound, is_there, valid, itself, Put, put, passed_fits, passed_refines, passed_no_drops, passed_calls}
 use Rattle.pass_order.proofs.compose.Places as place

@@ -20,7 +20,7 @@ use Rattle.cfg_simplify.proofs.valid.Limits.{simple_blocks_count, simple_locals_
 use Rattle.drop_elab.specs.Elaborated.{elaborated}
 use Rattle.drop_elab.proofs.NoDrop.{no_drop, args_stay, locals_stay}
 use Rattle.drop_elab.proofs.Elaborated.{is_elab}
-use Rattle.pass_order.specs.Queries.{Pipeline, prom, elab, callees_of}
+use Rattle.query_plan.specs.Queries.{Pipeline, prom, elab, callees_of}
 use Rattle.pass_order.specs.Bodies.{body_at, with_bodies}
 use Rattle.pass_order.specs.OptCrate.{pipeline}
 use Rattle.pass_order.specs.ElabLaws.{ElabLaws}

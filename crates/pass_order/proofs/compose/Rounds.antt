@@ -10,7 +10,7 @@ use Rattle.mir_rules.proofs.Terminators.{slice_get_there}
 use Rattle.mir_relate.proofs.Refine.{refines_refl, refines_trans}
 use Rattle.call_graph.specs.Graph.{asks, weight}
 use Rattle.call_graph.proofs.Falls.{weight_falls, asked_below, weight_few}
-use Rattle.pass_order.specs.Queries.{Pipeline, prom, elab, graph, opt}
+use Rattle.query_plan.specs.Queries.{Pipeline, prom, elab, graph, opt}
 use Rattle.pass_order.specs.Bodies.{with_bodies}
 use Rattle.pass_order.specs.OptCrate.{pipeline, opt_crate}
 use Rattle.pass_order.specs.ElabLaws.{ElabLaws}

@@ -11,12 +11,12 @@ use Rattle.call_graph.proofs.Once.{IsOnce}
 use Rattle.drop_elab.proofs.NoDrop.{no_drop}
 use Rattle.drop_elab.proofs.Elaborated.{is_elab}
 use Rattle.inline_pass.proofs.Terms.{spliced_calls}
-use Rattle.pass_order.specs.Queries.{Pipeline, prom, elab, callees_of, taken, inlined, optimised, opt}
+use Rattle.query_plan.specs.Queries.{Pipeline, prom, elab, callees_of, taken, inlined, optimised, opt}
 use Rattle.pass_order.specs.OptCrate.{pipeline}
 use Rattle.pass_order.specs.ElabLaws.{ElabLaws}
-use Rattle.pass_order.proofs.plan.Outs.{opt_is}
-use Rattle.pass_order.proofs.plan.Calls.{IsSource}
-use Rattle.pass_order.proofs.plan.Once.{after_once}
+use Rattle.query_plan.proofs.Outs.{opt_is}
+use Rattle.query_plan.proofs.Calls.{IsSource}
+use Rattle.query_plan.proofs.Once.{after_once}
 use Rattle.pass_order.proofs.compose.Calls.{calls_listed, listed_calls}
 use Rattle.pass_order.proofs.elab.Laid.{elab_calls}
 use Rattle.pass_order.proofs.compose.Inlined.{graph_is}

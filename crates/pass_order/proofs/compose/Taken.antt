@@ -7,11 +7,11 @@ use Rattle.mir_syntax.specs.Shapes.{◌>>=◌}
 use Rattle.mir_rules.specs.Valid.{Valid, Within}
 use Rattle.call_graph.proofs.Falls.{asked_below}
 use Rattle.inline_pass.specs.Takes.{takes, if_taken, taken_of}
-use Rattle.pass_order.specs.Queries.{Pipeline, graph, is_large, qualifies, lent, taken, opt}
-use Rattle.pass_order.specs.Queries as queries
+use Rattle.query_plan.specs.Queries.{Pipeline, graph, is_large, qualifies, lent, taken, opt}
+use Rattle.query_plan.specs.Queries as queries
 use Rattle.pass_order.specs.Bodies.{inlining_or_plain}
 use Rattle.pass_order.specs.OptCrate.{pipeline}
-use Rattle.pass_order.proofs.plan.Calls.{lent_is}
+use Rattle.query_plan.proofs.Calls.{lent_is}
 use Rattle.pass_order.proofs.compose.Inlined.{graph_is}
 
 module _ (C : Crate) (rules : Valid C) (within : Within C) (f g : ℕ) where

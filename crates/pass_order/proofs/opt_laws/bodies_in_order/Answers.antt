@@ -1,6 +1,6 @@
-use Rattle.pass_order.specs.Queries.{graph}
+use Rattle.query_plan.specs.Queries.{graph}
 use Rattle.pass_order.specs.OptCrate.{pipeline}
-use Rattle.pass_order.proofs.plan.Ordered.{asked_before, next_is}
+use Rattle.query_plan.proofs.Ordered.{asked_before, next_is}
 use Rattle.pass_order.proofs.compose.Inlined.{graph_is}
 use Rattle.pass_order.proofs.opt_laws.bodies_in_order.Goals as goal
 

@@ -1,8 +1,8 @@
-use Rattle.call_graph.proofs.Components.{not_itself}
-use Rattle.pass_order.specs.Queries.{graph}
+use Rattle.call_graph.proofs.Told.{not_itself}
+use Rattle.query_plan.specs.Queries.{graph}
 use Rattle.pass_order.specs.OptCrate.{pipeline}
-use Rattle.pass_order.proofs.plan.Calls.{cand_reached, asks_of_cand}
-use Rattle.pass_order.proofs.plan.Needs.{cands_below}
+use Rattle.query_plan.proofs.Calls.{cand_reached, asks_of_cand}
+use Rattle.query_plan.proofs.Needs.{cands_below}
 use Rattle.pass_order.proofs.compose.Inlined.{graph_is}
 use Rattle.pass_order.proofs.compose.Sources.{is_source}
 use Rattle.pass_order.proofs.opt_laws.candidates_are_reached.Goals as goal

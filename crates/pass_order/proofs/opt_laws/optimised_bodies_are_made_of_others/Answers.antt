@@ -1,5 +1,5 @@
 use Rattle.pass_order.specs.OptCrate.{pipeline}
-use Rattle.pass_order.proofs.plan.Outs.{opt_is}
+use Rattle.query_plan.proofs.Outs.{opt_is}
 use Rattle.pass_order.proofs.compose.Inlined.{graph_is}
 use Rattle.pass_order.proofs.compose.Taken.{taken_is_of}
 use Rattle.pass_order.proofs.opt_laws.optimised_bodies_are_made_of_others.Goals as goal

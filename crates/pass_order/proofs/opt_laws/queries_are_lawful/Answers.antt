@@ -1,8 +1,8 @@
-use Rattle.pass_order.specs.Needs.{needs_of}
+use Rattle.query_plan.specs.Needs.{needs_of}
 use Rattle.pass_order.specs.OptCrate.{pipeline}
-use Rattle.pass_order.proofs.plan.Members.{once_is}
-use Rattle.pass_order.proofs.plan.Lawful.{lawful}
-use Rattle.pass_order.proofs.plan.Once.{needs_once}
+use Rattle.query_plan.proofs.Members.{once_is}
+use Rattle.query_plan.proofs.Lawful.{lawful}
+use Rattle.query_plan.proofs.Once.{needs_once}
 use Rattle.pass_order.proofs.compose.Sources.{is_source}
 use Rattle.pass_order.proofs.opt_laws.queries_are_lawful.Goals as goal
 

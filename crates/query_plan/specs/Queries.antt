@@ -6,8 +6,8 @@ use Rattle.mir_syntax.specs.declared.body.Inline.TheVariants as inline
 use Rattle.bit_rows.specs.Rows.{stands}
 use Rattle.call_graph.specs.Callees.{once_after}
 use Rattle.call_graph.specs.Graph.{Graph, reach, asks, weight}
-use Rattle.pass_order.specs.declared.queries.Kind.{Kind}
-use Rattle.pass_order.specs.declared.queries.Kind.TheVariants.{Built, Qualif, Prom, Callees, Cost, Reach, Elab, Opt}
+use Rattle.query_plan.specs.declared.kind.Kind.{Kind}
+use Rattle.query_plan.specs.declared.kind.Kind.TheVariants.{Built, Qualif, Prom, Callees, Cost, Reach, Elab, Opt}
 
 -- a crate as it was read, and the steps that bodies go through as functions of bodies
 pub record Pipeline (B : Type 0) : Type 0 where

@@ -5,11 +5,12 @@ use Rattle.bit_rows.specs.Rows.{stands}
 use Rattle.call_graph.specs.Graph.{reach, asks}
 use Rattle.call_graph.proofs.Once.{stands_cases, stands_first, stands_later, stands_append}
 use Rattle.call_graph.proofs.Reached.{reach_grows}
-use Rattle.pass_order.specs.declared.queries.Kind.{Kind}
-use Rattle.pass_order.specs.declared.queries.Kind.TheVariants.{Built, Qualif, Prom, Callees, Cost, Reach, Elab, Opt}
-use Rattle.pass_order.specs.Queries.{Pipeline, is_never, graph, cands, opt}
-use Rattle.pass_order.specs.Needs.{query, asked, asked_of, needs_of}
-use Rattle.pass_order.proofs.plan.Calls.{IsSource, reaches_below, cands_under}
+use Rattle.query_plan.specs.declared.kind.Kind.{Kind}
+use Rattle.query_plan.specs.declared.kind.Kind.TheVariants.{Built, Qualif, Prom, Callees, Cost, Reach, Elab, Opt}
+use Rattle.query_plan.specs.Queries.{Pipeline, is_never, graph, cands, opt}
+use Rattle.query_plan.specs.Needs.{query, asked, asked_of, needs_of}
+use Rattle.query_plan.specs.Source.{IsSource}
+use Rattle.query_plan.proofs.Calls.{reaches_below, cands_under}
 
 module _ {B : Type 0} (P : Pipeline B) (is : IsSource P) where
   -- which query of g a query of f may need

@@ -3,9 +3,9 @@ use Rattle.std.proofs.Common.{◌≡◌, refl, ℕ, zero, suc, List, [], ◌∷�
 use Rattle.std.specs.Prelude.{nat_le, nat_lt}
 use Rattle.mir_syntax.specs.declared.body.Inline.TheVariants.{Plain}
 use Rattle.call_graph.specs.Graph.{next_known, reach, asks, above, weight}
-use Rattle.pass_order.specs.declared.queries.Kind.TheVariants.{Opt}
-use Rattle.pass_order.specs.Queries.{Pipeline, cands, lent, inlined, optimised, opt}
-use Rattle.pass_order.specs.Needs.{needs_of, query}
+use Rattle.query_plan.specs.declared.kind.Kind.TheVariants.{Opt}
+use Rattle.query_plan.specs.Queries.{Pipeline, cands, lent, inlined, optimised, opt}
+use Rattle.query_plan.specs.Needs.{needs_of, query}
 
 record Body : Type 0 where
   pub calls : List ℕ

@@ -2,9 +2,9 @@
 use Rattle.std.proofs.Common.{◌≡◌, ◌≢◌, refl, sym, ap, ◌∙◌, ℕ, zero, suc, ◌+◌, ◌*◌, ◌/◌, ◌%◌, ◌<◌, ◌≤◌, arith}
 use Rattle.std.proofs.lemmas.Nat.{div-mul-add, mod-mul-add}
 use Rattle.std.proofs.Math.Nat.{div-add-mod, mod-lt, div-zero}
-use Rattle.pass_order.specs.declared.queries.Kind.{Kind}
-use Rattle.pass_order.specs.declared.queries.Kind.TheVariants.{Built, Qualif, Prom, Callees, Cost, Reach, Elab, Opt}
-use Rattle.pass_order.specs.Needs.{kind_at, kind_number, query}
+use Rattle.query_plan.specs.declared.kind.Kind.{Kind}
+use Rattle.query_plan.specs.declared.kind.Kind.TheVariants.{Built, Qualif, Prom, Callees, Cost, Reach, Elab, Opt}
+use Rattle.query_plan.specs.Needs.{kind_at, kind_number, query}
 
 kind_back : (k : Kind) → kind_at (kind_number k) ≡ k
 kind_back Built = refl

@@ -1,13 +1,12 @@
 -- Whom a function asks for comes before it in the order, so its body can be made of bodies that are done.
-use Rattle.std.proofs.Common.{◌≡◌, ◌⊎◌, inl, inr, sym, ◌∙◌, ℕ, suc, ◌<◌, true, arith}
-use Rattle.bit_rows.specs.Rows.{stands}
-use Rattle.call_graph.specs.Graph.{Graph, IsGraph, IsComponents, asks, asks_by}
+use Rattle.std.proofs.Common.{◌≡◌, ◌⊎◌, inl, inr, sym, ◌∙◌, ℕ, ◌<◌, true, arith}
+use Rattle.call_graph.specs.Graph.{Graph, IsGraph, IsComponents, asks}
 use Rattle.call_graph.proofs.Reached.{reach_all}
 use Rattle.call_graph.proofs.Falls.{asked_below, f_reaches, lower}
-use Rattle.call_graph.proofs.Components.{reaches_earlier}
-use Rattle.pass_order.specs.Queries.{Pipeline, graph, cands, optimised, opt}
-use Rattle.pass_order.specs.Order.{IsOrder, DoneBefore}
-use Rattle.pass_order.proofs.plan.Outs.{optimised_same, cands_same, opt_is}
+use Rattle.call_graph.proofs.Told.{reaches_earlier}
+use Rattle.query_plan.specs.Queries.{Pipeline, graph, cands, optimised, opt}
+use Rattle.query_plan.specs.Order.{IsOrder, DoneBefore}
+use Rattle.query_plan.proofs.Outs.{optimised_same, cands_same, opt_is}
 
 pub asked_before : (G : Graph) (component place : ℕ → ℕ) → IsGraph G → IsComponents G component → IsOrder G component place → (f g : ℕ) → f < G.functions → asks G f g ≡ true → place g < place f
 asked_before G component place l c o f g lt a =

@@ -2,9 +2,9 @@
 use Rattle.std.specs.Prelude.{ℕ, zero, suc, ◌+◌, ◌*◌, ◌/◌, ◌%◌, List, [], ◌∷◌, ◌++◌, map, Option, Some, None, if◌then◌else◌}
 use Rattle.sched_core.specs.Plan.{Plan}
 use Rattle.call_graph.specs.Graph.{reach, asks, weight}
-use Rattle.pass_order.specs.declared.queries.Kind.{Kind}
-use Rattle.pass_order.specs.declared.queries.Kind.TheVariants.{Built, Qualif, Prom, Callees, Cost, Reach, Elab, Opt}
-use Rattle.pass_order.specs.Queries.{Pipeline, is_never, graph, cands, opt}
+use Rattle.query_plan.specs.declared.kind.Kind.{Kind}
+use Rattle.query_plan.specs.declared.kind.Kind.TheVariants.{Built, Qualif, Prom, Callees, Cost, Reach, Elab, Opt}
+use Rattle.query_plan.specs.Queries.{Pipeline, is_never, graph, cands, opt}
 
 -- the kind with a number. Past the last there are no queries: such numbers need nothing and steal nothing
 abbrev pub kind_at : ℕ → Kind

@@ -1,7 +1,7 @@
 -- An order in which functions can be optimised one by one: components of the call graph with callees first, and in a component by falling paths.
 use Rattle.std.specs.Prelude.{◌≡◌, ℕ, ◌<◌, true}
 use Rattle.call_graph.specs.Graph.{Graph}
-use Rattle.pass_order.specs.Queries.{Pipeline, opt}
+use Rattle.query_plan.specs.Queries.{Pipeline, opt}
 
 -- the places of functions in the order: earlier components come first, and in one component the function whose path is above
 pub record IsOrder (G : Graph) (component place : ℕ → ℕ) : Type 0 where

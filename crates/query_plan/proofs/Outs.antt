@@ -6,7 +6,7 @@ use Rattle.call_graph.specs.Callees.{once_after}
 use Rattle.call_graph.specs.Graph.{IsGraph, asks, weight}
 use Rattle.call_graph.proofs.Once.{bool_tells}
 use Rattle.call_graph.proofs.Falls.{weight_falls, asked_below}
-use Rattle.pass_order.specs.Queries.{Pipeline, is_large, qualifies, elab, graph, callees_of, may_take, takes, brought, brought_after, cands, lent, if_taken, taken, inlined, optimised, opt_at, opt}
+use Rattle.query_plan.specs.Queries.{Pipeline, is_large, qualifies, elab, graph, callees_of, may_take, takes, brought, brought_after, cands, lent, if_taken, taken, inlined, optimised, opt_at, opt}
 
 module _ {B : Type 0} (P : Pipeline B) where
   -- two ways to answer that agree on whom f asks for

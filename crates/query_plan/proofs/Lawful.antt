@@ -5,14 +5,14 @@ use Rattle.bit_rows.specs.Rows.{stands}
 use Rattle.sched_core.specs.Plan.{IsLawful, has}
 use Rattle.call_graph.proofs.Once.{stands_cases, stands_first, stands_later}
 use Rattle.call_graph.proofs.Falls.{weight_falls}
-use Rattle.pass_order.specs.declared.queries.Kind.{Kind}
-use Rattle.pass_order.specs.declared.queries.Kind.TheVariants.{Built, Qualif, Prom, Callees, Cost, Reach, Elab, Opt}
-use Rattle.pass_order.specs.Queries.{Pipeline, graph, cands, opt}
-use Rattle.pass_order.specs.Needs.{kind_at, query, asked_of, needs_of, stolen_by, rank_of, plan}
-use Rattle.pass_order.proofs.plan.Members.{has_is_stands, not_in}
-use Rattle.pass_order.proofs.plan.Numbers.{kind_of_query, function_of_query, query_below, query_back, same_query}
-use Rattle.pass_order.proofs.plan.Calls.{IsSource}
-use Rattle.pass_order.proofs.plan.Needs.{Allowed, Need, needed, nothing, all_asked, cands_below}
+use Rattle.query_plan.specs.declared.kind.Kind.{Kind}
+use Rattle.query_plan.specs.declared.kind.Kind.TheVariants.{Built, Qualif, Prom, Callees, Cost, Reach, Elab, Opt}
+use Rattle.query_plan.specs.Queries.{Pipeline, graph, cands, opt}
+use Rattle.query_plan.specs.Needs.{kind_at, query, asked_of, needs_of, stolen_by, rank_of, plan}
+use Rattle.query_plan.proofs.Members.{has_is_stands, not_in}
+use Rattle.query_plan.proofs.Numbers.{kind_of_query, function_of_query, query_below, query_back, same_query}
+use Rattle.query_plan.specs.Source.{IsSource}
+use Rattle.query_plan.proofs.Needs.{Allowed, Need, needed, nothing, all_asked, cands_below}
 
 module _ {B : Type 0} (P : Pipeline B) (is : IsSource P) where
   -- ---- of any number

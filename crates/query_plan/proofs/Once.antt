@@ -7,14 +7,14 @@ use Rattle.call_graph.specs.Callees.{once_after}
 use Rattle.call_graph.specs.Graph.{reach, asks}
 use Rattle.call_graph.proofs.Once.{IsOnce, bool_tells, both, stands_cases, stands_first, stands_later, stands_append, stands_left, stands_right}
 use Rattle.call_graph.proofs.Reached.{reach_grows}
-use Rattle.pass_order.specs.declared.queries.Kind.{Kind}
-use Rattle.pass_order.specs.declared.queries.Kind.TheVariants.{Built, Qualif, Prom, Callees, Cost, Reach, Elab, Opt}
-use Rattle.pass_order.specs.Queries.{Pipeline, is_never, graph, prom, callees_of, brought, brought_after, cands, opt}
-use Rattle.pass_order.specs.Needs.{query, asked, asked_of, needs_of}
-use Rattle.pass_order.proofs.plan.Members.{not_in}
-use Rattle.pass_order.proofs.plan.Numbers.{same_query}
-use Rattle.pass_order.proofs.plan.Calls.{IsSource}
-use Rattle.pass_order.proofs.plan.Needs.{cands_below}
+use Rattle.query_plan.specs.declared.kind.Kind.{Kind}
+use Rattle.query_plan.specs.declared.kind.Kind.TheVariants.{Built, Qualif, Prom, Callees, Cost, Reach, Elab, Opt}
+use Rattle.query_plan.specs.Queries.{Pipeline, is_never, graph, prom, callees_of, brought, brought_after, cands, opt}
+use Rattle.query_plan.specs.Needs.{query, asked, asked_of, needs_of}
+use Rattle.query_plan.proofs.Members.{not_in, is_once}
+use Rattle.query_plan.proofs.Numbers.{same_query}
+use Rattle.query_plan.specs.Source.{IsSource}
+use Rattle.query_plan.proofs.Needs.{cands_below}
 
 -- ---- lists that are joined and mapped
 
@@ -73,7 +73,7 @@ module _ {B : Type 0} (P : Pipeline B) (is : IsSource P) where
       let third = brought_after P (opt P) f (first ++ second) second in
       let late : IsOnce (second ++ third) = once_append second third (after_once first (brought P (opt P) f first)) (after_once (first ++ second) (brought P (opt P) f second))
       (λ x k. not_in x third (λ m. both (stands x (first ++ second)) (stands_right x first second k) (after_apart (first ++ second) (brought P (opt P) f second) x m))) in
-      once_append first (second ++ third) (is.calls.once (prom P f)) late
+      once_append first (second ++ third) (is_once (callees_of P f) (is.calls.once (prom P f))) late
       (λ x k. not_in x (second ++ third) (λ m. elim (stands_append x second third m) [
         | inl s ↦ both (stands x first) k (after_apart first (brought P (opt P) f first) x s)
         | inr t ↦ both (stands x (first ++ second)) (stands_left x first second k) (after_apart (first ++ second) (brought P (opt P) f second) x t)

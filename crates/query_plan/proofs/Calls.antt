@@ -3,26 +3,13 @@ use Rattle.std.proofs.Common.{◌≡◌, refl, sym, ap, ◌∙◌, subst, ℕ, z
 use Rattle.std.specs.Prelude.{Option, Some, None, if◌then◌else◌}
 use Rattle.bit_rows.specs.Rows.{stands}
 use Rattle.call_graph.specs.Callees.{once_after}
-use Rattle.call_graph.specs.Graph.{IsGraph, Chain, Reaches, reach, some_reaches, asks, weight}
-use Rattle.call_graph.proofs.Once.{IsOnce, bool_tells, stands_cases, stands_first, stands_later, stands_append}
+use Rattle.call_graph.specs.Graph.{Chain, Reaches, reach, some_reaches, asks, weight}
+use Rattle.call_graph.proofs.Once.{bool_tells, stands_cases, stands_first, stands_later, stands_append}
 use Rattle.call_graph.proofs.Reached.{reaches_trans, reach_all}
 use Rattle.call_graph.proofs.Falls.{weight_falls, asked_below, f_reaches}
-use Rattle.pass_order.specs.Queries.{Pipeline, is_large, qualifies, elab, graph, callees_of, may_take, takes, brought, brought_after, cands, lent, if_taken, taken, inlined, optimised, opt}
-use Rattle.pass_order.proofs.plan.Outs.{opt_is}
-
--- what each step leaves called of what was: callees are listed once; elaboration calls what was counted as a callee, splicing brings the calls
--- of the bodies that are taken, and the other steps make no call
-pub record KeepsCalls {B : Type 0} (P : Pipeline B) : Type 0 where
-  pub once : (b : B) → IsOnce (P.callees b)
-  pub elab_keeps : (f g : ℕ) → f < P.functions → stands g (P.callees (elab P f)) ≡ true → stands g (callees_of P f) ≡ true
-  pub splice_keeps : (f g : ℕ) → f < P.functions → stands g (P.callees (inlined P (opt P) f)) ≡ true
-      → (stands g (P.callees (elab P f)) ≡ true) ⊎ ((h : ℕ) × (c : B) × (taken P (opt P) f h ≡ Some c) × (stands g (P.callees c) ≡ true))
-  pub rest_keeps : (f g : ℕ) → f < P.functions → stands g (P.callees (optimised P (opt P) f)) ≡ true → stands g (P.callees (inlined P (opt P) f)) ≡ true
-
--- a crate whose callees and paths are as a call graph's, under steps that keep calls
-pub record IsSource {B : Type 0} (P : Pipeline B) : Type 0 where
-  pub graph : IsGraph (graph P)
-  pub calls : KeepsCalls P
+use Rattle.query_plan.specs.Queries.{Pipeline, is_large, qualifies, graph, callees_of, may_take, takes, brought, brought_after, cands, lent, if_taken, taken, opt}
+use Rattle.query_plan.specs.Source.{IsSource}
+use Rattle.query_plan.proofs.Outs.{opt_is}
 
 -- what is lent is the optimised body of a function that is asked for
 pub lent_is : {B : Type 0} (P : Pipeline B) (one : ℕ → B) (f g : ℕ) (b : B) → lent P one f g ≡ Some b → (asks (graph P) f g ≡ true) × (one g ≡ b)
