@@ -18,7 +18,7 @@ use Rattle.call_graph.specs.Callees.{callees}
 use Rattle.call_graph.specs.Graph.{IsGraph, asks}
 use Rattle.call_graph.proofs.Once.{both}
 use Rattle.call_graph.proofs.Falls.{asked_below}
-use Rattle.call_graph.proofs.Components.{in_order, not_itself}
+use Rattle.call_graph.proofs.Told.{in_order, not_itself}
 use Rattle.cfg_simplify.specs.Simple.{simple}
 use Rattle.inline_pass.specs.Spliced.{kept_local, fits, spliced}
 use Rattle.inline_pass.specs.Lent.{DropFree, Lent}

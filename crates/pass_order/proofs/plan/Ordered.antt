@@ -4,7 +4,7 @@ use Rattle.bit_rows.specs.Rows.{stands}
 use Rattle.call_graph.specs.Graph.{Graph, IsGraph, IsComponents, asks, asks_by}
 use Rattle.call_graph.proofs.Reached.{reach_all}
 use Rattle.call_graph.proofs.Falls.{asked_below, f_reaches, lower}
-use Rattle.call_graph.proofs.Components.{reaches_earlier}
+use Rattle.call_graph.proofs.Told.{reaches_earlier}
 use Rattle.pass_order.specs.Queries.{Pipeline, graph, cands, optimised, opt}
 use Rattle.pass_order.specs.Order.{IsOrder, DoneBefore}
 use Rattle.pass_order.proofs.plan.Outs.{optimised_same, cands_same, opt_is}

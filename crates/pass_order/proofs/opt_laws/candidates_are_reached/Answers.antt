@@ -1,4 +1,4 @@
-use Rattle.call_graph.proofs.Components.{not_itself}
+use Rattle.call_graph.proofs.Told.{not_itself}
 use Rattle.pass_order.specs.Queries.{graph}
 use Rattle.pass_order.specs.OptCrate.{pipeline}
 use Rattle.pass_order.proofs.plan.Calls.{cand_reached, asks_of_cand}
