@@ -65,44 +65,45 @@ pub record Setting : Type 1 where
   pub p_ty : place_ty (code_of C).shapes fn.body.locals p ≡ Some tp
   pub result : (t : Tree) → place_ty (code_of C).shapes fn.body.locals p ≡ Some t → slice_get hn.body.locals 0 ≡ Some t
 
+-- the words in which a setting is spoken of: the code on both sides, the bodies of caller and callee, that of the caller without the call, how many
+-- blocks and locals the caller has, and what relates the sides
+pub record Words : Type 1 where
+  pub C1 : Code
+  pub C2 : Code
+  pub D : List Shape
+  pub b1 : TypedBody
+  pub h : TypedBody
+  pub bt : TypedBody
+  pub B : ℕ
+  pub L : ℕ
+  pub Rel : State → State → Type 0
+  pub Stack : Stands → Memory → Memory → ℕ → List Control → List Control → Type 0
+  pub Own : Stands → Memory → Memory → Control → Control → Type 0
+  pub Inner : Stands → Memory → Memory → Control → Control → Control → Type 0
+
+module _ (S : Setting) where
+  open S use {C, bodies2, f, fn, hn, g, i, k, is_k, p, os, next}
+
+  abbrev pub words : Words
+  words = record {
+    C1 = code_of C;
+    C2 = record (code_of C) { bodies = bodies2 };
+    D = (code_of C).shapes;
+    b1 = fn.body;
+    h = hn.body;
+    bt = b2 fn.body hn.body i k is_k p os next;
+    B = length fn.body.blocks;
+    L = length fn.body.locals;
+    Rel = stacks.Rel (code_of C) bodies2 f g.0 fn.body hn.body p next;
+    Stack = stacks.Stack (code_of C) bodies2 f g.0 fn.body hn.body p next;
+    Own = stacks.Own (code_of C) bodies2 f g.0 fn.body hn.body p next;
+    Inner = stacks.Inner (code_of C) bodies2 f g.0 fn.body hn.body p next;
+  }
+
 module _ (S : Setting) where
   open S use {C, valid, bodies2, f, fn, hn, fn_at, g, hn_at, apart, i, k, is_k, p, os, next, term_is, is2, others, valid2, calm, few, tp, p_ty}
 
-  abbrev pub C1 : Code
-  C1 = code_of C
-
-  abbrev pub C2 : Code
-  C2 = record C1 { bodies = bodies2 }
-
-  abbrev D : List Shape
-  D = C1.shapes
-
-  abbrev b1 : TypedBody
-  b1 = fn.body
-
-  abbrev h : TypedBody
-  h = hn.body
-
-  abbrev bt : TypedBody
-  bt = b2 b1 h i k is_k p os next
-
-  abbrev B : ℕ
-  B = length b1.blocks
-
-  abbrev L : ℕ
-  L = length b1.locals
-
-  abbrev pub Rel : State → State → Type 0
-  Rel = stacks.Rel C1 bodies2 f g.0 b1 h p next
-
-  abbrev Stack : Stands → Memory → Memory → ℕ → List Control → List Control → Type 0
-  Stack = stacks.Stack C1 bodies2 f g.0 b1 h p next
-
-  abbrev Own : Stands → Memory → Memory → Control → Control → Type 0
-  Own = stacks.Own C1 bodies2 f g.0 b1 h p next
-
-  abbrev Inner : Stands → Memory → Memory → Control → Control → Control → Type 0
-  Inner = stacks.Inner C1 bodies2 f g.0 b1 h p next
+  open words S use {C1, C2, D, b1, h, bt, B, L, Rel, Stack, Own, Inner}
 
   pub is1 : slice_get C1.bodies f ≡ Some b1
   is1 = body_there C.functions f fn fn_at

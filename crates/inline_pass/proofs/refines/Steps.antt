@@ -14,48 +14,14 @@ use Rattle.inline_pass.proofs.refines.Into.{Stands, into}
 use Rattle.inline_pass.proofs.refines.Stacks as stacks
 use Rattle.inline_pass.proofs.refines.Stacks.{Onward, own_onward, inner_onward, stack_onward, onward_less}
 use Rattle.inline_pass.proofs.Bodies.{b2}
-use Rattle.inline_pass.proofs.refines.Setting.{Setting, is_h, IsSite, own_block, Answer}
+use Rattle.inline_pass.proofs.refines.Setting.{Setting, words, is_h, IsSite, own_block, Answer}
 use Rattle.inline_pass.proofs.refines.OwnSteps.{own_stmt, own_term}
 use Rattle.inline_pass.proofs.refines.InnerSteps.{inner_stmt, inner_term}
 
 module _ (S : Setting) where
   open S use {C, valid, bodies2, f, fn, hn, fn_at, g, hn_at, apart, i, k, is_k, p, os, next, term_is, is2, others, valid2, calm, few, tp, p_ty}
 
-  abbrev pub C1 : Code
-  C1 = code_of C
-
-  abbrev pub C2 : Code
-  C2 = record C1 { bodies = bodies2 }
-
-  abbrev D : List Shape
-  D = C1.shapes
-
-  abbrev b1 : TypedBody
-  b1 = fn.body
-
-  abbrev h : TypedBody
-  h = hn.body
-
-  abbrev bt : TypedBody
-  bt = b2 b1 h i k is_k p os next
-
-  abbrev B : ℕ
-  B = length b1.blocks
-
-  abbrev L : ℕ
-  L = length b1.locals
-
-  abbrev pub Rel : State → State → Type 0
-  Rel = stacks.Rel C1 bodies2 f g.0 b1 h p next
-
-  abbrev Stack : Stands → Memory → Memory → ℕ → List Control → List Control → Type 0
-  Stack = stacks.Stack C1 bodies2 f g.0 b1 h p next
-
-  abbrev Own : Stands → Memory → Memory → Control → Control → Type 0
-  Own = stacks.Own C1 bodies2 f g.0 b1 h p next
-
-  abbrev Inner : Stands → Memory → Memory → Control → Control → Control → Type 0
-  Inner = stacks.Inner C1 bodies2 f g.0 b1 h p next
+  open words S use {C1, C2, D, b1, h, bt, B, L, Rel, Stack, Own, Inner}
 
   module _ (s2 s1 : State) (r : Rel s2 s1) (ty : Typed C2 valid2 s2) (below : s2.top.frame < s2.next) where
     abbrev F : Stands
