@@ -36,7 +36,7 @@ use Rattle.inline_pass.proofs.refines.Running.{Off, stmt_rel, finish_rel}
 use Rattle.inline_pass.proofs.refines.Running as running
 use Rattle.inline_pass.proofs.Bodies.{b2, copy_locals, copy_blocks}
 use Rattle.inline_pass.proofs.refines.Back.{back_rel}
-use Rattle.inline_pass.proofs.refines.Setting.{Setting, words, is1, is_h, formed, first_of, pairs, p_in, stmt_copy, Answer, answer_at, by_step, payloads, term_step, same_local}
+use Rattle.inline_pass.proofs.refines.Setting.{Setting, words, Moment, seen, is1, is_h, formed, first_of, pairs, p_in, stmt_copy, Answer, answer_at, by_step, payloads, term_step, same_local}
 
 abbrev NoReturn : Term → Type 0
 NoReturn Return = ⊥
@@ -47,18 +47,9 @@ module _ (S : Setting) where
 
   open words S use {C1, C2, D, b1, h, bt, B, L, Rel, Stack, Own, Inner}
 
-  module _ (s2 s1 : State) (r : Rel s2 s1) (ty : Typed C2 valid2 s2) (below : s2.top.frame < s2.next) where
-    abbrev F : Stands
-    F = r.stands
-
-    abbrev J : Renaming
-    J = into F
-
-    abbrev a0 : ℕ
-    a0 = s2.top.frame
-
-    abbrev On : Memory → Memory → Type 0
-    On k2 k1 = Onward F s2.next s2.memory s1.memory k2 k1
+  module _ (now : Moment S) where
+    open now use {s2, s1, r, ty, below}
+    open seen S now use {F, J, a0, On}
 
     -- ---- the callee's frame in the caller's
 

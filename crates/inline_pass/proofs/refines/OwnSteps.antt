@@ -38,7 +38,7 @@ use Rattle.inline_pass.proofs.refines.Running.{Off, stmt_rel, finish_rel}
 use Rattle.inline_pass.proofs.refines.Running as running
 use Rattle.inline_pass.proofs.Bodies.{b2, extra, own_locals}
 use Rattle.inline_pass.proofs.refines.Site.{site_rel}
-use Rattle.inline_pass.proofs.refines.Setting.{Setting, words, is1, is_h, formed, first_of, pairs, IsSite, stmt_self, Answer, answer_at, by_step, typed_moves, payloads, term_step, same_local}
+use Rattle.inline_pass.proofs.refines.Setting.{Setting, words, Moment, seen, is1, is_h, formed, first_of, pairs, IsSite, stmt_self, Answer, answer_at, by_step, typed_moves, payloads, term_step, same_local}
 
 abbrev NoReturn : Term → Type 0
 NoReturn Return = ⊥
@@ -49,18 +49,9 @@ module _ (S : Setting) where
 
   open words S use {C1, C2, D, b1, h, bt, B, L, Rel, Stack, Own, Inner}
 
-  module _ (s2 s1 : State) (r : Rel s2 s1) (ty : Typed C2 valid2 s2) (below : s2.top.frame < s2.next) where
-    abbrev F : Stands
-    F = r.stands
-
-    abbrev J : Renaming
-    J = into F
-
-    abbrev a0 : ℕ
-    a0 = s2.top.frame
-
-    abbrev On : Memory → Memory → Type 0
-    On k2 k1 = Onward F s2.next s2.memory s1.memory k2 k1
+  module _ (now : Moment S) where
+    open now use {s2, s1, r, ty, below}
+    open seen S now use {F, J, a0, On}
 
     site_answer : (x : Next) (to : Dest) (args : List Value × Memory) (m : Memory) → entered D s1 args.1 (to_block next s1.top) g.0 args.0 (Some to) h ≡ Some x → moves C2 (suc (length (extra b1 h i k is_k p os next))) s2 ≡ Some (record s2 { memory = m; top = to_block B (record s2.top { at = s2.top.at + length (extra b1 h i k is_k p os next) }) }) → Rel (record s2 { memory = m; top = to_block B (record s2.top { at = s2.top.at + length (extra b1 h i k is_k p os next) }) }) (record s1 { memory = open_frame args.1 s1.next (new_slots D h.locals args.0); top = new_control g.0 s1.next (Some to); callers = to_block next s1.top ∷ s1.callers; next = suc s1.next }) → Answer S s2 x
     unfolding entered

@@ -212,3 +212,24 @@ module _ (S : Setting) where
       let same : j ≡ j' = some_val (sym is ∙ is') in
       let z'' : j.offset + x' ≡ y = subst (λ (j : Into). j.offset + x' ≡ y) (sym same) z' in
       omega (arith, z, z'')
+
+-- two states that are related, at a step
+pub record Moment (S : Setting) : Type 0 where
+  pub s2 : State
+  pub s1 : State
+  pub r : (words S).Rel s2 s1
+  pub ty : Typed (words S).C2 S.valid2 s2
+  pub below : s2.top.frame < s2.next
+
+-- what stands where, as numbers of locals too, the target's frame, and what a step keeps of memory
+pub record Seen : Type 1 where
+  pub F : Stands
+  pub J : Renaming
+  pub a0 : ℕ
+  pub On : Memory → Memory → Type 0
+
+module _ (S : Setting) (now : Moment S) where
+  open now use {s2, s1, r}
+
+  abbrev pub seen : Seen
+  seen = record { F = r.stands; J = into r.stands; a0 = s2.top.frame; On = Onward r.stands s2.next s2.memory s1.memory }
