@@ -31,7 +31,7 @@ use Rattle.mir_rules.specs.Drops.{is_drop}
 use Rattle.inline_pass.proofs.refines.Into.{Into, Stands, into, into_parts}
 use Rattle.inline_pass.proofs.Text.{sum_zero, stmt_ready, term_ready, itself, stmt_itself}
 use Rattle.inline_pass.proofs.refines.Stacks as stacks
-use Rattle.inline_pass.proofs.refines.Stacks.{Onward, own_onward, inner_onward, stack_onward, onward_less}
+use Rattle.inline_pass.proofs.refines.Stacks.{OneCall, Onward, own_onward, inner_onward, stack_onward, onward_less}
 use Rattle.inline_pass.proofs.refines.Follow as follow
 use Rattle.inline_pass.proofs.refines.Follow.{Longer, return_rel}
 use Rattle.inline_pass.proofs.refines.Running.{Off}
@@ -68,6 +68,7 @@ pub record Setting : Type 1 where
 -- the words in which a setting is spoken of: the code on both sides, the bodies of caller and callee, that of the caller without the call, how many
 -- blocks and locals the caller has, and what relates the sides
 pub record Words : Type 1 where
+  pub X : OneCall
   pub C1 : Code
   pub C2 : Code
   pub D : List Shape
@@ -84,8 +85,12 @@ pub record Words : Type 1 where
 module _ (S : Setting) where
   open S use {C, bodies2, f, fn, hn, g, i, k, is_k, p, os, next}
 
+  abbrev pub one_call : OneCall
+  one_call = record { C1 = code_of C; bodies2 = bodies2; f = f; g = g.0; b1 = fn.body; h = hn.body; p = p; next = next }
+
   abbrev pub words : Words
   words = record {
+    X = one_call;
     C1 = code_of C;
     C2 = record (code_of C) { bodies = bodies2 };
     D = (code_of C).shapes;
@@ -94,16 +99,16 @@ module _ (S : Setting) where
     bt = b2 fn.body hn.body i k is_k p os next;
     B = length fn.body.blocks;
     L = length fn.body.locals;
-    Rel = stacks.Rel (code_of C) bodies2 f g.0 fn.body hn.body p next;
-    Stack = stacks.Stack (code_of C) bodies2 f g.0 fn.body hn.body p next;
-    Own = stacks.Own (code_of C) bodies2 f g.0 fn.body hn.body p next;
-    Inner = stacks.Inner (code_of C) bodies2 f g.0 fn.body hn.body p next;
+    Rel = stacks.Rel one_call;
+    Stack = stacks.Stack one_call;
+    Own = stacks.Own one_call;
+    Inner = stacks.Inner one_call;
   }
 
 module _ (S : Setting) where
   open S use {C, valid, bodies2, f, fn, hn, fn_at, g, hn_at, apart, i, k, is_k, p, os, next, term_is, is2, others, valid2, calm, few, tp, p_ty}
 
-  open words S use {C1, C2, D, b1, h, bt, B, L, Rel, Stack, Own, Inner}
+  open words S use {X, C1, C2, D, b1, h, bt, B, L, Rel, Stack, Own, Inner}
 
   pub is1 : slice_get C1.bodies f ≡ Some b1
   is1 = body_there C.functions f fn fn_at
@@ -178,7 +183,7 @@ module _ (S : Setting) where
   pub answer_at : (s2 : State) (x y : Next) → Some y ≡ Some x → Answer s2 y → Answer s2 x
   answer_at s2 x y e a = subst (Answer s2) (some_val e) a
 
-  pub by_step : (s2 : State) (x : Next) → follow.Follows C1 bodies2 f g.0 b1 h p next pairs (step C2 s2) x → Answer s2 x
+  pub by_step : (s2 : State) (x : Next) → follow.Follows X pairs (step C2 s2) x → Answer s2 x
   by_step s2 (stop o) a = a
   by_step s2 (fail t) a = tt
   by_step s2 (on s1) (s, e, r) = (0, s, ap (keep_on (moves C2 0)) e, r)

@@ -21,7 +21,7 @@ use Rattle.inline_pass.proofs.refines.InnerSteps.{inner_stmt, inner_term}
 module _ (S : Setting) where
   open S use {C, valid, bodies2, f, fn, hn, fn_at, g, hn_at, apart, i, k, is_k, p, os, next, term_is, is2, others, valid2, calm, few, tp, p_ty}
 
-  open words S use {C1, C2, D, b1, h, bt, B, L, Rel, Stack, Own, Inner}
+  open words S use {X, C1, C2, D, b1, h, bt, B, L, Rel, Stack, Own, Inner}
 
   module _ (now : Moment S) where
     open now use {s2, s1, r, ty, below}
