@@ -1,5 +1,5 @@
 -- Bodies that a function asks for are lent to it as the laws want it.
-use Rattle.std.proofs.Common.{◌≡◌, refl, sym, ◌∙◌, ℕ, ◌<◌, Bool, true, false, Option, Some, None, slice_get}
+use Rattle.std.proofs.Common.{◌≡◌, refl, ◌∙◌, ℕ, ◌<◌, Bool, true, false, Option, Some, None, slice_get}
 use Rattle.mir_syntax.specs.Crate.{TypedBody, TypedFunction, Crate}
 use Rattle.mir_syntax.proofs.Binds.{bind_some}
 use Rattle.call_graph.specs.Graph.{Graph, IsGraph, asks}

@@ -26,13 +26,14 @@ use Rattle.inline_pass.specs.Spliced.{whole_local, after, referent_of, kept_dest
 use Rattle.inline_pass.proofs.refines.Into.{Into, Stands, into, into_parts, into_at, close_back, close_inner}
 use Rattle.inline_pass.proofs.refines.Both.{store_both}
 use Rattle.inline_pass.proofs.refines.Stacks as stacks
-use Rattle.inline_pass.proofs.refines.Stacks.{Onward, onward_trans, stack_onward}
+use Rattle.inline_pass.proofs.refines.Stacks.{OneCall, Onward, onward_trans, stack_onward}
 use Rattle.inline_pass.proofs.refines.Onwards.{onward_refl, onward_both, onward_alone, onward_target, onward_close_alone, stmt_moves}
 use Rattle.inline_pass.proofs.Bodies.{b2, own_locals, copy_locals, kept_there, copy_blocks, stand_end}
 use Rattle.inline_pass.proofs.refines.Keep.{walk_there}
 use Rattle.inline_pass.proofs.refines.Site.{moves_last}
 
-module _ (C1 : Code) (bodies2 : List TypedBody) (f g : ℕ) (b1 h : TypedBody) (p : Place) (next : ℕ) (i : ℕ) (k : TypedBlock) (is_k : slice_get b1.blocks i ≡ Some k) (os : List Operand) (is1 : slice_get C1.bodies f ≡ Some b1) (is2 : slice_get bodies2 f ≡ Some (b2 b1 h i k is_k p os next)) (tp : Tree) (p_ty : place_ty C1.shapes b1.locals p ≡ Some tp) (result_ty : (t : Tree) → place_ty C1.shapes b1.locals p ≡ Some t → slice_get h.locals 0 ≡ Some t) (p_in : p.local < length b1.locals) (th : Tree) (h_first : slice_get h.locals 0 ≡ Some th) where
+module _ (X : OneCall) (i : ℕ) (k : TypedBlock) (is_k : slice_get X.b1.blocks i ≡ Some k) (os : List Operand) (is1 : slice_get X.C1.bodies X.f ≡ Some X.b1) (is2 : slice_get X.bodies2 X.f ≡ Some (b2 X.b1 X.h i k is_k X.p os X.next)) (tp : Tree) (p_ty : place_ty X.C1.shapes X.b1.locals X.p ≡ Some tp) (result_ty : (t : Tree) → place_ty X.C1.shapes X.b1.locals X.p ≡ Some t → slice_get X.h.locals 0 ≡ Some t) (p_in : X.p.local < length X.b1.locals) (th : Tree) (h_first : slice_get X.h.locals 0 ≡ Some th) where
+  open X use {C1, bodies2, f, b1, h, p, next}
   abbrev C2 : Code
   C2 = record C1 { bodies = bodies2 }
 
@@ -64,7 +65,7 @@ module _ (C1 : Code) (bodies2 : List TypedBody) (f g : ℕ) (b1 h : TypedBody) (
       let (t, e1, e2) = bind_some p_ty in
       some_bind _ (own_locals b1 h i k is_k p os next p.local t e1) e2
 
-  module _ (s2 s1 : State) (r : stacks.Rel C1 bodies2 f g b1 h p next s2 s1) (c0 : Control) (ds : List Control) (inner : stacks.Inner C1 bodies2 f g b1 h p next r.stands s2.memory s1.memory s2.top s1.top c0) (below : s2.top.frame < s2.next) (more : stacks.Stack C1 bodies2 f g b1 h p next r.stands s2.memory s1.memory s2.top.frame s2.callers ds) (n : TypedBlock) (is_n : slice_get h.blocks s1.top.block ≡ Some n) (ends : n.term ≡ Return) (at_end : s1.top.at ≡ length n.stmts) where
+  module _ (s2 s1 : State) (r : stacks.Rel X s2 s1) (c0 : Control) (ds : List Control) (inner : stacks.Inner X r.stands s2.memory s1.memory s2.top s1.top c0) (below : s2.top.frame < s2.next) (more : stacks.Stack X r.stands s2.memory s1.memory s2.top.frame s2.callers ds) (n : TypedBlock) (is_n : slice_get h.blocks s1.top.block ≡ Some n) (ends : n.term ≡ Return) (at_end : s1.top.at ≡ length n.stmts) where
     abbrev F : Stands
     F = r.stands
 
@@ -166,7 +167,7 @@ module _ (C1 : Code) (bodies2 : List TypedBody) (f g : ℕ) (b1 h : TypedBody) (
             let (old2, e2, _) = value_at_rel J J k2 k1 link_moved.mem inner.to.addr b ab old e in
             (record { addr = b; guard = guard_of D (Deref ∷ []) t }, some_bind _ (behind_at b old2 at e2) (some_bind _ (behind_ty t q ty) refl), record { addr = ab; guard = gu })
 
-        found : (c : Bool) → has_deref p.proj ≡ c → stacks.Held C1 bodies2 f g b1 h p next c F s2.memory inner.to a0 c0.frame → Found c
+        found : (c : Bool) → has_deref p.proj ≡ c → stacks.Held X c F s2.memory inner.to a0 c0.frame → Found c
         found false q e = plain q e
         found true q e = behind q e
 
@@ -205,7 +206,7 @@ module _ (C1 : Code) (bodies2 : List TypedBody) (f g : ℕ) (b1 h : TypedBody) (
         inner_shape (inl le) = inr le
         inner_shape (inr le) = inr le
 
-        own_back : (q : Done) → stacks.Own C1 bodies2 f g b1 h p next F q.memory m1 (back2 q.memory).top c0
+        own_back : (q : Done) → stacks.Own X F q.memory m1 (back2 q.memory).top c0
         unfolding local_addr
         own_back q = record {
           function = inner.function2 ∙ sym inner.function0;
@@ -222,7 +223,7 @@ module _ (C1 : Code) (bodies2 : List TypedBody) (f g : ℕ) (b1 h : TypedBody) (
           room = λ b is x t at. (let (w, e) = inner.room b is x t at in let (w', e') = write_there s2.memory (record { frame = a0; local = L; path = [] }) (blank D th) a0 x w e in q.onward.room a0 x w' below e');
         }
 
-        rel_back : (q : Done) → stacks.Rel C1 bodies2 f g b1 h p next (back2 q.memory) back1
+        rel_back : (q : Done) → stacks.Rel X (back2 q.memory) back1
         unfolding local_addr
         rel_back q =
             let o1 : Onward F a0 s2.memory s1.memory k2 s1.memory = onward_target F a0 s2.memory s1.memory (record { frame = a0; local = L; path = [] }) (blank D th) (omega arith) in
@@ -236,7 +237,7 @@ module _ (C1 : Code) (bodies2 : List TypedBody) (f g : ℕ) (b1 h : TypedBody) (
               answers = r.answers;
               trace = r.trace;
               link = q.link;
-              stack = (below, inl (c0, ds, refl, own_back q, stack_onward C1 bodies2 f g b1 h p next F a0 s2.memory s1.memory q.memory m1 s2.callers ds o more));
+              stack = (below, inl (c0, ds, refl, own_back q, stack_onward X F a0 s2.memory s1.memory q.memory m1 s2.callers ds o more));
             }
 
         abbrev copy : TypedBlock
@@ -265,5 +266,5 @@ module _ (C1 : Code) (bodies2 : List TypedBody) (f g : ℕ) (b1 h : TypedBody) (
             moves_last C2 1 s2 s' (back2 q.memory) (ap (keep_on (moves C2 0)) first) (some_bind _ here1 (some_bind _ here2 (ap (λ o. perform C2 A2 s' copy.term o) past ∙ ap (λ t. finish C2 A2 s' t) goes)))
 
         -- the source's step is followed
-        pub back_rel : (m : Memory) × (moves C2 2 s2 ≡ Some (back2 m)) × stacks.Rel C1 bodies2 f g b1 h p next (back2 m) back1
+        pub back_rel : (m : Memory) × (moves C2 2 s2 ≡ Some (back2 m)) × stacks.Rel X (back2 m) back1
         back_rel = (done.memory, moved done, rel_back done)

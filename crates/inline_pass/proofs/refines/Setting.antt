@@ -31,7 +31,7 @@ use Rattle.mir_rules.specs.Drops.{is_drop}
 use Rattle.inline_pass.proofs.refines.Into.{Into, Stands, into, into_parts}
 use Rattle.inline_pass.proofs.Text.{sum_zero, stmt_ready, term_ready, itself, stmt_itself}
 use Rattle.inline_pass.proofs.refines.Stacks as stacks
-use Rattle.inline_pass.proofs.refines.Stacks.{Onward, own_onward, inner_onward, stack_onward, onward_less}
+use Rattle.inline_pass.proofs.refines.Stacks.{OneCall, Onward, own_onward, inner_onward, stack_onward, onward_less}
 use Rattle.inline_pass.proofs.refines.Follow as follow
 use Rattle.inline_pass.proofs.refines.Follow.{Longer, return_rel}
 use Rattle.inline_pass.proofs.refines.Running.{Off}
@@ -65,44 +65,50 @@ pub record Setting : Type 1 where
   pub p_ty : place_ty (code_of C).shapes fn.body.locals p ≡ Some tp
   pub result : (t : Tree) → place_ty (code_of C).shapes fn.body.locals p ≡ Some t → slice_get hn.body.locals 0 ≡ Some t
 
+-- the words in which a setting is spoken of: the code on both sides, the bodies of caller and callee, that of the caller without the call, how many
+-- blocks and locals the caller has, and what relates the sides
+pub record Words : Type 1 where
+  pub X : OneCall
+  pub C1 : Code
+  pub C2 : Code
+  pub D : List Shape
+  pub b1 : TypedBody
+  pub h : TypedBody
+  pub bt : TypedBody
+  pub B : ℕ
+  pub L : ℕ
+  pub Rel : State → State → Type 0
+  pub Stack : Stands → Memory → Memory → ℕ → List Control → List Control → Type 0
+  pub Own : Stands → Memory → Memory → Control → Control → Type 0
+  pub Inner : Stands → Memory → Memory → Control → Control → Control → Type 0
+
+module _ (S : Setting) where
+  open S use {C, bodies2, f, fn, hn, g, i, k, is_k, p, os, next}
+
+  abbrev pub one_call : OneCall
+  one_call = record { C1 = code_of C; bodies2 = bodies2; f = f; g = g.0; b1 = fn.body; h = hn.body; p = p; next = next }
+
+  abbrev pub words : Words
+  words = record {
+    X = one_call;
+    C1 = code_of C;
+    C2 = record (code_of C) { bodies = bodies2 };
+    D = (code_of C).shapes;
+    b1 = fn.body;
+    h = hn.body;
+    bt = b2 fn.body hn.body i k is_k p os next;
+    B = length fn.body.blocks;
+    L = length fn.body.locals;
+    Rel = stacks.Rel one_call;
+    Stack = stacks.Stack one_call;
+    Own = stacks.Own one_call;
+    Inner = stacks.Inner one_call;
+  }
+
 module _ (S : Setting) where
   open S use {C, valid, bodies2, f, fn, hn, fn_at, g, hn_at, apart, i, k, is_k, p, os, next, term_is, is2, others, valid2, calm, few, tp, p_ty}
 
-  abbrev pub C1 : Code
-  C1 = code_of C
-
-  abbrev pub C2 : Code
-  C2 = record C1 { bodies = bodies2 }
-
-  abbrev D : List Shape
-  D = C1.shapes
-
-  abbrev b1 : TypedBody
-  b1 = fn.body
-
-  abbrev h : TypedBody
-  h = hn.body
-
-  abbrev bt : TypedBody
-  bt = b2 b1 h i k is_k p os next
-
-  abbrev B : ℕ
-  B = length b1.blocks
-
-  abbrev L : ℕ
-  L = length b1.locals
-
-  abbrev pub Rel : State → State → Type 0
-  Rel = stacks.Rel C1 bodies2 f g.0 b1 h p next
-
-  abbrev Stack : Stands → Memory → Memory → ℕ → List Control → List Control → Type 0
-  Stack = stacks.Stack C1 bodies2 f g.0 b1 h p next
-
-  abbrev Own : Stands → Memory → Memory → Control → Control → Type 0
-  Own = stacks.Own C1 bodies2 f g.0 b1 h p next
-
-  abbrev Inner : Stands → Memory → Memory → Control → Control → Control → Type 0
-  Inner = stacks.Inner C1 bodies2 f g.0 b1 h p next
+  open words S use {X, C1, C2, D, b1, h, bt, B, L, Rel, Stack, Own, Inner}
 
   pub is1 : slice_get C1.bodies f ≡ Some b1
   is1 = body_there C.functions f fn fn_at
@@ -177,7 +183,7 @@ module _ (S : Setting) where
   pub answer_at : (s2 : State) (x y : Next) → Some y ≡ Some x → Answer s2 y → Answer s2 x
   answer_at s2 x y e a = subst (Answer s2) (some_val e) a
 
-  pub by_step : (s2 : State) (x : Next) → follow.Follows C1 bodies2 f g.0 b1 h p next pairs (step C2 s2) x → Answer s2 x
+  pub by_step : (s2 : State) (x : Next) → follow.Follows X pairs (step C2 s2) x → Answer s2 x
   by_step s2 (stop o) a = a
   by_step s2 (fail t) a = tt
   by_step s2 (on s1) (s, e, r) = (0, s, ap (keep_on (moves C2 0)) e, r)
@@ -211,3 +217,24 @@ module _ (S : Setting) where
       let same : j ≡ j' = some_val (sym is ∙ is') in
       let z'' : j.offset + x' ≡ y = subst (λ (j : Into). j.offset + x' ≡ y) (sym same) z' in
       omega (arith, z, z'')
+
+-- two states that are related, at a step
+pub record Moment (S : Setting) : Type 0 where
+  pub s2 : State
+  pub s1 : State
+  pub r : (words S).Rel s2 s1
+  pub ty : Typed (words S).C2 S.valid2 s2
+  pub below : s2.top.frame < s2.next
+
+-- what stands where, as numbers of locals too, the target's frame, and what a step keeps of memory
+pub record Seen : Type 1 where
+  pub F : Stands
+  pub J : Renaming
+  pub a0 : ℕ
+  pub On : Memory → Memory → Type 0
+
+module _ (S : Setting) (now : Moment S) where
+  open now use {s2, s1, r}
+
+  abbrev pub seen : Seen
+  seen = record { F = r.stands; J = into r.stands; a0 = s2.top.frame; On = Onward r.stands s2.next s2.memory s1.memory }
