@@ -1,7 +1,7 @@
 use Rattle.std.proofs.Common.{sym, subst}
 use Rattle.std.specs.Prelude.{IfOk}
 use Rattle.pipe_words.specs.declared.command.Command.{Command}
-use Rattle.mirpipe_cli.specs.Answer.{AsksSteps, Writes}
+use Rattle.mirpipe_cli.specs.Answer.{CanBeDone, Writes}
 use Rattle.mirpipe_cli.specs.Output.{bytes_of}
 use Rattle.mirpipe_cli.proofs.Answering.{refused_any, refused_none, refused_as}
 use Rattle.mirpipe_cli.proofs.command.work.Goals as goal
@@ -31,7 +31,7 @@ pub returns-in-Run-clause-refused : goal.returns-in-Run-clause-refused
 returns-in-Run-clause-refused g c = λ input left. refused_as c.run.result input c.args.command _ c.in-Run.is (c.run.ensures.refused input (c.in_ok-accepted.ensures.accepted input left))
 
 pub dump-requires : goal.dump-requires
-dump-requires g c = record { step = subst AsksSteps c.in-Dump.is c.requires.steps }
+dump-requires g c = record { step = subst CanBeDone c.in-Dump.is c.requires.can }
 
 pub returns-in-Dump-clause-writes : goal.returns-in-Dump-clause-writes
 returns-in-Dump-clause-writes g c = λ input left.

@@ -4,11 +4,11 @@ use Rattle.std.specs.Io.KnownBytes.{Appends}
 use Rattle.mirpipe_cli.specs.Refused.{OfInput}
 use Rattle.mirpipe_cli.specs.Answer.{done, refused, word_fault, Refuses}
 use Rattle.mirpipe_cli.specs.Output.{bytes_of}
-use Rattle.mirpipe_cli.proofs.Answering.{appends_none, answers_word, answers_done, answers_refused, says_seq, asks_steps}
+use Rattle.mirpipe_cli.proofs.Answering.{appends_none, answers_word, answers_done, answers_refused, says_seq, can_be_done}
 use Rattle.mirpipe_cli.proofs.run.run_quiet.Goals as goal
 
 pub work-requires : goal.work-requires
-work-requires g c = record { steps = asks_steps (map (string_bytes {Z = Global}) c.args.words.now) c.in-Ok.command c.in-Ok.ensures.says }
+work-requires g c = record { can = can_be_done (map (string_bytes {Z = Global}) c.args.words.now) c.in-Ok.command c.in-Ok.ensures.says }
 
 pub returns-in-Bad-clause-told : goal.returns-in-Bad-clause-told
 returns-in-Bad-clause-told g c = λ input left calm quiet other.
