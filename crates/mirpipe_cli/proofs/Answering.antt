@@ -1,8 +1,7 @@
 -- What is told, from what was read and written.
-use Rattle.std.proofs.Common.{◌≡◌, ◌∙◌, ℕ, List, [], ◌∷◌, codes, Option, Some, None, Result, Ok, Err, inl, inr, refl, sym, ap, ap₂, subst, ◌≤◌, arith}
+use Rattle.std.proofs.Common.{◌≡◌, ◌∙◌, ℕ, List, [], ◌∷◌, codes, Option, Some, None, inl, inr, refl, sym, ap, ap₂, subst, ◌≤◌, arith}
 use Rattle.std.proofs.lemmas.List.{append-nil}
 use Rattle.std.proofs.lemmas.Fmt.{decimal_injective}
-use Rattle.std.specs.Prelude.{IfErr, IsErrAnd}
 use Rattle.std.specs.Io.KnownBytes.{Appends}
 use Rattle.mir_syntax.specs.declared.lines.Lines.{Lines}
 use Rattle.mir_syntax.specs.declared.number.Number.{Number}
@@ -15,16 +14,12 @@ use Rattle.pass_order.specs.Stages.{HasStep}
 use Rattle.crate_run.specs.Ran.{IsRunText, IsNoEntry}
 use Rattle.pipe_words.specs.declared.command.Command.{Command}
 use Rattle.pipe_words.specs.declared.command.Command.TheVariants.{Check, Seq, Run, Dump, Gen}
-use Rattle.pipe_words.specs.Numbers.{IsBetween}
-use Rattle.pipe_words.specs.Commands.{Says, IsMisfit, Misses, gen_row}
+use Rattle.pipe_words.specs.Commands.{Says, IsMisfit}
 use Rattle.pipe_words.specs.Stages.{IsStage}
 use Rattle.mirpipe_cli.specs.declared.fault.InputFault.{InputFault}
-use Rattle.mirpipe_cli.specs.declared.fault.InputFault.TheVariants.{Long, Text, Rule, Limit, Drops, NoFunction, NoEntry}
-use Rattle.mirpipe_cli.specs.declared.fault.Refusal.{Refusal}
-use Rattle.mirpipe_cli.specs.declared.fault.Refusal.TheVariants.{ReadFault, OutOfMemory, Input}
 use Rattle.mirpipe_cli.specs.FirstDrop.{first_drop}
-use Rattle.mirpipe_cli.specs.Refused.{IsAccepted, IsFaulty, OfInput, IsNoDrop}
-use Rattle.mirpipe_cli.specs.Answer.{done, refused, word_fault, RefusesRun, RefusesDump, Refuses, Writes, CanBeDone, Answers, IsOptimised}
+use Rattle.mirpipe_cli.specs.Refused.{IsAccepted}
+use Rattle.mirpipe_cli.specs.Answer.{done, refused, word_fault, Refuses, Writes, CanBeDone, Answers, IsOptimised}
 use Rattle.mirpipe_cli.proofs.Refined.{passed_refines}
 
 pub appends_none : (known : Option (List ℕ)) → Appends known known []
@@ -68,21 +63,6 @@ says_gen words start functions (Gen start2 functions2) (rest, e, gen) (behind, f
     let counts : functions2 ≡ functions = decimal_injective functions2 functions (omega arith) (omega arith) (sym gen2.are_functions.whole ∙ sym second ∙ gen.are_functions.whole) in
     ap₂ Gen starts counts
 
-behind_gen : (first second : List ℕ) (start functions place : ℕ) → IsBetween 0 2147483647 first start → IsBetween 1 10000 second functions → Misses 2 gen_row (first ∷ second ∷ []) place → ⊥
-behind_gen first second start functions place is are (inl (stops, at)) = stops (start, is)
-behind_gen first second start functions place is are (inr (fits, inl (stops, at))) = stops (functions, are)
-behind_gen first second start functions place is are (inr (fits, inr (fits2, over))) = over
-
-gen_fits : (first second : List ℕ) (start functions place : ℕ) → IsBetween 0 2147483647 first start → IsBetween 1 10000 second functions → IsMisfit (codes "gen" ∷ first ∷ second ∷ []) place → ⊥
-gen_fits first second start functions place is are (inl (stops, at)) = stops refl
-gen_fits first second start functions place is are (inr (fits, behind)) = behind_gen first second start functions place is are behind
-
--- words that say `gen` have no word that doesn't fit
-pub gen_has_no_misfit : (words : List (List ℕ)) (start functions place : ℕ) → Says words (Gen start functions) → IsMisfit words place → ⊥
-gen_has_no_misfit words start functions place (rest, e, gen) misfit =
-    let whole : words ≡ codes "gen" ∷ gen.start_word ∷ gen.functions_word ∷ [] = e ∙ ap (λ l. codes "gen" ∷ l) gen.words_are in
-    gen_fits gen.start_word gen.functions_word start functions place gen.is_start gen.are_functions (subst (λ l. IsMisfit l place) whole misfit)
-
 -- a stage that has a word has a step
 step_there : (stage : Stage) (word : List ℕ) → IsStage word stage → HasStep stage
 step_there at.Built word e = (0, refl)
@@ -112,53 +92,6 @@ printed_refines input C D lines accepted no_drop same =
       written = ap text same;
       refines = passed_refines C lines accepted.accepted.valid accepted.accepted.within no_drop;
     }
-
--- ---- refusals
-
-pub refuses_run : (path : List ℕ) (args : List Number) (input : List ℕ) (fault : InputFault) → IsFaulty input fault × IsNoDrop fault → RefusesRun path args input fault
-refuses_run path args input Long h = h
-refuses_run path args input (Text code line) h = h
-refuses_run path args input (Rule code line) h = h
-refuses_run path args input (Limit code line) h = h
-refuses_run path args input (Drops line) h = h
-refuses_run path args input NoFunction h = absurd h.0
-refuses_run path args input NoEntry h = absurd h.0
-
-pub refuses_dump : (path input : List ℕ) (fault : InputFault) → IsFaulty input fault → RefusesDump path input fault
-refuses_dump path input Long h = h
-refuses_dump path input (Text code line) h = h
-refuses_dump path input (Rule code line) h = h
-refuses_dump path input (Limit code line) h = h
-refuses_dump path input (Drops line) h = h
-refuses_dump path input NoFunction h = absurd h
-refuses_dump path input NoEntry h = h
-
--- a fault of an input other than a `drop` is one for which each command refuses that reads one
-pub refuses_check : (input : List ℕ) (fault : InputFault) → IsFaulty input fault × IsNoDrop fault → Refuses Check input fault
-refuses_check input fault h = h
-
-pub refuses_seq : (input : List ℕ) (fault : InputFault) → IsFaulty input fault × IsNoDrop fault → Refuses Seq input fault
-refuses_seq input fault h = h.0
-
-of_input : (r : Refusal) (command : Command) (input : List ℕ) → ((fault : InputFault) → IsFaulty input fault × IsNoDrop fault → Refuses command input fault) → OfInput (λ fault. IsFaulty input fault × IsNoDrop fault) r → OfInput (Refuses command input) r
-of_input ReadFault command input refuses h = h
-of_input OutOfMemory command input refuses h = h
-of_input (Input fault) command input refuses h = refuses fault h
-
--- what refuses an input refuses it for such a command
-pub refused_input : {A : Type 0} (r : Result A Refusal) (e : Refusal) (command : Command) (input : List ℕ) → ((fault : InputFault) → IsFaulty input fault × IsNoDrop fault → Refuses command input fault) → IsErrAnd r (λ x. x ≡ e) → OfInput (λ fault. IsFaulty input fault × IsNoDrop fault) e → IfErr r (OfInput (Refuses command input))
-refused_input (Ok a) e command input refuses is h = absurd is
-refused_input (Err x) e command input refuses is h = subst (λ r. OfInput (Refuses command input) r) (sym is) (of_input e command input refuses h)
-
-pub refused_none : {A : Type 0} (r : Result A Refusal) (command : Command) (input : List ℕ) → IfErr r (OfInput (λ _. ⊥)) → IfErr r (OfInput (Refuses command input))
-refused_none (Ok a) command input h = h
-refused_none (Err ReadFault) command input h = h
-refused_none (Err OutOfMemory) command input h = h
-refused_none (Err (Input fault)) command input h = absurd h
-
--- what is refused for the faults of a command is refused for those of the command that it is
-pub refused_as : {A : Type 0} (r : Result A Refusal) (input : List ℕ) (command other : Command) → command ≡ other → IfErr r (OfInput (Refuses other input)) → IfErr r (OfInput (Refuses command input))
-refused_as r input command other e h = subst (λ k. IfErr r (OfInput (Refuses k input))) (sym e) h
 
 -- ---- runs
 
