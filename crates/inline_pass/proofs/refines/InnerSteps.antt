@@ -85,7 +85,7 @@ module _ (S : Setting) where
       inner_clear x y q e x' u q' live = go (inner.alone e x' y u q' live)
         where
           go : (e ≡ s1.top.frame) ⊎ (e ≡ c0.frame) → (e ≡ s1.top.frame) × (x' ≡ x)
-          go (inl same) = (same, (same_local S) F s1.top.frame x x' a0 y q (ap (λ e. J e x') (sym same) ∙ q'))
+          go (inl same) = (same, same_local S F s1.top.frame x x' a0 y q (ap (λ e. J e x') (sym same) ∙ q'))
           go (inr same) =
               let (_, z) = parts_of s1.top.frame x y _ inner.ghost1 q in
               let (lt, z') = parts_of e x' y _ (ap F same ∙ inner.ghost0) q' in
@@ -137,10 +137,10 @@ module _ (S : Setting) where
       inner_stmt st x at e =
           let (k1, e1, e2) = bind_some e in
           let same = stmt_copy S s1.top.block n s1.top.at st at_n at in
-          let (k2, q, l, ow) = stmt_rel X (pairs S) s2 s1 r h.locals bt.locals L inner.ghost1 types_copy st (renamed_stmt (after L) st) k1 same inner_clear (λ _. (payloads S) s2 ty bt is_copy h.locals s1.top.frame J) e1 in
+          let (k2, q, l, ow) = stmt_rel X (pairs S) s2 s1 r h.locals bt.locals L inner.ghost1 types_copy st (renamed_stmt (after L) st) k1 same inner_clear (λ _. payloads S s2 ty bt is_copy h.locals s1.top.frame J) e1 in
           let at2 : slice_get copy.stmts s2.top.at ≡ Some (renamed_stmt (after L) st) = ap (slice_get copy.stmts) inner.place ∙ slice_get-front (map (renamed_stmt (after L)) n.stmts) _ s1.top.at _ (map_there (renamed_stmt (after L)) n.stmts s1.top.at st at) in
           let moved = stmt_moves C2 s2 bt copy (renamed_stmt (after L) st) k2 is_copy at_copy at2 q in
-          (answer_at S) s2 x _ e2 (
+          answer_at S s2 x _ e2 (
             0,
             _,
             ap (keep_on (moves C2 0)) moved,
@@ -213,7 +213,7 @@ module _ (S : Setting) where
           let l2 = length-map n.stmts (renamed_stmt (after L)) in
           let a = inner.place in
           omega (arith, ge, l1, l2, a)) in
-          (by_step S) s2 x (follow.follows_by X (pairs S) (step C2 s2) (finish C2 H2 s2 copy.term) x (term_step S s2 bt copy is_copy at_copy past2) (finish_rel X (pairs S) s2 s1 r h.locals bt.locals L inner.ghost1 types_copy To2 goes2 n.term copy.term x (term_copy n.term (calm g.0 h s1.top.block n (is_h S) at_n) nr ready1) e))
+          by_step S s2 x (follow.follows_by X (pairs S) (step C2 s2) (finish C2 H2 s2 copy.term) x (term_step S s2 bt copy is_copy at_copy past2) (finish_rel X (pairs S) s2 s1 r h.locals bt.locals L inner.ghost1 types_copy To2 goes2 n.term copy.term x (term_copy n.term (calm g.0 h s1.top.block n (is_h S) at_n) nr ready1) e))
 
       popped : (x : Next) (m1 : Memory) → Some (on (record s1 { memory = m1; top = c0; callers = ds })) ≡ Some x → (m : Memory) → moves C2 2 s2 ≡ Some (record s2 { memory = m; top = to_block next (next_stmt s2.top) }) → Rel (record s2 { memory = m; top = to_block next (next_stmt s2.top) }) (record s1 { memory = m1; top = c0; callers = ds }) → Answer S s2 x
       popped x m1 e m moved rel = answer_at S s2 x _ e (1, _, moved, rel)
@@ -224,12 +224,11 @@ module _ (S : Setting) where
           let (v, e1, e2) = bind_some e in
           let e3 : return_to D s1 (close_frame s1.memory s1.top.frame) (Some inner.to) (c0 ∷ ds) v ≡ Some x = subst (λ cs. return_to D s1 (close_frame s1.memory s1.top.frame) (Some inner.to) cs v ≡ Some x) below_it (subst (λ y. return_to D s1 (close_frame s1.memory s1.top.frame) y s1.callers v ≡ Some x) inner.is_to e2) in
           let (m1, e4, e5) = bind_some e3 in
-          let (th, first) = first_of S g.0 h (is_h S) in
           let at_end : s1.top.at ≡ length n.stmts =
           (let le = inner.far h n (ap (slice_get C1.bodies) inner.function1 ∙ is_h S) at_n in
           let ge = slice_get-none n.stmts s1.top.at past in
           omega (arith, le, ge)) in
-          let (m, moved, rel) = back_rel X i k is_k os (is1 S) is2 tp p_ty result (p_in S) th first s2 s1 r c0 ds inner below more n at_n ends at_end v e1 m1 e4 in
+          let (m, moved, rel) = back_rel S now c0 ds inner more n at_n ends at_end v e1 m1 e4 in
           popped x m1 e5 m moved rel
 
       pub inner_term : (x : Next) → slice_get n.stmts s1.top.at ≡ None → finish C1 H1 s1 n.term ≡ Some x → Answer S s2 x

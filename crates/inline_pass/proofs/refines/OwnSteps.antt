@@ -59,7 +59,7 @@ module _ (S : Setting) where
 
     -- ---- a frame that stands alone
 
-    module _ (own : Own F s2.memory s1.memory s2.top s1.top) (more : Stack F s2.memory s1.memory a0 s2.callers s1.callers) (n n2 : TypedBlock) (b : TypedBody) (at_n : slice_get own.body.blocks s1.top.block ≡ Some n) (is_b : slice_get bodies2 s1.top.function ≡ Some b) (at_n2 : slice_get b.blocks s1.top.block ≡ Some n2) (types : (x : ℕ) (t : Tree) → slice_get own.body.locals x ≡ Some t → slice_get b.locals (0 + x) ≡ Some t) (same_stmts : (a : ℕ) (st : TypedStmt) → slice_get n.stmts a ≡ Some st → slice_get n2.stmts a ≡ Some st) (kind : (IsSite S) s1.top.function s1.top.block n ⊎ (n2 ≡ n)) where
+    module _ (own : Own F s2.memory s1.memory s2.top s1.top) (more : Stack F s2.memory s1.memory a0 s2.callers s1.callers) (n n2 : TypedBlock) (b : TypedBody) (at_n : slice_get own.body.blocks s1.top.block ≡ Some n) (is_b : slice_get bodies2 s1.top.function ≡ Some b) (at_n2 : slice_get b.blocks s1.top.block ≡ Some n2) (types : (x : ℕ) (t : Tree) → slice_get own.body.locals x ≡ Some t → slice_get b.locals (0 + x) ≡ Some t) (same_stmts : (a : ℕ) (st : TypedStmt) → slice_get n.stmts a ≡ Some st → slice_get n2.stmts a ≡ Some st) (kind : IsSite S s1.top.function s1.top.block n ⊎ (n2 ≡ n)) where
       abbrev ts1 : List Tree
       ts1 = own.body.locals
 
@@ -73,7 +73,7 @@ module _ (S : Setting) where
       at_b2 = ap (slice_get b.blocks) own.block ∙ at_n2
 
       own_clear : (x y : ℕ) → J s1.top.frame x ≡ Some (a0, y) → (e x' : ℕ) (u : Value) → J e x' ≡ Some (a0, y) → local_at s1.memory e x' ≡ Some u → (e ≡ s1.top.frame) × (x' ≡ x)
-      own_clear x y q e x' u q' live = let same = own.alone e x' y u q' live in (same, (same_local S) F s1.top.frame x x' a0 y q (ap (λ e. J e x') (sym same) ∙ q'))
+      own_clear x y q e x' u q' live = let same = own.alone e x' y u q' live in (same, same_local S F s1.top.frame x x' a0 y q (ap (λ e. J e x') (sym same) ∙ q'))
 
       own_at : (c2 c1 : Control) (k2 k1 : Memory) → c2.function ≡ s2.top.function → c1.function ≡ s1.top.function → c2.frame ≡ a0 → c1.frame ≡ s1.top.frame → c2.dest ≡ s2.top.dest → c1.dest ≡ s1.top.dest → c2.block ≡ c1.block → c2.at ≡ c1.at → c1.dropping ≡ None → stacks.Reached X c1 → On k2 k1 → Own F k2 k1 c2 c1
       own_at c2 c1 k2 k1 q1 q2 q3 q4 q5 q6 q7 q8 q9 far ow =
@@ -110,10 +110,10 @@ module _ (S : Setting) where
       own_stmt st x at e =
           let (k1, e1, e2) = bind_some e in
           let same = stmt_self S s1.top.function own.body s1.top.block n s1.top.at st own.is_body at_n at in
-          let (k2, q, l, ow) = stmt_rel X (pairs S) s2 s1 r ts1 b.locals 0 own.ghost types st st k1 same own_clear (λ _. (payloads S) s2 ty b is_b2 ts1 s1.top.frame J) e1 in
+          let (k2, q, l, ow) = stmt_rel X (pairs S) s2 s1 r ts1 b.locals 0 own.ghost types st st k1 same own_clear (λ _. payloads S s2 ty b is_b2 ts1 s1.top.frame J) e1 in
           let at2 : slice_get n2.stmts s2.top.at ≡ Some st = ap (slice_get n2.stmts) own.place ∙ same_stmts s1.top.at st at in
           let moved = stmt_moves C2 s2 b n2 st k2 is_b2 at_b2 at2 q in
-          (answer_at S) s2 x _ e2 (
+          answer_at S s2 x _ e2 (
             0,
             _,
             ap (keep_on (moves C2 0)) moved,
@@ -220,7 +220,7 @@ module _ (S : Setting) where
           let ge = slice_get-none n.stmts s1.top.at past in
           let same : length n.stmts ≡ length k.stmts = ap (λ (n : TypedBlock). length n.stmts) is in
           omega (arith, le, ge, same)) in
-          let (m, e4, rel) = site_rel X i k is_k os (is1 S) is2 few result s2 s1 r own below more in_f at_i at_end pl ops to args e1 e2 (λ m moved x t w is at j. fits m in_f moved x t w is at j) in
+          let (m, e4, rel) = site_rel S now own more in_f at_i at_end pl ops to args e1 e2 (λ m moved x t w is at j. fits m in_f moved x t w is at j) in
           site_answer x to args m k3' e4 rel
         where
           fits : (m : Memory) → s1.top.function ≡ f → moves C2 (suc (length (extra b1 h i k is_k p os next))) s2 ≡ Some (record s2 { memory = m; top = to_block B (record s2.top { at = s2.top.at + length (extra b1 h i k is_k p os next) }) }) → (x : ℕ) (t : Tree) (w : Value) → slice_get bt.locals x ≡ Some t → local_at m a0 x ≡ Some w → (j : Renaming) → ValueRel j (blank D t) w
@@ -231,9 +231,9 @@ module _ (S : Setting) where
       pub own_term : (x : Next) → slice_get n.stmts s1.top.at ≡ None → finish C1 A1 s1 n.term ≡ Some x → Flat x → Answer S s2 x
       own_term x past e fl = go kind
         where
-          go : (IsSite S) s1.top.function s1.top.block n ⊎ (n2 ≡ n) → Answer S s2 x
+          go : IsSite S s1.top.function s1.top.block n ⊎ (n2 ≡ n) → Answer S s2 x
           go (inl (in_f, at_i, is)) = own_site x in_f at_i is past e
           go (inr same) =
               let past2 : slice_get n2.stmts s2.top.at ≡ None = ap₂ (λ (n : TypedBlock) a. slice_get n.stmts a) same own.place ∙ past in
               let is : step C2 s2 ≡ finish C2 A2 s2 n.term = term_step S s2 b n2 is_b2 at_b2 past2 ∙ ap (λ (n : TypedBlock). finish C2 A2 s2 n.term) same in
-              (by_step S) s2 x (follow.follows_by X (pairs S) (step C2 s2) (finish C2 A2 s2 n.term) x is (own_finish n.term x (calm s1.top.function own.body s1.top.block n own.is_body at_n) ready e fl))
+              by_step S s2 x (follow.follows_by X (pairs S) (step C2 s2) (finish C2 A2 s2 n.term) x is (own_finish n.term x (calm s1.top.function own.body s1.top.block n own.is_body at_n) ready e fl))

@@ -77,6 +77,8 @@ pub record Words : Type 1 where
   pub bt : TypedBody
   pub B : ℕ
   pub L : ℕ
+  -- the local that keeps the destination
+  pub d : ℕ
   pub Rel : State → State → Type 0
   pub Stack : Stands → Memory → Memory → ℕ → List Control → List Control → Type 0
   pub Own : Stands → Memory → Memory → Control → Control → Type 0
@@ -99,6 +101,7 @@ module _ (S : Setting) where
     bt = b2 fn.body hn.body i k is_k p os next;
     B = length fn.body.blocks;
     L = length fn.body.locals;
+    d = length fn.body.locals + length hn.body.locals;
     Rel = stacks.Rel one_call;
     Stack = stacks.Stack one_call;
     Own = stacks.Own one_call;
