@@ -3,18 +3,16 @@ use Rattle.std.proofs.Common.{◌≡◌, ◌⊎◌, inl, inr, refl, sym, ap, ap�
 use Rattle.std.proofs.lemmas.List.{length-append, length-map}
 use Rattle.std.proofs.lemmas.Option.{slice_get_past}
 use Rattle.mir_syntax.specs.declared.body.Proj.TheVariants.{Deref}
-use Rattle.mir_syntax.specs.declared.body.Place.{Place}
-use Rattle.mir_syntax.specs.declared.body.Operand.{Operand}
 use Rattle.mir_syntax.specs.declared.body.Operand.TheVariants as operand
 use Rattle.mir_syntax.specs.declared.body.Term.TheVariants.{Goto, Return}
 use Rattle.mir_syntax.specs.Tree.{Tree}
-use Rattle.mir_syntax.specs.Crate.{«use», TypedStmt, assign, TypedBlock, TypedBody}
-use Rattle.mir_syntax.specs.Shapes.{Shape, place_ty, needs_drop}
+use Rattle.mir_syntax.specs.Crate.{«use», TypedStmt, assign, TypedBlock}
+use Rattle.mir_syntax.specs.Shapes.{place_ty, needs_drop}
 use Rattle.mir_semantics.specs.Values.{Addr, Value, pointer, blank}
 use Rattle.mir_semantics.specs.Memory.{Memory, local_at, value_at, write, there, project, walk, close_frame}
-use Rattle.mir_semantics.specs.Step.{Code, Dest, Control, State, Here, local_addr, resolve, type_of, guard_of, dest_of, store, read_at, read, eval, exec, to_block, next_stmt, finish, perform, step}
+use Rattle.mir_semantics.specs.Step.{Dest, Control, State, Here, local_addr, resolve, type_of, guard_of, dest_of, store, read_at, read, eval, exec, to_block, next_stmt, finish, perform, step}
 use Rattle.mir_syntax.specs.Parts.{has_deref}
-use Rattle.mir_renaming.specs.Renaming.{Renaming, AddrRel, ValueRel}
+use Rattle.mir_renaming.specs.Renaming.{AddrRel, ValueRel}
 use Rattle.mir_syntax.proofs.Binds.{bind_some, some_bind}
 use Rattle.mir_renaming.proofs.Memory.{value_at_rel, write_target, write_other}
 use Rattle.mir_renaming.proofs.Statements.{Linked, DestRel, read_at_rel, store_rel}
@@ -23,12 +21,12 @@ use Rattle.trim_locals.specs.Trimmed.{renamed_stmt}
 use Rattle.mir_relate.proofs.Leaves.{some_val}
 use Rattle.mir_renaming.proofs.Stores.{write_there}
 use Rattle.inline_pass.specs.Spliced.{whole_local, after, referent_of, kept_dest, term_after, block_after, result_to}
-use Rattle.inline_pass.proofs.refines.Into.{Into, Stands, into, into_parts, into_at, close_back, close_inner}
+use Rattle.inline_pass.proofs.refines.Into.{Into, into, into_parts, into_at, close_back, close_inner}
 use Rattle.inline_pass.proofs.refines.Both.{store_both}
 use Rattle.inline_pass.proofs.refines.Stacks as stacks
 use Rattle.inline_pass.proofs.refines.Stacks.{Onward, onward_trans, stack_onward}
 use Rattle.inline_pass.proofs.refines.Onwards.{onward_refl, onward_both, onward_alone, onward_target, onward_close_alone, stmt_moves}
-use Rattle.inline_pass.proofs.Bodies.{b2, own_locals, copy_locals, kept_there, copy_blocks, stand_end}
+use Rattle.inline_pass.proofs.Bodies.{own_locals, copy_locals, kept_there, copy_blocks, stand_end}
 use Rattle.inline_pass.proofs.refines.Keep.{walk_there}
 use Rattle.inline_pass.proofs.refines.Setting.{Setting, words, Moment, seen, is1, is_h, first_of, p_in}
 use Rattle.inline_pass.proofs.refines.Site.{moves_last}

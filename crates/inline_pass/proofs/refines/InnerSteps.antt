@@ -1,23 +1,21 @@
 -- Steps of the callee's frame in the caller's.
-use Rattle.std.proofs.Common.{◌≡◌, ◌⊎◌, inl, inr, refl, sym, ap, ◌∙◌, subst, ℕ, suc, ◌+◌, ◌<◌, ◌≤◌, false, List, [], ◌∷◌, ◌++◌, map, length, Some, None, slice_get, arith}
-use Rattle.std.proofs.lemmas.Option.{slice_get_within, slice_get_past}
+use Rattle.std.proofs.Common.{◌≡◌, ◌⊎◌, inl, inr, refl, sym, ap, ◌∙◌, subst, ℕ, suc, ◌+◌, ◌<◌, false, List, [], ◌∷◌, ◌++◌, map, length, Some, None, slice_get, arith}
+use Rattle.std.proofs.lemmas.Option.{slice_get_past}
 use Rattle.std.proofs.lemmas.List.{length-append, length-map}
 use Rattle.mir_syntax.specs.declared.body.Arm.{Arm}
 use Rattle.mir_syntax.specs.declared.body.Place.{Place}
 use Rattle.mir_syntax.specs.declared.body.Term.{Term}
 use Rattle.mir_syntax.specs.declared.body.Term.TheVariants.{Goto, Switch, Return, Unreachable, Drop, Call, Assert}
 use Rattle.mir_syntax.specs.Tree.{Tree}
-use Rattle.mir_syntax.specs.Crate.{TypedStmt, TypedBlock, TypedBody}
-use Rattle.mir_syntax.specs.Shapes.{Shape, ◌>>=◌}
+use Rattle.mir_syntax.specs.Crate.{TypedStmt, TypedBlock}
+use Rattle.mir_syntax.specs.Shapes.{◌>>=◌}
 use Rattle.mir_syntax.proofs.Lists.{map_there, slice_get-none}
 use Rattle.mir_rules.proofs.ValidCrates.{term_formed_at}
 use Rattle.mir_semantics.specs.Values.{Value}
 use Rattle.mir_semantics.specs.Memory.{Memory, local_at, close_frame}
-use Rattle.mir_semantics.specs.Step.{Code, code_of, Control, State, Next, on, Here, exec, to_block, next_stmt, go_on, return_to, finish, step}
+use Rattle.mir_semantics.specs.Step.{Control, Next, on, Here, exec, to_block, next_stmt, go_on, return_to, finish, step}
 use Rattle.mir_syntax.specs.Parts.{has_deref, retargeted_arm}
-use Rattle.mir_renaming.specs.Renaming.{Renaming}
 use Rattle.mir_syntax.proofs.Binds.{bind_some}
-use Rattle.mir_renaming.proofs.Typed.{Typed}
 use Rattle.mir_relate.specs.Simulation.{keep_on, moves}
 use Rattle.trim_locals.specs.Trimmed.{renamed_stmt}
 use Rattle.mir_relate.specs.Renumbered.{Numbering}
@@ -25,7 +23,7 @@ use Rattle.mir_relate.proofs.Leaves.{some_val}
 use Rattle.mir_syntax.proofs.Trees.{slice_get-front}
 use Rattle.inline_pass.specs.Spliced.{after, term_after, block_after, result_to, kept_dest}
 use Rattle.mir_rules.specs.Drops.{is_drop}
-use Rattle.inline_pass.proofs.refines.Into.{Into, Stands, into, into_parts}
+use Rattle.inline_pass.proofs.refines.Into.{Into, into_parts}
 use Rattle.inline_pass.proofs.Text.{TermReady, term_ready}
 use Rattle.inline_pass.proofs.refines.Stacks as stacks
 use Rattle.inline_pass.proofs.refines.Stacks.{Onward, own_onward, inner_onward, stack_onward, onward_less}
@@ -34,17 +32,12 @@ use Rattle.inline_pass.proofs.refines.Follow as follow
 use Rattle.inline_pass.proofs.refines.Follow.{Longer, return_rel}
 use Rattle.inline_pass.proofs.refines.Running.{Off, stmt_rel, finish_rel}
 use Rattle.inline_pass.proofs.refines.Running as running
-use Rattle.inline_pass.proofs.Bodies.{b2, copy_locals, copy_blocks}
+use Rattle.inline_pass.proofs.Bodies.{copy_locals, copy_blocks}
 use Rattle.inline_pass.proofs.refines.Back.{back_rel}
-use Rattle.inline_pass.proofs.refines.Setting.{Setting, words, Moment, seen, is1, is_h, formed, first_of, pairs, p_in, stmt_copy, Answer, answer_at, by_step, payloads, term_step, same_local}
-
-abbrev NoReturn : Term → Type 0
-NoReturn Return = ⊥
-NoReturn _ = Unit {0}
+use Rattle.inline_pass.proofs.refines.Setting.{NoReturn, Setting, farther, words, Moment, seen, is_h, formed, pairs, stmt_copy, Answer, answer_at, by_step, payloads, term_step, same_local}
 
 module _ (S : Setting) where
   open S use {C, valid, bodies2, f, fn, hn, fn_at, g, hn_at, apart, i, k, is_k, p, os, next, term_is, is2, others, valid2, calm, few, tp, p_ty, result}
-
   open words S use {X, C1, C2, D, b1, h, bt, B, L, Rel, Stack, Own, Inner}
 
   module _ (now : Moment S) where
@@ -151,16 +144,9 @@ module _ (S : Setting) where
               answers = r.answers;
               trace = r.trace;
               link = l;
-              stack = inner_stack (next_stmt s2.top) (next_stmt s1.top) k2 k1 refl (inner_at (next_stmt s2.top) (next_stmt s1.top) k2 k1 refl refl refl refl refl refl inner.block (ap suc inner.place) inner.calm1 (farther_on st at) ow) ow;
+              stack = inner_stack (next_stmt s2.top) (next_stmt s1.top) k2 k1 refl (inner_at (next_stmt s2.top) (next_stmt s1.top) k2 k1 refl refl refl refl refl refl inner.block (ap suc inner.place) inner.calm1 (farther S s1.top h n st (ap (slice_get C1.bodies) inner.function1 ∙ is_h S) at_n at) ow) ow;
             },
           )
-        where
-          farther_on : (st : TypedStmt) → slice_get n.stmts s1.top.at ≡ Some st → stacks.Reached X (next_stmt s1.top)
-          farther_on st at b' k' is at' =
-              let same : h ≡ b' = some_val (sym (is_h S) ∙ ap (slice_get C1.bodies) (sym inner.function1) ∙ is) in
-              let same' : n ≡ k' = some_val (sym at_n ∙ ap (λ (b : TypedBody). slice_get b.blocks s1.top.block) same ∙ at') in
-              let lt = slice_get_within n.stmts s1.top.at st at in
-              subst (λ (n : TypedBlock). suc s1.top.at ≤ length n.stmts) same' (omega (arith, lt))
 
       -- ---- its terminators
 

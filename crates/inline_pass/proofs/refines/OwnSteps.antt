@@ -1,5 +1,5 @@
 -- Steps of a frame that stands alone.
-use Rattle.std.proofs.Common.{◌≡◌, ◌⊎◌, inl, inr, refl, sym, ap, ap₂, ◌∙◌, subst, ℕ, suc, ◌+◌, ◌<◌, ◌≤◌, false, List, [], ◌∷◌, map, length, Option, Some, None, slice_get, arith}
+use Rattle.std.proofs.Common.{◌≡◌, ◌⊎◌, inl, inr, refl, sym, ap, ap₂, ◌∙◌, subst, ℕ, suc, ◌+◌, ◌<◌, false, List, [], ◌∷◌, map, length, Option, Some, None, slice_get, arith}
 use Rattle.std.proofs.lemmas.Option.{slice_get_within}
 use Rattle.mir_syntax.specs.declared.body.Arm.{Arm}
 use Rattle.mir_syntax.specs.declared.body.Operand.{Operand}
@@ -8,18 +8,17 @@ use Rattle.mir_syntax.specs.declared.body.Term.{Term}
 use Rattle.mir_syntax.specs.declared.body.Term.TheVariants.{Goto, Switch, Return, Unreachable, Drop, Call, Assert}
 use Rattle.mir_syntax.specs.Tree.{Tree}
 use Rattle.mir_syntax.specs.Crate.{TypedStmt, TypedBlock, TypedBody}
-use Rattle.mir_syntax.specs.Shapes.{Shape, ◌>>=◌}
+use Rattle.mir_syntax.specs.Shapes.{◌>>=◌}
 use Rattle.mir_syntax.proofs.Lists.{slice_get-none}
 use Rattle.mir_rules.specs.Formed.{term_formed}
 use Rattle.mir_rules.proofs.ValidCrates.{term_formed_at}
 use Rattle.mir_semantics.specs.Values.{Value, blank}
 use Rattle.mir_semantics.specs.Memory.{Memory, local_at, open_frame, close_frame}
-use Rattle.mir_semantics.specs.Step.{Code, code_of, Dest, Control, State, Next, Here, local_addr, exec, to_block, next_stmt, go_on, new_slots, entered, enter, call, finish, step}
+use Rattle.mir_semantics.specs.Step.{Dest, Control, Next, Here, local_addr, exec, to_block, next_stmt, go_on, new_slots, entered, enter, call, finish, step}
 use Rattle.mir_renaming.specs.Renaming.{Renaming, AddrRel, ValueRel}
 use Rattle.mir_syntax.proofs.Binds.{bind_some, some_bind}
 use Rattle.mir_renaming.proofs.Statements.{read_at_rel}
 use Rattle.mir_renaming.proofs.Types.{blank_fits}
-use Rattle.mir_renaming.proofs.Typed.{Typed}
 use Rattle.mir_relate.specs.Simulation.{keep_on, moves}
 use Rattle.mir_renaming.proofs.Ghosts.{Flat}
 use Rattle.mir_renaming.proofs.Frames.{new_control}
@@ -27,7 +26,7 @@ use Rattle.trim_locals.specs.Trimmed.{renamed_operand}
 use Rattle.mir_relate.specs.Renumbered.{Numbering, OperandSame, OperandsSame}
 use Rattle.mir_rules.specs.Drops.{is_drop}
 use Rattle.mir_relate.proofs.Leaves.{some_val}
-use Rattle.inline_pass.proofs.refines.Into.{Stands, into, into_at, close_both}
+use Rattle.inline_pass.proofs.refines.Into.{into_at, close_both}
 use Rattle.inline_pass.proofs.Text.{sum_zero, TermReady, term_ready, itself, term_operand_itself, operands_itself, place_lift, operands_lift}
 use Rattle.inline_pass.proofs.refines.Stacks as stacks
 use Rattle.inline_pass.proofs.refines.Stacks.{Onward, own_onward, inner_onward, stack_onward, onward_less}
@@ -36,17 +35,12 @@ use Rattle.inline_pass.proofs.refines.Follow as follow
 use Rattle.inline_pass.proofs.refines.Follow.{Longer, return_rel}
 use Rattle.inline_pass.proofs.refines.Running.{Off, stmt_rel, finish_rel}
 use Rattle.inline_pass.proofs.refines.Running as running
-use Rattle.inline_pass.proofs.Bodies.{b2, extra, own_locals}
+use Rattle.inline_pass.proofs.Bodies.{extra, own_locals}
 use Rattle.inline_pass.proofs.refines.Site.{site_rel}
-use Rattle.inline_pass.proofs.refines.Setting.{Setting, words, Moment, seen, is1, is_h, formed, first_of, pairs, IsSite, stmt_self, Answer, answer_at, by_step, typed_moves, payloads, term_step, same_local}
-
-abbrev NoReturn : Term → Type 0
-NoReturn Return = ⊥
-NoReturn _ = Unit {0}
+use Rattle.inline_pass.proofs.refines.Setting.{NoReturn, Setting, farther, words, Moment, seen, is1, is_h, formed, first_of, pairs, IsSite, stmt_self, Answer, answer_at, by_step, typed_moves, payloads, term_step, same_local}
 
 module _ (S : Setting) where
   open S use {C, valid, bodies2, f, fn, hn, fn_at, g, hn_at, apart, i, k, is_k, p, os, next, term_is, is2, others, valid2, calm, few, tp, p_ty, result}
-
   open words S use {X, C1, C2, D, b1, h, bt, B, L, Rel, Stack, Own, Inner}
 
   module _ (now : Moment S) where
@@ -124,16 +118,9 @@ module _ (S : Setting) where
               answers = r.answers;
               trace = r.trace;
               link = l;
-              stack = own_stack (next_stmt s2.top) (next_stmt s1.top) k2 k1 refl (own_at (next_stmt s2.top) (next_stmt s1.top) k2 k1 refl refl refl refl refl refl own.block (ap suc own.place) own.calm (farther_on st at) ow) ow;
+              stack = own_stack (next_stmt s2.top) (next_stmt s1.top) k2 k1 refl (own_at (next_stmt s2.top) (next_stmt s1.top) k2 k1 refl refl refl refl refl refl own.block (ap suc own.place) own.calm (farther S s1.top own.body n st own.is_body at_n at) ow) ow;
             },
           )
-        where
-          farther_on : (st : TypedStmt) → slice_get n.stmts s1.top.at ≡ Some st → stacks.Reached X (next_stmt s1.top)
-          farther_on st at b' k' is at' =
-              let same : own.body ≡ b' = some_val (sym own.is_body ∙ is) in
-              let same' : n ≡ k' = some_val (sym at_n ∙ ap (λ (b : TypedBody). slice_get b.blocks s1.top.block) same ∙ at') in
-              let lt = slice_get_within n.stmts s1.top.at st at in
-              subst (λ (n : TypedBlock). suc s1.top.at ≤ length n.stmts) same' (omega (arith, lt))
 
       -- ---- its terminators
 

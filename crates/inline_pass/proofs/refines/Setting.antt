@@ -1,11 +1,13 @@
 -- A call that is replaced in a valid crate: the bodies on both sides, the text of their frames, and what a step owes.
 use Rattle.std.proofs.Common.{◌≡◌, ◌⊎◌, inl, inr, refl, sym, ap, ap₂, ◌∙◌, subst, ℕ, zero, suc, ◌+◌, ◌<◌, ◌≤◌, true, false, List, length, Option, Some, None, slice_get, arith}
 use Rattle.std.proofs.lemmas.Bool.{cases_eq}
+use Rattle.std.proofs.lemmas.Option.{slice_get_within}
 use Rattle.mir_syntax.specs.declared.types.FnId.{FnId}
 use Rattle.mir_syntax.specs.declared.body.Place.{Place}
 use Rattle.mir_syntax.specs.declared.body.Operand.{Operand}
 use Rattle.mir_syntax.specs.declared.body.Callee.TheVariants as callee
-use Rattle.mir_syntax.specs.declared.body.Term.TheVariants.{Call}
+use Rattle.mir_syntax.specs.declared.body.Term.{Term}
+use Rattle.mir_syntax.specs.declared.body.Term.TheVariants.{Return, Call}
 use Rattle.mir_syntax.specs.Tree.{Tree}
 use Rattle.mir_syntax.specs.Crate.{TypedStmt, TypedBlock, TypedBody, TypedFunction, Crate}
 use Rattle.mir_syntax.specs.Shapes.{Shape, place_ty}
@@ -14,7 +16,7 @@ use Rattle.mir_rules.specs.Valid.{Valid}
 use Rattle.mir_rules.proofs.ValidCrates.{body_formed_at, stmt_formed_at, term_formed_at, result_there}
 use Rattle.mir_semantics.specs.Values.{variant}
 use Rattle.mir_semantics.specs.Memory.{Memory}
-use Rattle.mir_semantics.specs.Step.{Code, code_of, Control, State, Next, on, stop, fail, finish, perform, step}
+use Rattle.mir_semantics.specs.Step.{Code, code_of, Control, State, Next, next_stmt, on, stop, fail, finish, perform, step}
 use Rattle.mir_renaming.specs.Renaming.{Renaming}
 use Rattle.mir_syntax.proofs.Binds.{some_bind}
 use Rattle.mir_renaming.proofs.Statements.{PayloadsOk}
@@ -36,6 +38,10 @@ use Rattle.inline_pass.proofs.refines.Follow as follow
 use Rattle.inline_pass.proofs.refines.Follow.{Longer, return_rel}
 use Rattle.inline_pass.proofs.refines.Running.{Off}
 use Rattle.inline_pass.proofs.Bodies.{b2, calling, own_locals, own_blocks, call_block}
+
+abbrev pub NoReturn : Term → Type 0
+NoReturn Return = ⊥
+NoReturn _ = Unit {0}
 
 -- a call that is replaced in a valid crate, and the target's bodies
 pub record Setting : Type 1 where
@@ -110,7 +116,6 @@ module _ (S : Setting) where
 
 module _ (S : Setting) where
   open S use {C, valid, bodies2, f, fn, hn, fn_at, g, hn_at, apart, i, k, is_k, p, os, next, term_is, is2, others, valid2, calm, few, tp, p_ty}
-
   open words S use {X, C1, C2, D, b1, h, bt, B, L, Rel, Stack, Own, Inner}
 
   pub is1 : slice_get C1.bodies f ≡ Some b1
@@ -175,6 +180,14 @@ module _ (S : Setting) where
 
   pub stmt_copy : (m : ℕ) (n : TypedBlock) (a : ℕ) (st : TypedStmt) → slice_get h.blocks m ≡ Some n → slice_get n.stmts a ≡ Some st → StmtSame (Off L (length h.locals)) st (renamed_stmt (after L) st)
   stmt_copy m n a st e2 e3 = stmt_ready C h (Off L (length h.locals)) (after L) (λ x lt. (lt, refl)) st (stmt_formed_at C h (formed g.0 h is_h) m a n st e2 e3)
+
+  -- behind a statement there is the terminator at least
+  pub farther : (c : Control) (b : TypedBody) (n : TypedBlock) (st : TypedStmt) → slice_get C1.bodies c.function ≡ Some b → slice_get b.blocks c.block ≡ Some n → slice_get n.stmts c.at ≡ Some st → stacks.Reached X (next_stmt c)
+  farther c b n st is at_n at b' k' is' at' =
+      let same : b ≡ b' = some_val (sym is ∙ is') in
+      let same' : n ≡ k' = some_val (sym at_n ∙ ap (λ (b : TypedBody). slice_get b.blocks c.block) same ∙ at') in
+      let lt = slice_get_within n.stmts c.at st at in
+      subst (λ (n : TypedBlock). suc c.at ≤ length n.stmts) same' (omega (arith, lt))
 
   -- ---- what is owed
 

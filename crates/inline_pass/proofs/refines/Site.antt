@@ -3,11 +3,10 @@ use Rattle.std.proofs.Common.{◌≡◌, ◌⊎◌, inl, inr, refl, sym, ap, ◌
 use Rattle.std.proofs.lemmas.Option.{slice_get_past}
 use Rattle.std.proofs.lemmas.List.{length-append}
 use Rattle.mir_syntax.specs.declared.body.Place.{Place}
-use Rattle.mir_syntax.specs.declared.body.Operand.{Operand}
 use Rattle.mir_syntax.specs.declared.body.Term.TheVariants.{Goto}
 use Rattle.mir_syntax.specs.Tree.{Tree}
-use Rattle.mir_syntax.specs.Crate.{TypedBlock, TypedBody}
-use Rattle.mir_syntax.specs.Shapes.{Shape, place_ty}
+use Rattle.mir_syntax.specs.Crate.{TypedBody}
+use Rattle.mir_syntax.specs.Shapes.{place_ty}
 use Rattle.mir_semantics.specs.Values.{Value, pointer, blank}
 use Rattle.mir_semantics.specs.Memory.{Memory, local_at, open_frame}
 use Rattle.mir_semantics.specs.Step.{Code, Dest, State, Next, on, stop, fail, Here, type_of, dest_of, read_all, to_block, new_slots, finish, perform, step}
@@ -22,12 +21,12 @@ use Rattle.mir_renaming.proofs.Frames.{open_other, new_control}
 use Rattle.mir_relate.specs.Simulation.{keep_on, moves}
 use Rattle.mir_relate.proofs.Leaves.{some_val}
 use Rattle.inline_pass.specs.Spliced.{kept, handed}
-use Rattle.inline_pass.proofs.refines.Into.{Into, Stands, placed, into, stand, stand_new, stand_old, stand_sub, into_parts, open_inner}
+use Rattle.inline_pass.proofs.refines.Into.{Into, Stands, placed, into, stand, stand_new, stand_old, stand_sub, into_parts, open_inner, new_apart}
 use Rattle.inline_pass.proofs.refines.Stacks as stacks
 use Rattle.inline_pass.proofs.refines.Stacks.{Onward, onward_trans, stack_onward, stack_up, dests_up, held_up, stays}
 use Rattle.inline_pass.proofs.refines.Onwards.{exec_all, StandFrom, farther, all_move}
 use Rattle.inline_pass.proofs.refines.Slots.{slot_cases}
-use Rattle.inline_pass.proofs.Bodies.{stand_end, b2, extra, calling, copy_locals, kept_there, call_block}
+use Rattle.inline_pass.proofs.Bodies.{stand_end, extra, calling, copy_locals, kept_there, call_block}
 use Rattle.inline_pass.proofs.refines.Hand.{Writes, writes_trans, writes_wide, writes_onward, exec_more, hand}
 use Rattle.inline_pass.proofs.refines.Keep.{keep, Kept}
 use Rattle.inline_pass.proofs.refines.Setting.{Setting, words, Moment, seen, is1}
@@ -56,16 +55,9 @@ dest_typed a m p to e =
 pub onward_inner : (F : Stands) (m2 m1 : Memory) (n : ℕ) (i : Into) (vs1 : List Value) → Onward (stand F n i) i.frame m2 m1 m2 (open_frame m1 n vs1)
 onward_inner F m2 m1 n i vs1 = record {
   room = λ a x w l e. (w, e);
-  back = λ e x a z u q l k. (u, sym (open_other m1 n vs1 e x (λ s. away e x a z q l s)) ∙ k);
+  back = λ e x a z u q l k. (u, sym (open_other m1 n vs1 e x (λ s. new_apart F n i e x a z q l s)) ∙ k);
   stay = λ a z w l free e. e;
 }
-  where
-    away : (e x a z : ℕ) → into (stand F n i) e x ≡ Some (a, z) → a < i.frame → n ≡ e → ⊥
-    away e x a z q l s =
-        let (j, h, _, r, _) = into_parts (stand F n i) e x a z q in
-        let same : j ≡ i = some_val (sym h ∙ ap (stand F n i) (sym s) ∙ stand_new F n i) in
-        let y : i.frame ≡ a = ap (λ (j : Into). j.frame) (sym same) ∙ r in
-        omega (arith, y, l)
 
 module _ (S : Setting) where
   open S use {bodies2, f, i, k, is_k, p, os, next, is2, few, result}
