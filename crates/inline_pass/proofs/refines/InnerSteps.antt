@@ -16,7 +16,7 @@ use Rattle.mir_semantics.specs.Memory.{Memory, local_at, close_frame}
 use Rattle.mir_semantics.specs.Step.{Control, Next, on, Here, exec, to_block, next_stmt, go_on, return_to, finish, step}
 use Rattle.mir_syntax.specs.Parts.{has_deref, retargeted_arm}
 use Rattle.mir_syntax.proofs.Binds.{bind_some}
-use Rattle.mir_relate.specs.Simulation.{keep_on, moves}
+use Rattle.mir_relate.specs.Simulation.{moves}
 use Rattle.trim_locals.specs.Trimmed.{renamed_stmt}
 use Rattle.mir_relate.specs.Renumbered.{Numbering}
 use Rattle.mir_relate.proofs.Leaves.{some_val}
@@ -34,7 +34,7 @@ use Rattle.inline_pass.proofs.refines.Running.{Off, stmt_rel, finish_rel}
 use Rattle.inline_pass.proofs.refines.Running as running
 use Rattle.inline_pass.proofs.Bodies.{copy_locals, copy_blocks}
 use Rattle.inline_pass.proofs.refines.Back.{back_rel}
-use Rattle.inline_pass.proofs.refines.Setting.{NoReturn, Setting, farther, words, Moment, seen, is_h, formed, pairs, stmt_copy, Answer, answer_at, by_step, payloads, term_step, same_local}
+use Rattle.inline_pass.proofs.refines.Setting.{NoReturn, Setting, farther, words, Moment, seen, is_h, formed, pairs, stmt_copy, Answer, answer_at, stmt_answer, by_step, payloads, term_step, same_local}
 
 module _ (S : Setting) where
   open S use {C, valid, bodies2, f, fn, hn, fn_at, g, hn_at, apart, i, k, is_k, p, os, next, term_is, is2, others, valid2, calm, few, tp, p_ty, result}
@@ -133,20 +133,9 @@ module _ (S : Setting) where
           let (k2, q, l, ow) = stmt_rel X (pairs S) s2 s1 r h.locals bt.locals L inner.ghost1 types_copy st (renamed_stmt (after L) st) k1 same inner_clear (λ _. payloads S s2 ty bt is_copy h.locals s1.top.frame J) e1 in
           let at2 : slice_get copy.stmts s2.top.at ≡ Some (renamed_stmt (after L) st) = ap (slice_get copy.stmts) inner.place ∙ slice_get-front (map (renamed_stmt (after L)) n.stmts) _ s1.top.at _ (map_there (renamed_stmt (after L)) n.stmts s1.top.at st at) in
           let moved = stmt_moves C2 s2 bt copy (renamed_stmt (after L) st) k2 is_copy at_copy at2 q in
-          answer_at S s2 x _ e2 (
-            0,
-            _,
-            ap (keep_on (moves C2 0)) moved,
-            record {
-              stands = F;
-              fresh = r.fresh;
-              low = r.low;
-              answers = r.answers;
-              trace = r.trace;
-              link = l;
-              stack = inner_stack (next_stmt s2.top) (next_stmt s1.top) k2 k1 refl (inner_at (next_stmt s2.top) (next_stmt s1.top) k2 k1 refl refl refl refl refl refl inner.block (ap suc inner.place) inner.calm1 (farther S s1.top h n st (ap (slice_get C1.bodies) inner.function1 ∙ is_h S) at_n at) ow) ow;
-            },
-          )
+          stmt_answer S now x k2 k1 moved l
+          (inner_stack (next_stmt s2.top) (next_stmt s1.top) k2 k1 refl (inner_at (next_stmt s2.top) (next_stmt s1.top) k2 k1 refl refl refl refl refl refl inner.block (ap suc inner.place) inner.calm1 (farther S s1.top h n st (ap (slice_get C1.bodies) inner.function1 ∙ is_h S) at_n at) ow) ow)
+          e2
 
       -- ---- its terminators
 

@@ -19,7 +19,7 @@ use Rattle.mir_renaming.specs.Renaming.{Renaming, AddrRel, ValueRel}
 use Rattle.mir_syntax.proofs.Binds.{bind_some, some_bind}
 use Rattle.mir_renaming.proofs.Statements.{read_at_rel}
 use Rattle.mir_renaming.proofs.Types.{blank_fits}
-use Rattle.mir_relate.specs.Simulation.{keep_on, moves}
+use Rattle.mir_relate.specs.Simulation.{moves}
 use Rattle.mir_renaming.proofs.Ghosts.{Flat}
 use Rattle.mir_renaming.proofs.Frames.{new_control}
 use Rattle.trim_locals.specs.Trimmed.{renamed_operand}
@@ -37,7 +37,7 @@ use Rattle.inline_pass.proofs.refines.Running.{Off, stmt_rel, finish_rel}
 use Rattle.inline_pass.proofs.refines.Running as running
 use Rattle.inline_pass.proofs.Bodies.{extra, own_locals}
 use Rattle.inline_pass.proofs.refines.Site.{site_rel}
-use Rattle.inline_pass.proofs.refines.Setting.{NoReturn, Setting, farther, words, Moment, seen, is1, is_h, formed, first_of, pairs, IsSite, stmt_self, Answer, answer_at, by_step, typed_moves, payloads, term_step, same_local}
+use Rattle.inline_pass.proofs.refines.Setting.{NoReturn, Setting, farther, words, Moment, seen, is1, is_h, formed, first_of, pairs, IsSite, stmt_self, Answer, answer_at, stmt_answer, by_step, typed_moves, payloads, term_step, same_local}
 
 module _ (S : Setting) where
   open S use {C, valid, bodies2, f, fn, hn, fn_at, g, hn_at, apart, i, k, is_k, p, os, next, term_is, is2, others, valid2, calm, few, tp, p_ty, result}
@@ -107,20 +107,9 @@ module _ (S : Setting) where
           let (k2, q, l, ow) = stmt_rel X (pairs S) s2 s1 r ts1 b.locals 0 own.ghost types st st k1 same own_clear (λ _. payloads S s2 ty b is_b2 ts1 s1.top.frame J) e1 in
           let at2 : slice_get n2.stmts s2.top.at ≡ Some st = ap (slice_get n2.stmts) own.place ∙ same_stmts s1.top.at st at in
           let moved = stmt_moves C2 s2 b n2 st k2 is_b2 at_b2 at2 q in
-          answer_at S s2 x _ e2 (
-            0,
-            _,
-            ap (keep_on (moves C2 0)) moved,
-            record {
-              stands = F;
-              fresh = r.fresh;
-              low = r.low;
-              answers = r.answers;
-              trace = r.trace;
-              link = l;
-              stack = own_stack (next_stmt s2.top) (next_stmt s1.top) k2 k1 refl (own_at (next_stmt s2.top) (next_stmt s1.top) k2 k1 refl refl refl refl refl refl own.block (ap suc own.place) own.calm (farther S s1.top own.body n st own.is_body at_n at) ow) ow;
-            },
-          )
+          stmt_answer S now x k2 k1 moved l
+          (own_stack (next_stmt s2.top) (next_stmt s1.top) k2 k1 refl (own_at (next_stmt s2.top) (next_stmt s1.top) k2 k1 refl refl refl refl refl refl own.block (ap suc own.place) own.calm (farther S s1.top own.body n st own.is_body at_n at) ow) ow)
+          e2
 
       -- ---- its terminators
 

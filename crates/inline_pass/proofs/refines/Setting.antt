@@ -1,5 +1,5 @@
 -- A call that is replaced in a valid crate: the bodies on both sides, the text of their frames, and what a step owes.
-use Rattle.std.proofs.Common.{◌≡◌, ◌⊎◌, inl, inr, refl, sym, ap, ap₂, ◌∙◌, subst, ℕ, zero, suc, ◌+◌, ◌<◌, ◌≤◌, true, false, List, length, Option, Some, None, slice_get, arith}
+use Rattle.std.proofs.Common.{◌≡◌, ◌⊎◌, inl, inr, refl, sym, ap, ap₂, ◌∙◌, subst, ℕ, zero, suc, ◌+◌, ◌<◌, ◌≤◌, true, false, List, ◌∷◌, length, Option, Some, None, slice_get, arith}
 use Rattle.std.proofs.lemmas.Bool.{cases_eq}
 use Rattle.std.proofs.lemmas.Option.{slice_get_within}
 use Rattle.mir_syntax.specs.declared.types.FnId.{FnId}
@@ -16,10 +16,10 @@ use Rattle.mir_rules.specs.Valid.{Valid}
 use Rattle.mir_rules.proofs.ValidCrates.{body_formed_at, stmt_formed_at, term_formed_at, result_there}
 use Rattle.mir_semantics.specs.Values.{variant}
 use Rattle.mir_semantics.specs.Memory.{Memory}
-use Rattle.mir_semantics.specs.Step.{Code, code_of, Control, State, Next, next_stmt, on, stop, fail, finish, perform, step}
+use Rattle.mir_semantics.specs.Step.{Code, code_of, Control, State, Next, next_stmt, go_on, on, stop, fail, finish, perform, step}
 use Rattle.mir_renaming.specs.Renaming.{Renaming}
 use Rattle.mir_syntax.proofs.Binds.{some_bind}
-use Rattle.mir_renaming.proofs.Statements.{PayloadsOk}
+use Rattle.mir_renaming.proofs.Statements.{PayloadsOk, Linked}
 use Rattle.mir_renaming.proofs.Types.{HasTy, value_at_ty, resolve_ty, blank_fits}
 use Rattle.mir_renaming.proofs.Typed.{ValidCode, Typed, step_typed}
 use Rattle.mir_relate.specs.Simulation.{keep_on, moves}
@@ -254,3 +254,8 @@ module _ (S : Setting) (now : Moment S) where
 
   abbrev pub seen : Seen
   seen = record { F = r.stands; J = into r.stands; a0 = s2.top.frame; On = Onward r.stands s2.next s2.memory s1.memory }
+
+  -- a statement on both sides
+  pub stmt_answer : (x : Next) (k2 k1 : Memory) → step (words S).C2 s2 ≡ go_on s2 k2 (next_stmt s2.top) → Linked (into r.stands) (into r.stands) k2 k1 → (words S).Stack r.stands k2 k1 s2.next (next_stmt s2.top ∷ s2.callers) (next_stmt s1.top ∷ s1.callers) → go_on s1 k1 (next_stmt s1.top) ≡ Some x → Answer S s2 x
+  stmt_answer x k2 k1 moved l st e =
+      answer_at S s2 x _ e (0, _, ap (keep_on (moves (words S).C2 0)) moved, record { stands = r.stands; fresh = r.fresh; low = r.low; answers = r.answers; trace = r.trace; link = l; stack = st })
