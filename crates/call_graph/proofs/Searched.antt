@@ -1,5 +1,5 @@
 -- What the search for components has found at its end.
-use Rattle.std.proofs.Common.{◌≡◌, ◌≢◌, refl, sym, ap, subst, ℕ, zero, suc, ◌<◌, ◌≤◌, true, List, [], length, arith}
+use Rattle.std.proofs.Common.{◌≡◌, ◌≢◌, refl, sym, subst, ℕ, zero, suc, ◌<◌, ◌≤◌, true, List, [], length, arith}
 use Rattle.std.specs.Prelude.{◌↔◌}
 use Rattle.bit_rows.specs.Rows.{stands}
 use Rattle.call_graph.specs.declared.components.Mark.{Mark}
@@ -8,6 +8,7 @@ use Rattle.call_graph.specs.Graph.{Graph, Chain, Reaches, IsComponents, HasLists
 use Rattle.call_graph.specs.Search.{State, graph_by, mark_of, IsSearch}
 use Rattle.call_graph.proofs.Rising.{stands_where}
 use Rattle.call_graph.proofs.Stepped.{stack_empty}
+use Rattle.call_graph.proofs.Told.{chain_earlier}
 
 module _ {A : Type 0} (number : A → ℕ) (lists : List (List A)) (inside : StaysInside number lists) (G : Graph) (has : HasLists number G lists) where
   -- chains are the same
@@ -41,14 +42,12 @@ module _ {A : Type 0} (number : A → ℕ) (lists : List (List A)) (inside : Sta
 
 -- two functions are in one component exactly where each reaches the other
 module _ {A : Type 0} (number : A → ℕ) (lists : List (List A)) (inside : StaysInside number lists) (G : Graph) (has : HasLists number G lists) (component : ℕ → ℕ) (c : IsComponents G component) where
-  falls : (n f g : ℕ) → f < G.functions → Chain G n f g → component g ≤ component f
-  falls zero f g l k = let e : component f ≡ component g = ap component k in omega (arith, e)
-  falls (suc n) f g l k =
-      let a : f < length lists = (let e = has.nodes in omega (arith, e, l)) in
-      let below : k.0 < G.functions = (let i = inside f k.0 (subst (λ xs. stands k.0 xs ≡ true) (has.listed f a) k.1) in let e = has.nodes in omega (arith, e, i)) in
-      let x = c.earlier f k.0 l k.1 in
-      let y = falls n k.0 g below k.2 in
-      omega (arith, x, y)
+  within : (f g : ℕ) → f < G.functions → stands g (G.callees f) ≡ true → g < G.functions
+  within f g l s =
+      let e = has.nodes in
+      let a : f < length lists = omega (arith, e, l) in
+      let i = inside f g (subst (λ xs. stands g xs ≡ true) (has.listed f a) s) in
+      omega (arith, e, i)
 
   pub both_ways : (f g : ℕ) → f < G.functions → g < G.functions → (component f ≡ component g) ↔ (Reaches G f g × Reaches G g f)
-  both_ways f g a b = ((λ e. (c.both f g a b e, c.both g f b a (sym e))), λ r. (let x = falls r.0.0 f g a r.0.1 in let y = falls r.1.0 g f b r.1.1 in omega (arith, x, y)))
+  both_ways f g a b = ((λ e. (c.both f g a b e, c.both g f b a (sym e))), λ r. (let x = chain_earlier G within component c r.0.0 f g a r.0.1 in let y = chain_earlier G within component c r.1.0 g f b r.1.1 in omega (arith, x, y)))

@@ -23,14 +23,17 @@ not_itself G l f lt = go (asks G f f) refl
     go false e = refl
     go true e = absurd (asks_another G l f lt e)
 
-module _ (G : Graph) (l : IsGraph G) (component : ℕ → ℕ) (c : IsComponents G component) where
-  -- along a chain of calls components only come earlier
-  along : (n f g : ℕ) → f < G.functions → Chain G n f g → component g ≤ component f
-  along zero f g lt k = let e : component f ≡ component g = ap component k in omega (arith, e)
-  along (suc n) f g lt k = let a = c.earlier f k.0 lt k.1 in let b = along n k.0 g (l.callees_below f k.0 k.1) k.2 in omega (arith, a, b)
+-- along a chain of calls components only come earlier
+pub chain_earlier : (G : Graph) (inside : (f g : ℕ) → f < G.functions → stands g (G.callees f) ≡ true → g < G.functions) (component : ℕ → ℕ) → IsComponents G component → (n f g : ℕ) → f < G.functions → Chain G n f g → component g ≤ component f
+chain_earlier G inside component c zero f g lt k = let e : component f ≡ component g = ap component k in omega (arith, e)
+chain_earlier G inside component c (suc n) f g lt k =
+    let a = c.earlier f k.0 lt k.1 in
+    let b = chain_earlier G inside component c n k.0 g (inside f k.0 lt k.1) k.2 in
+    omega (arith, a, b)
 
+module _ (G : Graph) (l : IsGraph G) (component : ℕ → ℕ) (c : IsComponents G component) where
   pub reaches_earlier : (f g : ℕ) → f < G.functions → Reaches G f g → component g ≤ component f
-  reaches_earlier f g lt r = along r.0 f g lt r.1
+  reaches_earlier f g lt r = chain_earlier G (λ f g _ s. l.callees_below f g s) component c r.0 f g lt r.1
 
   -- whom f reaches reaches f exactly where they have one component
   back_is : (f g : ℕ) → f < G.functions → g < G.functions → Reaches G f g → stands f (reach G g) ≡ (component f == component g)

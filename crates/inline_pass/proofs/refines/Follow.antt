@@ -1,6 +1,5 @@
 -- Calls and returns of frames that stand alone.
 use Rattle.std.proofs.Common.{◌≡◌, ◌⊎◌, inl, inr, refl, sym, ap, ◌∙◌, subst, ℕ, suc, ◌+◌, ◌<◌, ◌≤◌, true, false, nat_eq, List, [], ◌∷◌, length, Option, Some, None, slice_get, arith}
-use Rattle.mir_syntax.specs.declared.body.Place.{Place}
 use Rattle.mir_syntax.specs.declared.body.Callee.{Callee}
 use Rattle.mir_syntax.specs.declared.body.Callee.TheVariants as callee
 use Rattle.mir_syntax.specs.Tree.{Tree, scalar}
@@ -19,7 +18,7 @@ use Rattle.mir_renaming.proofs.Frames.{open_same, open_other, new_control}
 use Rattle.mir_relate.proofs.Leaves.{some_val}
 use Rattle.mir_relate.proofs.Enter.{values_up}
 use Rattle.mir_relate.proofs.Others.{numbers_same}
-use Rattle.inline_pass.proofs.refines.Into.{Into, Stands, placed, into, stand, stand_new, stand_old, stand_sub, into_parts, open_both}
+use Rattle.inline_pass.proofs.refines.Into.{Into, Stands, placed, into, stand, stand_new, stand_old, stand_sub, into_parts, open_both, new_apart}
 use Rattle.inline_pass.proofs.refines.Both.{store_both}
 use Rattle.inline_pass.proofs.refines.Stacks as stacks
 use Rattle.inline_pass.proofs.refines.Stacks.{OneCall, Onward, onward_trans, dests_up, stack_onward, stack_up}
@@ -30,16 +29,9 @@ use Rattle.inline_pass.proofs.refines.Slots.{slot_there, slots_both}
 pub onward_open : (F : Stands) (m2 m1 : Memory) (n : ℕ) (i : Into) (vs2 vs1 : List Value) → Onward (stand F n i) i.frame m2 m1 (open_frame m2 i.frame vs2) (open_frame m1 n vs1)
 onward_open F m2 m1 n i vs2 vs1 = record {
   room = λ a x w l e. (w, open_other m2 i.frame vs2 a x (λ s. omega (arith, s, l)) ∙ e);
-  back = λ e x a z u q l k. (u, sym (open_other m1 n vs1 e x (λ s. away e x a z q l s)) ∙ k);
+  back = λ e x a z u q l k. (u, sym (open_other m1 n vs1 e x (λ s. new_apart F n i e x a z q l s)) ∙ k);
   stay = λ a z w l free e. open_other m2 i.frame vs2 a z (λ s. omega (arith, s, l)) ∙ e;
 }
-  where
-    away : (e x a z : ℕ) → into (stand F n i) e x ≡ Some (a, z) → a < i.frame → n ≡ e → ⊥
-    away e x a z q l s =
-        let (j, h, _, r, _) = into_parts (stand F n i) e x a z q in
-        let same : j ≡ i = some_val (sym h ∙ ap (stand F n i) (sym s) ∙ stand_new F n i) in
-        let y : i.frame ≡ a = ap (λ (j : Into). j.frame) (sym same) ∙ r in
-        omega (arith, y, l)
 
 no_drop : (D : List Shape) (s : State) (c : Control) → c.dropping ≡ None → destroyed D s c ≡ None
 unfolding destroyed ◌>>=◌
@@ -53,6 +45,7 @@ pub record Longer (bt bs : TypedBody) : Type 0 where
 
 module _ (X : OneCall) (pairs : (k : ℕ) (bs : TypedBody) → slice_get X.C1.bodies k ≡ Some bs → (bt : TypedBody) × (slice_get X.bodies2 k ≡ Some bt) × Longer bt bs) where
   open X use {C1, bodies2}
+
   abbrev pub C2 : Code
   C2 = record C1 { bodies = bodies2 }
 

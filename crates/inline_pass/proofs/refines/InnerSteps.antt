@@ -1,31 +1,29 @@
 -- Steps of the callee's frame in the caller's.
-use Rattle.std.proofs.Common.{◌≡◌, ◌⊎◌, inl, inr, refl, sym, ap, ◌∙◌, subst, ℕ, suc, ◌+◌, ◌<◌, ◌≤◌, false, List, [], ◌∷◌, ◌++◌, map, length, Some, None, slice_get, arith}
-use Rattle.std.proofs.lemmas.Option.{slice_get_within, slice_get_past}
+use Rattle.std.proofs.Common.{◌≡◌, ◌⊎◌, inl, inr, refl, sym, ap, ◌∙◌, subst, ℕ, suc, ◌+◌, ◌<◌, false, List, [], ◌∷◌, ◌++◌, map, length, Some, None, slice_get, arith}
+use Rattle.std.proofs.lemmas.Option.{slice_get_past}
 use Rattle.std.proofs.lemmas.List.{length-append, length-map}
 use Rattle.mir_syntax.specs.declared.body.Arm.{Arm}
 use Rattle.mir_syntax.specs.declared.body.Place.{Place}
 use Rattle.mir_syntax.specs.declared.body.Term.{Term}
 use Rattle.mir_syntax.specs.declared.body.Term.TheVariants.{Goto, Switch, Return, Unreachable, Drop, Call, Assert}
 use Rattle.mir_syntax.specs.Tree.{Tree}
-use Rattle.mir_syntax.specs.Crate.{TypedStmt, TypedBlock, TypedBody}
-use Rattle.mir_syntax.specs.Shapes.{Shape, ◌>>=◌}
+use Rattle.mir_syntax.specs.Crate.{TypedStmt, TypedBlock}
+use Rattle.mir_syntax.specs.Shapes.{◌>>=◌}
 use Rattle.mir_syntax.proofs.Lists.{map_there, slice_get-none}
 use Rattle.mir_rules.proofs.ValidCrates.{term_formed_at}
 use Rattle.mir_semantics.specs.Values.{Value}
 use Rattle.mir_semantics.specs.Memory.{Memory, local_at, close_frame}
-use Rattle.mir_semantics.specs.Step.{Code, code_of, Control, State, Next, on, Here, exec, to_block, next_stmt, go_on, return_to, finish, step}
+use Rattle.mir_semantics.specs.Step.{Control, Next, on, Here, exec, to_block, next_stmt, go_on, return_to, finish, step}
 use Rattle.mir_syntax.specs.Parts.{has_deref, retargeted_arm}
-use Rattle.mir_renaming.specs.Renaming.{Renaming}
 use Rattle.mir_syntax.proofs.Binds.{bind_some}
-use Rattle.mir_renaming.proofs.Typed.{Typed}
-use Rattle.mir_relate.specs.Simulation.{keep_on, moves}
+use Rattle.mir_relate.specs.Simulation.{moves}
 use Rattle.trim_locals.specs.Trimmed.{renamed_stmt}
 use Rattle.mir_relate.specs.Renumbered.{Numbering}
 use Rattle.mir_relate.proofs.Leaves.{some_val}
 use Rattle.mir_syntax.proofs.Trees.{slice_get-front}
 use Rattle.inline_pass.specs.Spliced.{after, term_after, block_after, result_to, kept_dest}
 use Rattle.mir_rules.specs.Drops.{is_drop}
-use Rattle.inline_pass.proofs.refines.Into.{Into, Stands, into, into_parts}
+use Rattle.inline_pass.proofs.refines.Into.{Into, into_parts}
 use Rattle.inline_pass.proofs.Text.{TermReady, term_ready}
 use Rattle.inline_pass.proofs.refines.Stacks as stacks
 use Rattle.inline_pass.proofs.refines.Stacks.{Onward, own_onward, inner_onward, stack_onward, onward_less}
@@ -34,17 +32,12 @@ use Rattle.inline_pass.proofs.refines.Follow as follow
 use Rattle.inline_pass.proofs.refines.Follow.{Longer, return_rel}
 use Rattle.inline_pass.proofs.refines.Running.{Off, stmt_rel, finish_rel}
 use Rattle.inline_pass.proofs.refines.Running as running
-use Rattle.inline_pass.proofs.Bodies.{b2, copy_locals, copy_blocks}
+use Rattle.inline_pass.proofs.Bodies.{copy_locals, copy_blocks}
 use Rattle.inline_pass.proofs.refines.Back.{back_rel}
-use Rattle.inline_pass.proofs.refines.Setting.{Setting, words, Moment, seen, is1, is_h, formed, first_of, pairs, p_in, stmt_copy, Answer, answer_at, by_step, payloads, term_step, same_local}
-
-abbrev NoReturn : Term → Type 0
-NoReturn Return = ⊥
-NoReturn _ = Unit {0}
+use Rattle.inline_pass.proofs.refines.Setting.{NoReturn, Setting, farther, words, Moment, seen, is_h, formed, pairs, stmt_copy, Answer, answer_at, stmt_answer, by_step, payloads, term_step, same_local}
 
 module _ (S : Setting) where
   open S use {C, valid, bodies2, f, fn, hn, fn_at, g, hn_at, apart, i, k, is_k, p, os, next, term_is, is2, others, valid2, calm, few, tp, p_ty, result}
-
   open words S use {X, C1, C2, D, b1, h, bt, B, L, Rel, Stack, Own, Inner}
 
   module _ (now : Moment S) where
@@ -85,7 +78,7 @@ module _ (S : Setting) where
       inner_clear x y q e x' u q' live = go (inner.alone e x' y u q' live)
         where
           go : (e ≡ s1.top.frame) ⊎ (e ≡ c0.frame) → (e ≡ s1.top.frame) × (x' ≡ x)
-          go (inl same) = (same, (same_local S) F s1.top.frame x x' a0 y q (ap (λ e. J e x') (sym same) ∙ q'))
+          go (inl same) = (same, same_local S F s1.top.frame x x' a0 y q (ap (λ e. J e x') (sym same) ∙ q'))
           go (inr same) =
               let (_, z) = parts_of s1.top.frame x y _ inner.ghost1 q in
               let (lt, z') = parts_of e x' y _ (ap F same ∙ inner.ghost0) q' in
@@ -137,30 +130,12 @@ module _ (S : Setting) where
       inner_stmt st x at e =
           let (k1, e1, e2) = bind_some e in
           let same = stmt_copy S s1.top.block n s1.top.at st at_n at in
-          let (k2, q, l, ow) = stmt_rel X (pairs S) s2 s1 r h.locals bt.locals L inner.ghost1 types_copy st (renamed_stmt (after L) st) k1 same inner_clear (λ _. (payloads S) s2 ty bt is_copy h.locals s1.top.frame J) e1 in
+          let (k2, q, l, ow) = stmt_rel X (pairs S) s2 s1 r h.locals bt.locals L inner.ghost1 types_copy st (renamed_stmt (after L) st) k1 same inner_clear (λ _. payloads S s2 ty bt is_copy h.locals s1.top.frame J) e1 in
           let at2 : slice_get copy.stmts s2.top.at ≡ Some (renamed_stmt (after L) st) = ap (slice_get copy.stmts) inner.place ∙ slice_get-front (map (renamed_stmt (after L)) n.stmts) _ s1.top.at _ (map_there (renamed_stmt (after L)) n.stmts s1.top.at st at) in
           let moved = stmt_moves C2 s2 bt copy (renamed_stmt (after L) st) k2 is_copy at_copy at2 q in
-          (answer_at S) s2 x _ e2 (
-            0,
-            _,
-            ap (keep_on (moves C2 0)) moved,
-            record {
-              stands = F;
-              fresh = r.fresh;
-              low = r.low;
-              answers = r.answers;
-              trace = r.trace;
-              link = l;
-              stack = inner_stack (next_stmt s2.top) (next_stmt s1.top) k2 k1 refl (inner_at (next_stmt s2.top) (next_stmt s1.top) k2 k1 refl refl refl refl refl refl inner.block (ap suc inner.place) inner.calm1 (farther_on st at) ow) ow;
-            },
-          )
-        where
-          farther_on : (st : TypedStmt) → slice_get n.stmts s1.top.at ≡ Some st → stacks.Reached X (next_stmt s1.top)
-          farther_on st at b' k' is at' =
-              let same : h ≡ b' = some_val (sym (is_h S) ∙ ap (slice_get C1.bodies) (sym inner.function1) ∙ is) in
-              let same' : n ≡ k' = some_val (sym at_n ∙ ap (λ (b : TypedBody). slice_get b.blocks s1.top.block) same ∙ at') in
-              let lt = slice_get_within n.stmts s1.top.at st at in
-              subst (λ (n : TypedBlock). suc s1.top.at ≤ length n.stmts) same' (omega (arith, lt))
+          stmt_answer S now x k2 k1 moved l
+          (inner_stack (next_stmt s2.top) (next_stmt s1.top) k2 k1 refl (inner_at (next_stmt s2.top) (next_stmt s1.top) k2 k1 refl refl refl refl refl refl inner.block (ap suc inner.place) inner.calm1 (farther S s1.top h n st (ap (slice_get C1.bodies) inner.function1 ∙ is_h S) at_n at) ow) ow)
+          e2
 
       -- ---- its terminators
 
@@ -213,7 +188,7 @@ module _ (S : Setting) where
           let l2 = length-map n.stmts (renamed_stmt (after L)) in
           let a = inner.place in
           omega (arith, ge, l1, l2, a)) in
-          (by_step S) s2 x (follow.follows_by X (pairs S) (step C2 s2) (finish C2 H2 s2 copy.term) x (term_step S s2 bt copy is_copy at_copy past2) (finish_rel X (pairs S) s2 s1 r h.locals bt.locals L inner.ghost1 types_copy To2 goes2 n.term copy.term x (term_copy n.term (calm g.0 h s1.top.block n (is_h S) at_n) nr ready1) e))
+          by_step S s2 x (follow.follows_by X (pairs S) (step C2 s2) (finish C2 H2 s2 copy.term) x (term_step S s2 bt copy is_copy at_copy past2) (finish_rel X (pairs S) s2 s1 r h.locals bt.locals L inner.ghost1 types_copy To2 goes2 n.term copy.term x (term_copy n.term (calm g.0 h s1.top.block n (is_h S) at_n) nr ready1) e))
 
       popped : (x : Next) (m1 : Memory) → Some (on (record s1 { memory = m1; top = c0; callers = ds })) ≡ Some x → (m : Memory) → moves C2 2 s2 ≡ Some (record s2 { memory = m; top = to_block next (next_stmt s2.top) }) → Rel (record s2 { memory = m; top = to_block next (next_stmt s2.top) }) (record s1 { memory = m1; top = c0; callers = ds }) → Answer S s2 x
       popped x m1 e m moved rel = answer_at S s2 x _ e (1, _, moved, rel)
@@ -224,12 +199,11 @@ module _ (S : Setting) where
           let (v, e1, e2) = bind_some e in
           let e3 : return_to D s1 (close_frame s1.memory s1.top.frame) (Some inner.to) (c0 ∷ ds) v ≡ Some x = subst (λ cs. return_to D s1 (close_frame s1.memory s1.top.frame) (Some inner.to) cs v ≡ Some x) below_it (subst (λ y. return_to D s1 (close_frame s1.memory s1.top.frame) y s1.callers v ≡ Some x) inner.is_to e2) in
           let (m1, e4, e5) = bind_some e3 in
-          let (th, first) = first_of S g.0 h (is_h S) in
           let at_end : s1.top.at ≡ length n.stmts =
           (let le = inner.far h n (ap (slice_get C1.bodies) inner.function1 ∙ is_h S) at_n in
           let ge = slice_get-none n.stmts s1.top.at past in
           omega (arith, le, ge)) in
-          let (m, moved, rel) = back_rel X i k is_k os (is1 S) is2 tp p_ty result (p_in S) th first s2 s1 r c0 ds inner below more n at_n ends at_end v e1 m1 e4 in
+          let (m, moved, rel) = back_rel S now c0 ds inner more n at_n ends at_end v e1 m1 e4 in
           popped x m1 e5 m moved rel
 
       pub inner_term : (x : Next) → slice_get n.stmts s1.top.at ≡ None → finish C1 H1 s1 n.term ≡ Some x → Answer S s2 x

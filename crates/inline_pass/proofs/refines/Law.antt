@@ -1,7 +1,6 @@
 -- A crate in which one call of one body is replaced by the body of its callee refines the crate.
 use Rattle.std.proofs.Common.{◌≡◌, ◌⊎◌, inl, inr, refl, sym, ap, ◌∙◌, subst, ℕ, suc, ◌+◌, ◌<◌, ◌≤◌, true, false, nat_eq, List, [], ◌∷◌, length, map, take, set, Option, Some, None, slice_get, arith}
 use Rattle.std.proofs.lemmas.List.{take-append-le}
-use Rattle.mir_syntax.specs.declared.body.Place.{Place}
 use Rattle.mir_syntax.specs.Tree.{Tree}
 use Rattle.mir_syntax.specs.Crate.{TypedBlock, TypedBody, TypedFunction, Crate}
 use Rattle.mir_syntax.specs.Shapes.{shapes_of, place_ty}
@@ -52,6 +51,7 @@ empty_linked = record { mem = record { at = λ f x g y e v r. absurd (grind arit
 -- the starts of an entry are related
 module _ (X : OneCall) (e : Entry) (answers : List ℕ) (bs bt : TypedBody) (is1 : slice_get X.C1.bodies e.function ≡ Some bs) (is2 : slice_get X.bodies2 e.function ≡ Some bt) (long : Longer bt bs) (plain : (j : Renaming) → ValuesRel j e.args e.args) where
   open X use {C1}
+
   abbrev i : Into
   i = record { frame = 0; offset = 0; size = length bs.locals }
 

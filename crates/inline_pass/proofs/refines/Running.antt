@@ -2,7 +2,6 @@
 use Rattle.std.proofs.Common.{◌≡◌, refl, sym, ap, ap₂, ◌∙◌, ℕ, ◌+◌, ◌<◌, Bool, true, false, nat_eq, if◌then◌else◌, List, [], ◌∷◌, length, Option, Some, slice_get, arith}
 use Rattle.std.specs.Prelude.{ℤ}
 use Rattle.mir_syntax.specs.declared.body.Arm.{Arm}
-use Rattle.mir_syntax.specs.declared.body.Place.{Place}
 use Rattle.mir_syntax.specs.declared.body.Operand.{Operand}
 use Rattle.mir_syntax.specs.declared.body.Term.{Term}
 use Rattle.mir_syntax.specs.declared.body.Term.TheVariants.{Goto, Switch, Unreachable, Call, Assert}
@@ -33,6 +32,7 @@ Off o n x y = (x < n) × (o + x ≡ y)
 
 module _ (X : OneCall) (pairs : (k : ℕ) (bs : TypedBody) → slice_get X.C1.bodies k ≡ Some bs → (bt : TypedBody) × (slice_get X.bodies2 k ≡ Some bt) × Longer bt bs) (s2 s1 : State) (r : stacks.Rel X s2 s1) (ts1 ts2 : List Tree) (o : ℕ) (ghost : r.stands s1.top.frame ≡ Some (record { frame = s2.top.frame; offset = o; size = length ts1 })) (types : (x : ℕ) (t : Tree) → slice_get ts1 x ≡ Some t → slice_get ts2 (o + x) ≡ Some t) where
   open X use {C1, bodies2}
+
   abbrev C2 : Code
   C2 = record C1 { bodies = bodies2 }
 

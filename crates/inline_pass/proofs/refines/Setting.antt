@@ -1,11 +1,13 @@
 -- A call that is replaced in a valid crate: the bodies on both sides, the text of their frames, and what a step owes.
-use Rattle.std.proofs.Common.{◌≡◌, ◌⊎◌, inl, inr, refl, sym, ap, ap₂, ◌∙◌, subst, ℕ, zero, suc, ◌+◌, ◌<◌, ◌≤◌, true, false, List, length, Option, Some, None, slice_get, arith}
+use Rattle.std.proofs.Common.{◌≡◌, ◌⊎◌, inl, inr, refl, sym, ap, ap₂, ◌∙◌, subst, ℕ, zero, suc, ◌+◌, ◌<◌, ◌≤◌, true, false, List, ◌∷◌, length, Option, Some, None, slice_get, arith}
 use Rattle.std.proofs.lemmas.Bool.{cases_eq}
+use Rattle.std.proofs.lemmas.Option.{slice_get_within}
 use Rattle.mir_syntax.specs.declared.types.FnId.{FnId}
 use Rattle.mir_syntax.specs.declared.body.Place.{Place}
 use Rattle.mir_syntax.specs.declared.body.Operand.{Operand}
 use Rattle.mir_syntax.specs.declared.body.Callee.TheVariants as callee
-use Rattle.mir_syntax.specs.declared.body.Term.TheVariants.{Call}
+use Rattle.mir_syntax.specs.declared.body.Term.{Term}
+use Rattle.mir_syntax.specs.declared.body.Term.TheVariants.{Return, Call}
 use Rattle.mir_syntax.specs.Tree.{Tree}
 use Rattle.mir_syntax.specs.Crate.{TypedStmt, TypedBlock, TypedBody, TypedFunction, Crate}
 use Rattle.mir_syntax.specs.Shapes.{Shape, place_ty}
@@ -14,10 +16,10 @@ use Rattle.mir_rules.specs.Valid.{Valid}
 use Rattle.mir_rules.proofs.ValidCrates.{body_formed_at, stmt_formed_at, term_formed_at, result_there}
 use Rattle.mir_semantics.specs.Values.{variant}
 use Rattle.mir_semantics.specs.Memory.{Memory}
-use Rattle.mir_semantics.specs.Step.{Code, code_of, Control, State, Next, on, stop, fail, finish, perform, step}
+use Rattle.mir_semantics.specs.Step.{Code, code_of, Control, State, Next, next_stmt, go_on, on, stop, fail, finish, perform, step}
 use Rattle.mir_renaming.specs.Renaming.{Renaming}
 use Rattle.mir_syntax.proofs.Binds.{some_bind}
-use Rattle.mir_renaming.proofs.Statements.{PayloadsOk}
+use Rattle.mir_renaming.proofs.Statements.{PayloadsOk, Linked}
 use Rattle.mir_renaming.proofs.Types.{HasTy, value_at_ty, resolve_ty, blank_fits}
 use Rattle.mir_renaming.proofs.Typed.{ValidCode, Typed, step_typed}
 use Rattle.mir_relate.specs.Simulation.{keep_on, moves}
@@ -36,6 +38,10 @@ use Rattle.inline_pass.proofs.refines.Follow as follow
 use Rattle.inline_pass.proofs.refines.Follow.{Longer, return_rel}
 use Rattle.inline_pass.proofs.refines.Running.{Off}
 use Rattle.inline_pass.proofs.Bodies.{b2, calling, own_locals, own_blocks, call_block}
+
+abbrev pub NoReturn : Term → Type 0
+NoReturn Return = ⊥
+NoReturn _ = Unit {0}
 
 -- a call that is replaced in a valid crate, and the target's bodies
 pub record Setting : Type 1 where
@@ -77,6 +83,8 @@ pub record Words : Type 1 where
   pub bt : TypedBody
   pub B : ℕ
   pub L : ℕ
+  -- the local that keeps the destination
+  pub d : ℕ
   pub Rel : State → State → Type 0
   pub Stack : Stands → Memory → Memory → ℕ → List Control → List Control → Type 0
   pub Own : Stands → Memory → Memory → Control → Control → Type 0
@@ -99,6 +107,7 @@ module _ (S : Setting) where
     bt = b2 fn.body hn.body i k is_k p os next;
     B = length fn.body.blocks;
     L = length fn.body.locals;
+    d = length fn.body.locals + length hn.body.locals;
     Rel = stacks.Rel one_call;
     Stack = stacks.Stack one_call;
     Own = stacks.Own one_call;
@@ -107,7 +116,6 @@ module _ (S : Setting) where
 
 module _ (S : Setting) where
   open S use {C, valid, bodies2, f, fn, hn, fn_at, g, hn_at, apart, i, k, is_k, p, os, next, term_is, is2, others, valid2, calm, few, tp, p_ty}
-
   open words S use {X, C1, C2, D, b1, h, bt, B, L, Rel, Stack, Own, Inner}
 
   pub is1 : slice_get C1.bodies f ≡ Some b1
@@ -172,6 +180,14 @@ module _ (S : Setting) where
 
   pub stmt_copy : (m : ℕ) (n : TypedBlock) (a : ℕ) (st : TypedStmt) → slice_get h.blocks m ≡ Some n → slice_get n.stmts a ≡ Some st → StmtSame (Off L (length h.locals)) st (renamed_stmt (after L) st)
   stmt_copy m n a st e2 e3 = stmt_ready C h (Off L (length h.locals)) (after L) (λ x lt. (lt, refl)) st (stmt_formed_at C h (formed g.0 h is_h) m a n st e2 e3)
+
+  -- behind a statement there is the terminator at least
+  pub farther : (c : Control) (b : TypedBody) (n : TypedBlock) (st : TypedStmt) → slice_get C1.bodies c.function ≡ Some b → slice_get b.blocks c.block ≡ Some n → slice_get n.stmts c.at ≡ Some st → stacks.Reached X (next_stmt c)
+  farther c b n st is at_n at b' k' is' at' =
+      let same : b ≡ b' = some_val (sym is ∙ is') in
+      let same' : n ≡ k' = some_val (sym at_n ∙ ap (λ (b : TypedBody). slice_get b.blocks c.block) same ∙ at') in
+      let lt = slice_get_within n.stmts c.at st at in
+      subst (λ (n : TypedBlock). suc c.at ≤ length n.stmts) same' (omega (arith, lt))
 
   -- ---- what is owed
 
@@ -238,3 +254,8 @@ module _ (S : Setting) (now : Moment S) where
 
   abbrev pub seen : Seen
   seen = record { F = r.stands; J = into r.stands; a0 = s2.top.frame; On = Onward r.stands s2.next s2.memory s1.memory }
+
+  -- a statement on both sides
+  pub stmt_answer : (x : Next) (k2 k1 : Memory) → step (words S).C2 s2 ≡ go_on s2 k2 (next_stmt s2.top) → Linked (into r.stands) (into r.stands) k2 k1 → (words S).Stack r.stands k2 k1 s2.next (next_stmt s2.top ∷ s2.callers) (next_stmt s1.top ∷ s1.callers) → go_on s1 k1 (next_stmt s1.top) ≡ Some x → Answer S s2 x
+  stmt_answer x k2 k1 moved l st e =
+      answer_at S s2 x _ e (0, _, ap (keep_on (moves (words S).C2 0)) moved, record { stands = r.stands; fresh = r.fresh; low = r.low; answers = r.answers; trace = r.trace; link = l; stack = st })

@@ -44,6 +44,7 @@ pub record OneCall : Type 0 where
 
 module _ (X : OneCall) where
   open X use {C1, bodies2, f, g, b1, h, p, next}
+
   abbrev pub D : List Shape
   D = C1.shapes
 

@@ -1,26 +1,18 @@
 -- Each step of the source is followed by steps of the target.
-use Rattle.std.proofs.Common.{◌≡◌, ◌⊎◌, inl, inr, refl, sym, ap, ◌∙◌, subst, ℕ, ◌+◌, ◌<◌, List, ◌∷◌, length, Option, Some, None, slice_get, arith}
+use Rattle.std.proofs.Common.{◌≡◌, ◌⊎◌, inl, inr, refl, sym, ap, ◌∙◌, subst, ℕ, ◌+◌, List, ◌∷◌, Option, Some, None, slice_get, arith}
 use Rattle.mir_syntax.specs.Tree.{Tree}
 use Rattle.mir_syntax.specs.Crate.{TypedStmt, TypedBlock, TypedBody}
-use Rattle.mir_syntax.specs.Shapes.{Shape}
-use Rattle.mir_semantics.specs.Memory.{Memory}
-use Rattle.mir_semantics.specs.Step.{Code, code_of, Control, State, Next, perform, step}
-use Rattle.mir_renaming.specs.Renaming.{Renaming}
+use Rattle.mir_semantics.specs.Step.{Control, State, Next, perform, step}
 use Rattle.mir_syntax.proofs.Binds.{bind_some}
 use Rattle.mir_renaming.proofs.Typed.{Typed}
 use Rattle.mir_renaming.proofs.Ghosts.{Flat}
 use Rattle.mir_relate.proofs.Leaves.{some_val}
-use Rattle.inline_pass.proofs.refines.Into.{Stands, into}
-use Rattle.inline_pass.proofs.refines.Stacks as stacks
-use Rattle.inline_pass.proofs.refines.Stacks.{Onward, own_onward, inner_onward, stack_onward, onward_less}
-use Rattle.inline_pass.proofs.Bodies.{b2}
 use Rattle.inline_pass.proofs.refines.Setting.{Setting, words, Moment, seen, is_h, IsSite, own_block, Answer}
 use Rattle.inline_pass.proofs.refines.OwnSteps.{own_stmt, own_term}
 use Rattle.inline_pass.proofs.refines.InnerSteps.{inner_stmt, inner_term}
 
 module _ (S : Setting) where
   open S use {C, valid, bodies2, f, fn, hn, fn_at, g, hn_at, apart, i, k, is_k, p, os, next, term_is, is2, others, valid2, calm, few, tp, p_ty}
-
   open words S use {X, C1, C2, D, b1, h, bt, B, L, Rel, Stack, Own, Inner}
 
   module _ (now : Moment S) where
