@@ -1,1 +1,4 @@
 mod Loops
+mod Members
+mod Rules
+mod Limits

@@ -8,10 +8,12 @@
 mod body;
 mod choice;
 mod generated;
+mod laws;
 mod lines;
 mod random;
 
 pub use generated::{Generated, generate};
+pub use laws::made_crates_are_valid;
 pub use random::schedule;
 
 #[cfg(test)]
