@@ -44,4 +44,5 @@ pub mod Changes
 pub mod Lasts
 pub mod Starts
 pub mod Statements
+pub mod Delivers
 pub mod Follows

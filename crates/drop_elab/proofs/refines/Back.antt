@@ -186,7 +186,7 @@ module _ (X : Change) (inits : Inits) (apart : (d : ℕ) → holds X.source.shap
           same = (refl, refl);
           past = ps;
           frame = steps.frame_past X inits apart proper proper_locals S at2 j c2 (place_in c2 i a) c1 (record c1 { dropping = Some d }) M2 m m1 refl refl refl refl ps fr2;
-          ready = inr (W.block, W.dropped, d, W.cur, is1, is2, h, refl, refl, wk);
+          ready = inr (inl (W.block, W.dropped, d, W.cur, is1, is2, h, refl, refl, wk));
         }
 
     -- none is left

@@ -144,7 +144,7 @@ module _ (X : Change) (inits : Inits) (apart : (d : ℕ) → holds X.source.shap
               same = (refl, refl);
               past = steps.past_refl X inits apart proper proper_locals S at2 s2.top.frame s2.memory;
               frame = frame1;
-              ready = inr (k, p, d, None, [], I ∷ [], dropped, number_is, st.calm2, working);
+              ready = inr (inl (k, p, d, None, [], I ∷ [], dropped, number_is, st.calm2, working));
             },
           ),
           be,

@@ -110,7 +110,7 @@ unfolding value_at
 value_here m g x v e = some_bind (at_path []) e refl
 
 -- a path of fields goes on only from one of fields
-indirect_not : (ps us : List Proj) → Fields us → is_direct ps ≡ false → goes_on ps us ≡ false
+pub indirect_not : (ps us : List Proj) → Fields us → is_direct ps ≡ false → goes_on ps us ≡ false
 indirect_not [] us h e = absurd (grind arith)
 indirect_not (p ∷ ps) [] h e = refl
 indirect_not (Field i ∷ ps) (Field k ∷ us) h e = go (nat_eq i k) (indirect_not ps us h e)
@@ -123,13 +123,13 @@ indirect_not (Deref ∷ ps) (q ∷ us) h e = refl
 indirect_not (Field i ∷ ps) (Downcast k ∷ us) h e = absurd h
 indirect_not (Field i ∷ ps) (Deref ∷ us) h e = absurd h
 
-deref_indirect : (ps : List Proj) → has_deref ps ≡ true → is_direct ps ≡ false
+pub deref_indirect : (ps : List Proj) → has_deref ps ≡ true → is_direct ps ≡ false
 deref_indirect [] e = absurd (grind arith)
 deref_indirect (Field i ∷ ps) e = deref_indirect ps e
 deref_indirect (Downcast k ∷ ps) e = refl
 deref_indirect (Deref ∷ ps) e = refl
 
-direct_plain : (ps : List Proj) → is_direct ps ≡ true → has_deref ps ≡ false
+pub direct_plain : (ps : List Proj) → is_direct ps ≡ true → has_deref ps ≡ false
 direct_plain [] e = refl
 direct_plain (Field i ∷ ps) e = direct_plain ps e
 direct_plain (Downcast k ∷ ps) e = absurd (grind arith)
@@ -179,7 +179,7 @@ module _ (X : Change) (inits : Inits) (apart : (d : ℕ) → holds X.source.shap
   }
 
   -- units and their locals
-  of_unit : (u : Place) → Has us u → (lt : Tree) × (slice_get X.body1.locals u.local ≡ Some lt) × (G f u.local ≡ Some lt) × Proper lt × Has (units D lt) u.proj
+  pub of_unit : (u : Place) → Has us u → (lt : Tree) × (slice_get X.body1.locals u.local ≡ Some lt) × (G f u.local ≡ Some lt) × Proper lt × Has (units D lt) u.proj
   of_unit u hu =
       let (y, lt, ul, el, hp) = unit_of_local D 0 X.body1.locals u hu in
       let z : y ≡ u.local = sym (ul ∙ (let z : 0 + y ≡ y = omega arith in z)) in
