@@ -45,4 +45,5 @@ pub mod Lasts
 pub mod Starts
 pub mod Statements
 pub mod Delivers
+pub mod Resumed
 pub mod Follows
