@@ -46,4 +46,5 @@ pub mod Starts
 pub mod Statements
 pub mod Delivers
 pub mod Resumed
+pub mod Frames
 pub mod Follows
