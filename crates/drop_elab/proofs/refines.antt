@@ -47,4 +47,6 @@ pub mod Statements
 pub mod Delivers
 pub mod Resumed
 pub mod Frames
+pub mod Rules
+pub mod Finishes
 pub mod Follows

@@ -109,6 +109,19 @@ value_here : (m : Memory) (g x : ℕ) (v : Value) → local_at m g x ≡ Some v 
 unfolding value_at
 value_here m g x v e = some_bind (at_path []) e refl
 
+-- what the rules say of operands that are read
+abbrev pub AllReading : Change → List Operand → Type 0
+AllReading X os = (breaks_v21 X.source.shapes X.body1.locals os ≡ false) × (breaks_v22 X.source.shapes X.body1.locals os ≡ false)
+
+abbrev pub Reading : Change → Operand → Type 0
+Reading X o = AllReading X (o ∷ [])
+
+pub first_reading : (X : Change) (o : Operand) (os : List Operand) → AllReading X (o ∷ os) → Reading X o
+first_reading X o os (a, b) = (
+  ap (λ c. c || false) (or_false-left (moves_through_destructor X.source.shapes X.body1.locals o) (list_any (moves_through_destructor X.source.shapes X.body1.locals) os) a),
+  ap (λ c. c || false) (or_false-left (moves_needing_indirectly X.source.shapes X.body1.locals o) (list_any (moves_needing_indirectly X.source.shapes X.body1.locals) os) b),
+)
+
 -- a path of fields goes on only from one of fields
 pub indirect_not : (ps us : List Proj) → Fields us → is_direct ps ≡ false → goes_on ps us ≡ false
 indirect_not [] us h e = absurd (grind arith)

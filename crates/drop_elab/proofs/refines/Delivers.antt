@@ -49,7 +49,7 @@ module _ (X : Change) (inits : Inits) (apart : (d : ℕ) → holds X.source.shap
   abbrev us : List Place
   us = stand.us X inits apart proper
 
-  of_unit : (u : Place) → Has us u → (lt : Tree) × (slice_get X.body1.locals u.local ≡ Some lt) × Proper lt × Has (units D lt) u.proj
+  pub of_unit : (u : Place) → Has us u → (lt : Tree) × (slice_get X.body1.locals u.local ≡ Some lt) × Proper lt × Has (units D lt) u.proj
   of_unit u hu =
       let (y, lt, ul, el, hp) = unit_of_local D 0 X.body1.locals u hu in
       let z : y ≡ u.local = sym (ul ∙ (let z : 0 + y ≡ y = omega arith in z)) in
