@@ -49,4 +49,6 @@ pub mod Resumed
 pub mod Frames
 pub mod Rules
 pub mod Finishes
+pub mod Hands
+pub mod Law
 pub mod Follows

@@ -110,8 +110,14 @@ unfolding value_at
 value_here m g x v e = some_bind (at_path []) e refl
 
 -- what the rules say of operands that are read
+abbrev pub breaks21 : Change → List Operand → Bool
+breaks21 X os = breaks_v21 X.source.shapes X.body1.locals os
+
+abbrev pub breaks22 : Change → List Operand → Bool
+breaks22 X os = breaks_v22 X.source.shapes X.body1.locals os
+
 abbrev pub AllReading : Change → List Operand → Type 0
-AllReading X os = (breaks_v21 X.source.shapes X.body1.locals os ≡ false) × (breaks_v22 X.source.shapes X.body1.locals os ≡ false)
+AllReading X os = (breaks21 X os ≡ false) × (breaks22 X os ≡ false)
 
 abbrev pub Reading : Change → Operand → Type 0
 Reading X o = AllReading X (o ∷ [])

@@ -149,8 +149,11 @@ module _ (X : Change) (inits : Inits) (apart : (d : ℕ) → holds X.source.shap
           term_step 0 (target X) E s c2 (ap (slice_get X.bodies) fr.function2 ∙ X.at2 ∙ ap (λ b. Some b) is2) m' b a code (block, eb, es, et) refl
 
       pub own : stand.IfTyped X inits apart proper c1 m1' (stand.Own X inits apart proper (stand.number_of X inits apart proper c1.block) j c2 c1 m2' m1')
-      own G mt lk s = pick W.sets
+      own G mt known s = pick W.sets
         where
+          lk : (x : ℕ) (t : Tree) → slice_get X.body1.locals x ≡ Some t → G c1.frame x ≡ Some t
+          lk = known X.body1 (ap (slice_get X.source.bodies) fr.function1 ∙ X.at1)
+
           pick : ((settings (λ u. only_if (begun u W.block.term) true) fs ≡ []) × (c2.block ≡ W.next)) ⊎ (slice_get E.blocks c2.block ≡ Some (record { stmts = settings (λ u. only_if (begun u W.block.term) true) fs; term = Goto W.next })) → stand.Comes X inits apart proper s (stand.number_of X inits apart proper c1.block) j c2 c1 m2' m1'
           pick (inl (none, q)) = at_next s G mt lk 0 m2' here (no_sets c2.frame change fs m2' (flags_distinct (length X.body1.locals) us (want_flags us inits 0 X.body1.blocks)) none)
             where

@@ -274,9 +274,9 @@ module _ (X : Change) (inits : Inits) (apart : (d : ℕ) → holds X.source.shap
     pub says : (u : Place) (x : ℕ) → Has us u → begun u block.term ≡ false → flag_of u ≡ Some x → Says m2 c2.frame x (held m1 c1.frame u)
     pub sound : SoundAt X.source.shapes X.body1 next (λ u. begun u block.term || held m1 c1.frame u)
 
-  -- where the source's memory and this frame's locals have types
+  -- where the source's memory and the locals of this frame have types
   abbrev pub IfTyped : Control → Memory → Type 0 → Type 0
-  IfTyped c1 m1 A = (G : TypeMap) → MemTy X.source.shapes G m1 → ((x : ℕ) (t : Tree) → slice_get X.body1.locals x ≡ Some t → G c1.frame x ≡ Some t) → A
+  IfTyped c1 m1 A = (G : TypeMap) → MemTy X.source.shapes G m1 → ((b : TypedBody) → slice_get X.source.bodies c1.function ≡ Some b → (x : ℕ) (t : Tree) → slice_get b.locals x ≡ Some t → G c1.frame x ≡ Some t) → A
 
   -- one frame for one; each local of the source is lent
   abbrev pub pass : Pass
