@@ -51,4 +51,5 @@ pub mod Rules
 pub mod Finishes
 pub mod Hands
 pub mod Law
+pub mod Refined
 pub mod Follows
