@@ -4,3 +4,4 @@ pub mod OneResult
 pub mod NoDrop
 pub mod Elaborated
 pub mod refines
+pub mod valid

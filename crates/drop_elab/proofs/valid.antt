@@ -1,0 +1,4 @@
+-- An elaborated body is valid.
+pub mod Fine
+pub mod LaidFine
+pub mod GlueFine
