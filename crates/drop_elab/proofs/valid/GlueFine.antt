@@ -130,7 +130,7 @@ module _ (C : Crate) (D : List Shape) (e : TypedBody) where
         small = lt-ltb k (2 ^ 64) (less k (omega (arith, l)))
           where
             less : (k : ℕ) → k < most_nodes → k < 2 ^ 64
-            less k l = ?
+            less k l = omega (arith, l)
 
         go : (b : Bool) → laid.PlanFine C D e (arms_of D of_def p (suc k) ts) × Armed (arms_of D of_def p (suc k) ts) × Rising (suc k) (arms_of D of_def p (suc k) ts) → laid.PlanFine C D e (if b then arm k (glue_from of_def (part p (Downcast k)) 0 t done) (arms_of D of_def p (suc k) ts) else arms_of D of_def p (suc k) ts) × Armed (if b then arm k (glue_from of_def (part p (Downcast k)) 0 t done) (arms_of D of_def p (suc k) ts) else arms_of D of_def p (suc k) ts) × Rising k (if b then arm k (glue_from of_def (part p (Downcast k)) 0 t done) (arms_of D of_def p (suc k) ts) else arms_of D of_def p (suc k) ts)
         go true (a, b, c) = ((first, a), b, (omega arith, small, c))
