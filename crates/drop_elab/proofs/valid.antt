@@ -2,3 +2,4 @@
 pub mod Fine
 pub mod LaidFine
 pub mod GlueFine
+pub mod EndsFine
