@@ -3,3 +3,4 @@ pub mod Fine
 pub mod LaidFine
 pub mod GlueFine
 pub mod EndsFine
+pub mod Stays
