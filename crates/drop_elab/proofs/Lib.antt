@@ -5,3 +5,4 @@ pub mod NoDrop
 pub mod Elaborated
 pub mod refines
 pub mod valid
+pub mod Types

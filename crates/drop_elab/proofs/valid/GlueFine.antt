@@ -161,7 +161,7 @@ module _ (C : Crate) (D : List Shape) (e : TypedBody) where
       where
         go : (b : Bool) → s.is_enum ≡ b → laid.PlanFine C D e (if b then chosen p (arms_of D of_def p 0 s.variants) rest else glue_from of_def p 0 (struct_fields s) rest)
         go true q =
-            let (a, b, c) = arms_fine of_def ok p 0 s.variants (λ j us k. (let (tu, pr) = defs.proper d s es j us k in let z : 0 + j ≡ j = omega arith in (tu, pr, subst (λ n. Row (part p (Downcast n)) 0 us) (sym z) (variant_row p (named d) us j h (some_bind _ es (ap (λ b. if b then slice_get s.variants j else None) q ∙ k)) tu)))) (let f = defs.few d s es in omega (arith, f)) in
+            let (a, b, c) = arms_fine of_def ok p 0 s.variants (λ j us k. (let (tu, pr) = defs.proper d s es j us k in let z : 0 + j ≡ j = omega arith in (tu, pr, subst (λ n. Row (part p (Downcast n)) 0 us) (sym z) (variant_row p (named d) us j h (some_bind _ es (ap (λ b. if b then slice_get s.variants j else None) q ∙ k)) tu)))) (let f = defs.few d s es q in omega (arith, f)) in
             chosen_fine p (named d) s (arms_of D of_def p 0 s.variants) rest h (some_bind _ es (ap (λ b. then_some b s) q)) a b c r
         go false q =
             let (tu, pr) = first_variant_proper s.variants (defs.proper d s es) in
