@@ -6,3 +6,4 @@ pub mod Elaborated
 pub mod refines
 pub mod valid
 pub mod Types
+pub mod InPlace
