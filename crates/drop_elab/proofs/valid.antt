@@ -4,3 +4,4 @@ pub mod LaidFine
 pub mod GlueFine
 pub mod EndsFine
 pub mod Stays
+pub mod Calls

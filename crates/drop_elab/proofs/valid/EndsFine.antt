@@ -50,7 +50,7 @@ there_at [] i l = absurd (omega (arith, l))
 there_at (x ∷ xs) zero l = (x, refl)
 there_at (x ∷ xs) (suc i) l = there_at xs i (omega (arith, l))
 
-fields_formed : (ps : List Proj) → Fields ps → (path_formed ps ≡ true) × (is_direct ps ≡ true)
+pub fields_formed : (ps : List Proj) → Fields ps → (path_formed ps ≡ true) × (is_direct ps ≡ true)
 fields_formed [] h = (refl, refl)
 fields_formed (Field i ∷ ps) h = fields_formed ps h
 fields_formed (Downcast k ∷ ps) h = absurd h

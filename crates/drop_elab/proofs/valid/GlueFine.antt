@@ -44,7 +44,7 @@ path_variant (Downcast v ∷ Field j ∷ ps) k i h = path_variant ps k i h
 path_variant (Downcast v ∷ Downcast j ∷ ps) k i h = absurd (grind arith)
 path_variant (Downcast v ∷ Deref ∷ ps) k i h = absurd (grind arith)
 
-path_end : (D : List Shape) (ps : List Proj) (q : Proj) (t u w : Tree) → path_ty D t ps ≡ Some u → proj_ty D u q ≡ Some w → path_ty D t (ps ++ q ∷ []) ≡ Some w
+pub path_end : (D : List Shape) (ps : List Proj) (q : Proj) (t u w : Tree) → path_ty D t ps ≡ Some u → proj_ty D u q ≡ Some w → path_ty D t (ps ++ q ∷ []) ≡ Some w
 path_end D [] q t u w e f = some_bind _ (ap (λ t. proj_ty D t q) (let z : t ≡ u = grind arith in z) ∙ f) refl
 path_end D (p ∷ ps) q t u w e f = (let (x, e1, e2) = bind_some e in some_bind _ e1 (path_end D ps q x u w e2 f))
 

@@ -67,7 +67,7 @@ bool_at [] [] zs y le lt h = absurd (omega (arith, lt))
 bool_at [] (t ∷ ys) zs zero le lt h = ap (λ t. Some t) h.0
 bool_at [] (t ∷ ys) zs (suc y) le lt h = bool_at [] ys zs y (omega arith) (omega (arith, lt)) h.1
 
-unit_at : (x : ℕ) (us : List Place) (bs : List Bool) (i : ℕ) (k : Flagged) → slice_get (with_flags x us bs) i ≡ Some k → slice_get us i ≡ Some k.unit
+pub unit_at : (x : ℕ) (us : List Place) (bs : List Bool) (i : ℕ) (k : Flagged) → slice_get (with_flags x us bs) i ≡ Some k → slice_get us i ≡ Some k.unit
 unit_at x [] bs i k e = absurd (grind arith)
 unit_at x (u ∷ us) [] i k e = absurd (grind arith)
 unit_at x (u ∷ us) (true ∷ bs) zero k e = ap (λ (k : Flagged). Some k.unit) (let z : record { unit = u; flag = Some x } ≡ k = grind arith in z)
