@@ -9,6 +9,7 @@ ghost use Rattle.mir_semantics.specs.Refines.{Refines};
 ghost use Rattle.mir_rules.specs.Drops.{NoDrops};
 ghost use Rattle.mir_rules.specs.Limits.{most_in_body};
 ghost use Rattle.mir_rules.specs.Valid.{Valid, Within, at_function, ValidAt};
+ghost use Rattle.drop_elab.specs.Destructors.{AddsDestructors};
 ghost use Rattle.drop_elab.specs.Elab.{IsElab};
 ghost use Rattle.drop_elab.specs.Elaborated.{elaborated};
 ghost use Rattle.drop_elab.specs.Tupled.{TypesTupled, FewVariants};
@@ -39,10 +40,11 @@ pub fn elab_refines()
 {}
 
 /// A valid crate in which one body is elaborated is valid. In the place of a valid body the elaborated body is valid where it has no more blocks
-/// and locals than a body may have.
+/// and locals than a body may have. It calls only what the body calls, and destructors of what the body drops.
 pub fn elab_stays_valid()
     ensures of_a_crate { (C : Crate) → Valid C → (f : ℕ) (g : TypedFunction) → slice_get C.functions f ≡ Some g → TypesTupled (shapes_of C) g.body → FewVariants (shapes_of C) → (e : TypedBody) → IsElab (shapes_of C) g.body e → Valid (at_function C f g e) }
     ensures in_its_place { (C : Crate) (f : ℕ) (b : TypedBody) (valid : ValidAt C f b) → TypesTupled (shapes_of (at_function C f valid.function b)) b → FewVariants (shapes_of (at_function C f valid.function b)) → (e : TypedBody) → IsElab (shapes_of (at_function C f valid.function b)) b e → length e.blocks ≤ most_in_body → length e.locals ≤ most_in_body → ValidAt C f e }
+    ensures calls { (C : Crate) (f : ℕ) (b : TypedBody) (valid : ValidAt C f b) → TypesTupled (shapes_of (at_function C f valid.function b)) b → (e : TypedBody) → IsElab (shapes_of (at_function C f valid.function b)) b e → AddsDestructors (shapes_of (at_function C f valid.function b)) e b }
 {}
 
 /// In a crate with the definitions of a program, and in a body that is read through the program's table of types, what is left of a tuple is one.
