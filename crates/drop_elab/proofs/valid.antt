@@ -5,3 +5,4 @@ pub mod GlueFine
 pub mod EndsFine
 pub mod Stays
 pub mod Calls
+pub mod Sizes
