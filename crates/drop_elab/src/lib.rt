@@ -10,6 +10,18 @@
 //! body.
 #![tactic(auto)]
 
+mod blocks;
+mod body;
+mod cursor;
+mod ends;
+mod flags;
+mod glue;
 mod laws;
+mod settings;
+#[cfg(test)]
+mod tests;
+mod types;
+mod units;
 
+pub use body::elab;
 pub use laws::{elab_is_one, elab_leaves_no_drop, elaboration_is_decided};

@@ -1,0 +1,12 @@
+pub mod Lists
+pub mod Laid
+pub mod Below
+pub mod Steps
+pub mod Pieces
+pub mod Definitions
+pub mod Ends
+pub mod Whole
+pub mod Blocks
+pub mod Wants
+pub mod Dropping
+pub mod Bodies
