@@ -4,7 +4,6 @@ pub mod OneResult
 pub mod NoDrop
 pub mod Elaborated
 pub mod refines
-pub mod Scalars
 pub mod Destructors
 pub mod Marking
 pub mod equal

@@ -8,7 +8,7 @@ use Rattle.mir_syntax.specs.Tree.{scalar, Stands}
 use Rattle.std.specs.Prelude.{List}
 
 abbrev pub HasScalar : List Ty → ScalarTy → Type 0
-HasScalar types s = (id : TyId) × Stands types id (scalar s)
+HasScalar types s = (there : TyId) × Stands types there (scalar s)
 
 -- `bool`, of which flags are
 abbrev pub HasBool : List Ty → Type 0
