@@ -3,7 +3,6 @@ pub mod RowPaths
 pub mod OneResult
 pub mod NoDrop
 pub mod Elaborated
-pub mod refines
 pub mod Destructors
 pub mod Marking
 pub mod equal
