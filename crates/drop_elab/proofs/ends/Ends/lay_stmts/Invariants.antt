@@ -6,7 +6,7 @@ use Rattle.mir_syntax.specs.Crate.{stmt_of}
 use Rattle.mir_syntax.specs.Ids.{stmt_below}
 use Rattle.drop_elab.specs.Elab as definition
 use Rattle.drop_elab.specs.Changes.{flagged_of}
-use Rattle.drop_elab.proofs.blocks.Ends.lay_stmts.Given as goal
+use Rattle.drop_elab.proofs.ends.Ends.lay_stmts.Given as goal
 
 abbrev pub invariant-loop-stmt : goal.invariant-loop-stmt
 invariant-loop-stmt l =

@@ -7,7 +7,7 @@ use Rattle.mir_syntax.specs.Shapes.{shapes_of}
 use Rattle.drop_elab.specs.Code.{LayingOn}
 use Rattle.drop_elab.specs.Changes.{IsTyped}
 use Rattle.drop_elab.proofs.equal.Dropping.{drop_of}
-use Rattle.drop_elab.proofs.blocks.Ends.lay_drop.Given as goal
+use Rattle.drop_elab.proofs.ends.Ends.lay_drop.Given as goal
 
 abbrev pub invariant-loop-at : goal.invariant-loop-at
 invariant-loop-at l =

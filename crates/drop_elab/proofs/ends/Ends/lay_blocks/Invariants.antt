@@ -5,7 +5,7 @@ use Rattle.mir_syntax.specs.Crate.{crate_of, block_of}
 use Rattle.mir_syntax.specs.Shapes.{shapes_of}
 use Rattle.drop_elab.specs.Changes.{flagged_of, IsTyped}
 use Rattle.drop_elab.specs.Blocks.{BlocksLaid}
-use Rattle.drop_elab.proofs.blocks.Ends.lay_blocks.Given as goal
+use Rattle.drop_elab.proofs.ends.Ends.lay_blocks.Given as goal
 
 abbrev pub invariant-loop-at : goal.invariant-loop-at
 invariant-loop-at l =
