@@ -1,6 +1,6 @@
 -- A destructor is a function of the program, whose header has the types of its result and of its argument.
 use Rattle.std.proofs.Common.{◌≡◌, refl, ap, ◌∙◌, sym, subst, ℕ, zero, suc, ◌+◌, ◌<◌, Bool, true, false, ◌&&◌, nat_eq, if◌then◌else◌, IsTrue, List, [], ◌∷◌, map, length, get_or, Option, Some, None, slice_get, arith}
-use Rattle.std.proofs.lemmas.Option.{slice_get_within}
+use Rattle.std.proofs.lemmas.Option.{slice_get_within, get_or_from_slice_get}
 use Rattle.mir_syntax.specs.declared.types.TyId.{TyId}
 use Rattle.mir_syntax.specs.declared.body.Function.{Function}
 use Rattle.mir_syntax.specs.declared.program.Program.{Program}
@@ -80,7 +80,6 @@ unfolding ◌>>=◌ shapes_of
 header_there p (named d) g e = shape (slice_get (shapes_of (crate_of p)) d) refl e
   where
     shape : (o : Option Shape) → slice_get (shapes_of (crate_of p)) d ≡ o → (o >>= λ s. s.destructor) ≡ Some g → Header p (named d) g
-    unfolding ◌>>=◌ shapes_of
     shape None q h = absurd cc
     shape (Some s) q h =
         let from : destructor_from (0 + d) 0 (crate_of p).functions ≡ Some g = sym (shape_has (crate_of p).functions 0 (crate_of p).defs d s q) ∙ h in
@@ -94,6 +93,10 @@ header_there p empty g e = absurd cc
 header_there p (more t u) g e = absurd cc
 header_there p (ref t) g e = absurd cc
 header_there p (ref_mut t) g e = absurd cc
+
+-- as the code finds them
+pub header_locals : (p : Program) (t : Tree) (g : ℕ) (h : Header p t g) (fs : List Function) (f : Function) (ids : List TyId) → fs ≡ p.functions → ids ≡ (get_or fs g f).body.locals → ids ≡ h.result ∷ (h.argument ∷ h.others)
+header_locals p t g h fs f ids same is = is ∙ ap (λ (f : Function). f.body.locals) (get_or_from_slice_get fs g h.function f (ap (λ xs. slice_get xs g) same ∙ h.there)) ∙ h.locals
 
 pub header_below : (p : Program) (t : Tree) (g : ℕ) (h : Header p t g) → IdsInTable p → (h.result.0 < length p.types) × (h.argument.0 < length p.types)
 header_below p t g h ids =

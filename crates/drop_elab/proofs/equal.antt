@@ -8,5 +8,6 @@ pub mod Ends
 pub mod Whole
 pub mod Blocks
 pub mod Wants
+pub mod Flags
 pub mod Dropping
 pub mod Bodies

@@ -29,7 +29,9 @@ fn header(program: &Program, id: TyId, destructor: FnId) -> (TyId, TyId)
     ensures in_table { (result.0.0 < length program.now.types) × (result.1.0 < length program.now.types) }
 {
     let locals = program.functions.as_slice()[destructor.0 as usize].body.locals.as_slice();
-    (locals[0], locals[1])
+    let result = locals[0];
+    let argument = locals[1];
+    (result, argument)
 }
 
 /// The destructor is called with `&mut` of the place.

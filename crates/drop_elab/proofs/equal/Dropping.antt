@@ -55,4 +55,7 @@ module _ (D : List Shape) (locals : List Tree) (p : Place) where
   drop_first (v ∷ us) (m ∷ ms) (b ∷ ns) zero u e f q =
       let same : v ≡ u = cc in
       ap (λ (w : DropUnit). if is_under p w.place then plan_unit D locals (flagged_of w) (status_of m b) (drop_of us ms ns) else drop_of us ms ns) same
-  drop_first (v ∷ us) (m ∷ ms) (b ∷ ns) (suc k) u e f q = drop_first us ms ns k u (omega arith) (omega arith) q ∙ (let z : suc (k + 1) ≡ suc k + 1 = omega arith in refl)
+  drop_first (v ∷ us) (m ∷ ms) (b ∷ ns) (suc k) u e f q =
+      let z : suc (k + 1) ≡ suc k + 1 = omega arith in
+      subst (λ n. drop_of (drop k us) (drop k ms) (drop k ns) ≡ (if is_under p u.place then plan_unit D locals (flagged_of u) (status_of (get_or ms k false) (get_or ns k false)) (drop_of (drop n (v ∷ us)) (drop n (m ∷ ms)) (drop n (b ∷ ns))) else drop_of (drop n (v ∷ us)) (drop n (m ∷ ms)) (drop n (b ∷ ns)))) z
+      (drop_first us ms ns k u (omega arith) (omega arith) q)

@@ -116,12 +116,13 @@ chosen_some (clear y r) rest q b x xs e = refl
 
 pub no_arms : (D : List Shape) (f : ℕ → Place → Plan → Plan) (q : Place) (b k : ℕ) (ts : List Tree) → arms_at D b k ts ≡ [] → arms_of D f q k ts ≡ done
 no_arms D f q b k [] e = refl
-no_arms D f q b k (t ∷ ts) e = go (needs_drop D t) e
+no_arms D f q b k (t ∷ ts) e = go (needs_drop D t) e (λ h. no_arms D f q b (suc k) ts h)
   where
     go : (n : Bool) → (if n then record { value = k; block = b } ∷ arms_at D (suc b) (suc k) ts else arms_at D b (suc k) ts) ≡ []
+        → (arms_at D b (suc k) ts ≡ [] → arms_of D f q (suc k) ts ≡ done)
         → (if n then arm k (glue_from f (part q (Downcast k)) 0 t done) (arms_of D f q (suc k) ts) else arms_of D f q (suc k) ts) ≡ done
-    go true h = absurd cc
-    go false h = no_arms D f q b (suc k) ts h
+    go true h next = absurd cc
+    go false h next = next h
 
 -- ---- a choice
 
