@@ -5,4 +5,5 @@ pub mod NoDrop
 pub mod Elaborated
 pub mod Destructors
 pub mod Marking
+pub mod Fields
 pub mod equal

@@ -8,6 +8,8 @@ use Rattle.bit_rows.specs.Rows.{row_at, flag, HasSize}
 use Rattle.move_paths.specs.declared.units.Span.{Span}
 use Rattle.move_paths.specs.Effects.{goes_on, is_under}
 use Rattle.move_paths.specs.Rows.{in_span, IsSpanned}
+use Rattle.drop_elab.specs.Elab.{status_of, is_conditional}
+use Rattle.drop_elab.specs.Changes.{wants_at}
 
 -- outside of the span of a place's local no unit is under the place
 pub outside : (us : List Place) (spans : List Span) → IsSpanned us spans → (p : Place) (k : ℕ) (u : Place) → slice_get us k ≡ Some u → in_span k (slice_get spans p.local) ≡ false → is_under p u ≡ false
@@ -16,6 +18,9 @@ outside us spans spanned p k u q e = go (nat_eq p.local u.local) refl
     go : (c : Bool) → nat_eq p.local u.local ≡ c → (c && goes_on p.proj u.proj) ≡ false
     go false h = refl
     go true h = absurd (let same : p.local ≡ u.local = grind arith in let t : in_span k (slice_get spans u.local) ≡ true = spanned.each k u q in let z : true ≡ false = sym t ∙ ap (λ y. in_span k (slice_get spans y)) (sym same) ∙ e in grind arith)
+
+pub unwanted : (p u : Place) (maybe sure : Bool) → is_under p u ≡ false → wants_at p u maybe sure ≡ false
+unwanted p u maybe sure e = ap (λ b. b && is_conditional (status_of maybe sure)) e
 
 pub before_span : (s : Span) (k : ℕ) → k < s.from → in_span k (Some s) ≡ false
 before_span s k l = (let e : nat_le s.from k ≡ false = grind arith in rw e refl)
@@ -33,7 +38,7 @@ pub record Wanting (w : ℕ → Place → Bool) (us : List Place) (old now : Lis
   pub marks : (k : ℕ) (u : Place) → slice_get us k ≡ Some u → k < at → flag now 0 k ≡ (flag old 0 k || w k u)
   pub rest : (k : ℕ) (u : Place) → slice_get us k ≡ Some u → at ≤ k → flag now 0 k ≡ flag old 0 k
 
-or_false : (b c : Bool) → c ≡ false → b ≡ (b || c)
+pub or_false : (b c : Bool) → c ≡ false → b ≡ (b || c)
 or_false true c e = refl
 or_false false c e = sym e
 

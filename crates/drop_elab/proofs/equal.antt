@@ -8,6 +8,7 @@ pub mod Ends
 pub mod Whole
 pub mod Blocks
 pub mod Wants
+pub mod RowsAt
 pub mod Flags
 pub mod Dropping
 pub mod Bodies

@@ -8,7 +8,7 @@ use Rattle.mir_syntax.specs.declared.body.Term.TheVariants.{Drop}
 use Rattle.mir_syntax.specs.declared.body.Block.{Block}
 use Rattle.mir_syntax.specs.Tree.{Tree, at_id, trees_of}
 use Rattle.mir_syntax.specs.Crate.{stmt_of}
-use Rattle.mir_syntax.specs.Shapes.{Shape, place_ty}
+use Rattle.mir_syntax.specs.Shapes.{Shape, place_ty, ends_in_downcast}
 use Rattle.bit_rows.specs.Rows.{flag}
 use Rattle.move_paths.specs.Effects.{is_under, effect, moved, begun}
 use Rattle.move_paths.specs.Inits.{is_argument}
@@ -29,6 +29,10 @@ change_made trees (change.Entry args) u = Some (is_argument args u)
 change_made trees (change.Stmt s) u = effect u (stmt_of trees s.now)
 change_made trees (change.Moved t) u = only_if (moved u t.now) false
 change_made trees (change.Begun t) u = only_if (begun u t.now) true
+
+-- the place ends in no downcast, as that of a unit, whose path goes through fields alone
+abbrev pub IsWhole : Place → Type 0
+IsWhole p = ends_in_downcast p.proj ≡ false
 
 -- the unit has its type, and the id of that lies in the table
 pub record IsTyped (types : List Ty) (D : List Shape) (locals : List Tree) (u : DropUnit) : Type 0 where

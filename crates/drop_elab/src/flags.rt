@@ -8,7 +8,7 @@ ghost use Rattle.mir_syntax.specs.Ids.{IdsInTable, BodyInTable};
 ghost use Rattle.mir_syntax.specs.Crate.{crate_of, body_of, block_of};
 ghost use Rattle.mir_syntax.specs.Shapes.{shapes_of};
 ghost use Rattle.drop_elab.specs.Elab.{with_flags};
-ghost use Rattle.drop_elab.specs.Changes.{flagged_of, IsTyped, wants_at, wants_in};
+ghost use Rattle.drop_elab.specs.Changes.{flagged_of, IsWhole, IsTyped, wants_at, wants_in};
 
 use bit_rows::BitRows;
 use mir_syntax::{Block, Body, List, OutOfMemory, Place as BodyPlace, Program, Term, TyId};
@@ -83,6 +83,7 @@ pub(crate) fn units_with_flags(
     requires body_ids { BodyInTable program.now.types body.now }
     requires few_locals { length body.now.locals < 2 ^ 30 }
     requires few_units { length places < 2 ^ 32 }
+    requires whole { All IsWhole places }
     requires size { HasSize wanted.now 1 (length places) }
     ensures units { IfOk result (λ units. map flagged_of units ≡ with_flags (length body.now.locals) places (row_at wanted.now 0)) }
     ensures types { IfOk result (λ units. All (λ unit. IsTyped program.now.types (shapes_of (crate_of program.now)) (body_of (trees_of program.now.types) body.now).locals unit) units) }

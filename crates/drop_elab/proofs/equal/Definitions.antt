@@ -1,13 +1,15 @@
 -- The glue of a struct or an enum, by what the program says of it.
-use Rattle.std.proofs.Common.{◌≡◌, refl, ap, ◌∙◌, sym, subst, ℕ, zero, suc, ◌+◌, Bool, true, false, if◌then◌else◌, List, [], ◌∷◌, map, length, Option, Some, None, slice_get, arith}
+use Rattle.std.proofs.Common.{◌≡◌, refl, ap, ◌∙◌, sym, subst, ℕ, zero, suc, ◌+◌, ◌<◌, Bool, true, false, ◌||◌, if◌then◌else◌, List, [], ◌∷◌, map, drop, length, get_or, Option, Some, None, slice_get, arith}
+use Rattle.std.proofs.lemmas.List.{at_drop_more}
 use Rattle.std.specs.Option.{option_map}
 use Rattle.mir_syntax.specs.declared.types.Def.{Def}
+use Rattle.mir_syntax.specs.declared.types.Field.{Field as StructField}
 use Rattle.mir_syntax.specs.declared.types.Variant.{Variant}
 use Rattle.mir_syntax.specs.declared.body.Place.{Place}
 use Rattle.mir_syntax.specs.declared.program.Program.{Program}
-use Rattle.mir_syntax.specs.Tree.{Tree, named, trees_of}
+use Rattle.mir_syntax.specs.Tree.{Tree, empty, more, named, at_id, trees_of}
 use Rattle.mir_syntax.specs.Crate.{TypedFunction, TypedDef, TypedVariant, crate_of, def_of, variant_of}
-use Rattle.mir_syntax.specs.Shapes.{Shape, shapes_of, shapes_from, fields_tuple, struct_fields, fields_of_struct, needs_drop, needs_def, needs_of, destructor_of, ◌>>=◌}
+use Rattle.mir_syntax.specs.Shapes.{Shape, shapes_of, shapes_from, fields_tree, fields_tuple, struct_fields, fields_of_struct, needs_drop, needs_def, needs_of, destructor_of, ◌>>=◌}
 use Rattle.mir_syntax.proofs.Lists.{map_back}
 use Rattle.drop_elab.specs.declared.cursor.Cursor.{Cursor}
 use Rattle.drop_elab.specs.Plan.{Plan, destroy, chosen, glue_from, arms_of, glue_inside, glue_shape, glue_of, glue_def}
@@ -26,6 +28,29 @@ needs_some D d e = depth (length D) e
     depth : (n : ℕ) → needs_def D n d ≡ true → (s : Shape) × (slice_get D d ≡ Some s)
     depth zero h = absurd cc
     depth (suc n) h = some n (slice_get D d) refl h
+
+-- ---- whether one of some fields needs drop
+
+needs_more : (D : List Shape) (t ts : Tree) → needs_drop D (more t ts) ≡ (needs_drop D t || needs_drop D ts)
+unfolding needs_drop
+needs_more D t ts = refl
+
+pub needs_none : (D : List Shape) → needs_drop D empty ≡ false
+unfolding needs_drop
+needs_none D = refl
+
+module _ (D : List Shape) (trees : List Tree) (fields : List StructField) (i : ℕ) (f : StructField) (low : i < length fields) (is : f ≡ get_or fields i f) where
+  needs_split : needs_drop D (fields_tree trees (drop i fields)) ≡ (needs_drop D (at_id trees f.ty) || needs_drop D (fields_tree trees (drop (i + 1) fields)))
+  needs_split =
+      at_drop_more (λ (xs : List StructField). needs_drop D (fields_tree trees xs)) fields i f low
+      ∙ ap (λ (g : StructField). needs_drop D (more (at_id trees g.ty) (fields_tree trees (drop (i + 1) fields)))) (sym is)
+      ∙ needs_more D (at_id trees f.ty) (fields_tree trees (drop (i + 1) fields))
+
+  pub needs_one : needs_drop D (at_id trees f.ty) ≡ true → needs_drop D (fields_tree trees (drop i fields)) ≡ true
+  needs_one e = needs_split ∙ ap (λ b. b || needs_drop D (fields_tree trees (drop (i + 1) fields))) e
+
+  pub needs_other : needs_drop D (at_id trees f.ty) ≡ false → needs_drop D (fields_tree trees (drop i fields)) ≡ needs_drop D (fields_tree trees (drop (i + 1) fields))
+  needs_other e = needs_split ∙ ap (λ b. b || needs_drop D (fields_tree trees (drop (i + 1) fields))) e
 
 module _ (D : List Shape) (f : ℕ → Place → Plan → Plan) (d : ℕ) (s : Shape) (q : Place) (at : slice_get D d ≡ Some s) where
   pub inside_struct : (t : Tree) → (slice_get D d >>= fields_of_struct) ≡ Some t → (rest : Plan) → glue_inside D f s q rest ≡ glue_from f q 0 t rest

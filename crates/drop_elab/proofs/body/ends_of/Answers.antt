@@ -1,19 +1,20 @@
-use Rattle.std.proofs.Common.{rules, ◌≡◌, ℕ, ◌<◌, ◌^◌, ◌++◌, List, map, length, IsTrue, IfOk, OnOk, ◌+◌, ◌-◌, ◌*◌, ◌≤◌, ◌/◌, ◌%◌, Bool, true, false, nat_eq, nat_lt, [], ◌∷◌, slice_index_or, slice_set, bit_and, bit_or, Fits, w8, w32, w64, Bor, MutBor}
-use Rattle.mir_syntax.specs.Drops.{KnowsDrops}
-use Rattle.mir_syntax.specs.Ids.{IdsInTable, BodyInTable}
-use Rattle.mir_syntax.specs.Tree.{Tree, at_id, trees_of}
-use Rattle.mir_syntax.specs.Table.{all_below}
-use Rattle.mir_syntax.specs.Crate.{crate_of, body_of}
+use Rattle.std.proofs.Common.{◌≡◌, ◌∙◌, ap, sym, subst, ℕ, ◌<◌, List, map, length, arith}
+use Rattle.std.proofs.lemmas.List.{length-map}
+use Rattle.bit_rows.specs.Rows.{row_at, HasSize}
+use Rattle.mir_syntax.specs.declared.body.Block.{Block}
+use Rattle.mir_syntax.specs.declared.body.Place.{Place}
+use Rattle.mir_syntax.specs.Tree.{trees_of}
+use Rattle.mir_syntax.specs.Crate.{crate_of, block_of, body_of}
 use Rattle.mir_syntax.specs.Shapes.{shapes_of}
-use Rattle.mir_cfg.specs.Paths.{terms_of, Closed}
-use Rattle.drop_elab.specs.Types.{HasBool, HasIsize}
-use Rattle.mir_rules.specs.Typing.{bool_ty as tree_of_bool}
 use Rattle.move_paths.specs.Effects.{units_of_body}
-use Rattle.drop_elab.specs.Elab.{IsElab}
-use Rattle.drop_elab.specs.Changes.{flagged_of}
-use Rattle.drop_elab.specs.Blocks.{IsEnds, IsKnown, locals_of}
+use Rattle.drop_elab.specs.Blocks.{IsEnds}
+use Rattle.drop_elab.proofs.equal.RowsAt.{ends_found}
 use Rattle.drop_elab.proofs.body.ends_of.Goals as goal
 
--- src/body.rt:27:1
 pub returns-clause-rows : goal.returns-clause-rows
-returns-clause-rows c = ?
+returns-clause-rows c =
+    let p = c.args.program.now in
+    let r = c.in_ok-rows.rows in
+    let e = c.in_ok-rows.ensures in
+    ends_found (shapes_of (crate_of p)) (trees_of p.types) c.args.body.now r.units.places r.maybe r.sure c.to_ends.new.rows c.to_ends-2.new.rows c.as_slice-blocks.result.now c.as_slice-blocks.ensures
+        e.units e.maybe_size e.maybe e.sure_size e.sure c.to_ends.ensures.size (c.to_ends.ensures.rows (trees_of p.types)) c.to_ends-2.ensures.size (c.to_ends-2.ensures.rows (trees_of p.types))

@@ -1,25 +1,24 @@
-use Rattle.std.proofs.Common.{rules, ◌≡◌, ◌<◌, ◌≤◌, ◌+◌, ◌++◌, [], ◌∷◌, Some, map, length, replicate, set, slice_get, IsTrue, IfOk, OnOk, ℕ, ◌-◌, ◌*◌, ◌/◌, ◌%◌, Bool, true, false, nat_eq, nat_lt, List, slice_index_or, bit_and, bit_or, Fits, w8, w32, w64, Bor, MutBor}
-use Rattle.std.specs.List.{list_all}
-use Rattle.mir_syntax.specs.Tree.{empty, ref_mut, named, at_id, at_ids, trees_of}
-use Rattle.mir_syntax.specs.Table.{all_below}
-use Rattle.mir_syntax.specs.Ids.{field_below, variant_below, IdsInTable}
-use Rattle.mir_syntax.specs.Drops.{KnowsDrops}
+use Rattle.std.proofs.Common.{◌≡◌, ◌∙◌, sym, List}
+use Rattle.std.proofs.lemmas.List.{at_drop_all}
+use Rattle.mir_syntax.specs.declared.types.Field.{Field}
+use Rattle.mir_syntax.specs.Tree.{trees_of}
 use Rattle.mir_syntax.specs.Crate.{crate_of}
-use Rattle.mir_syntax.specs.Shapes.{Shape, shapes_of, fields_tree, needs_drop, destructor_of}
-use Rattle.mir_syntax.specs.declared.body.Proj.TheVariants.{Downcast}
-use Rattle.drop_elab.specs.Plan.{done, destroy, chosen, glue_from, glue_def, glue_inside, arms_of, part}
-use Rattle.drop_elab.specs.Types.{HasIsize}
-use Rattle.drop_elab.specs.Code.{arms_at, bare_chosen, variant_tree, empty_block, Laying, Arming, nothing_left}
+use Rattle.mir_syntax.specs.Shapes.{shapes_of, fields_tree, needs_drop}
+use Rattle.drop_elab.proofs.equal.Definitions.{needs_none, needs_one, needs_other}
 use Rattle.drop_elab.proofs.glue.any_needs_drop.Goals as goal
 
--- src/glue.rt:73:13
 pub returns-then-needs_drop : goal.returns-then-needs_drop
-returns-then-needs_drop c = ?
+returns-then-needs_drop c =
+    let p = c.args.program.now in
+    sym (needs_one (shapes_of (crate_of p)) (trees_of p.types) c.args.fields.now c.loop-field.field-index c.field-item.result c.loop-field-test.true c.field-item.is (sym c.needs_drop.ensures ∙ c.if-needs_drop.true)) ∙ c.loop-field.invariant
 
--- src/glue.rt:71:5
 pub loop-field-preserved : goal.loop-field-preserved
-loop-field-preserved c = ?
+loop-field-preserved c =
+    let p = c.args.program.now in
+    sym (needs_other (shapes_of (crate_of p)) (trees_of p.types) c.args.fields.now c.loop-field.field-index c.field-item.result c.loop-field-test.true c.field-item.is (sym c.needs_drop.ensures ∙ c.if-needs_drop.false)) ∙ c.loop-field.invariant
 
--- src/glue.rt:66:1
 pub returns : goal.returns
-returns c = ?
+returns c =
+    let p = c.args.program.now in
+    let D = shapes_of (crate_of p) in
+    sym (needs_none D) ∙ sym (at_drop_all (λ (xs : List Field). needs_drop D (fields_tree (trees_of p.types) xs)) c.args.fields.now c.loop-field.field-index c.loop-field-test.false) ∙ c.loop-field.invariant
