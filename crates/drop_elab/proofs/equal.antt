@@ -12,3 +12,5 @@ pub mod RowsAt
 pub mod Flags
 pub mod Dropping
 pub mod Bodies
+pub mod Known
+pub mod Arms

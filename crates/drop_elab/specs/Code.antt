@@ -2,15 +2,18 @@
 use Rattle.std.specs.Prelude.{◌≡◌, ℕ, suc, ◌+◌, ◌<◌, ◌≤◌, Bool, true, false, ◌&&◌, if◌then◌else◌, List, [], ◌∷◌, ◌++◌, map, length, set, Option, Some, None, slice_get, IsTrue}
 use Rattle.std.specs.List.{list_all}
 use Rattle.mir_syntax.specs.declared.types.Ty.{Ty}
+use Rattle.mir_syntax.specs.declared.types.TyId.{TyId}
 use Rattle.mir_syntax.specs.declared.types.Variant.{Variant}
 use Rattle.mir_syntax.specs.declared.body.Const.TheVariants as constant
 use Rattle.mir_syntax.specs.declared.body.Operand.TheVariants as operand
+use Rattle.mir_syntax.specs.declared.body.Callee.TheVariants as callee
 use Rattle.mir_syntax.specs.declared.body.Rvalue.TheVariants as rvalue
 use Rattle.mir_syntax.specs.declared.body.Place.{Place}
 use Rattle.mir_syntax.specs.declared.body.Arm.{Arm}
 use Rattle.mir_syntax.specs.declared.body.Stmt.{Stmt}
 use Rattle.mir_syntax.specs.declared.body.Stmt.TheVariants as stmt
-use Rattle.mir_syntax.specs.declared.body.Term.TheVariants.{Switch, Unreachable}
+use Rattle.mir_syntax.specs.declared.body.Term.{Term}
+use Rattle.mir_syntax.specs.declared.body.Term.TheVariants.{Switch, Call, Unreachable}
 use Rattle.mir_syntax.specs.declared.body.Block.{Block}
 use Rattle.mir_syntax.specs.declared.program.Program.{Program}
 use Rattle.mir_syntax.specs.Tree.{Tree, at_id, trees_of}
@@ -26,6 +29,19 @@ bare_flag x b = stmt.Assign (local_place x) (rvalue.Use (operand.Const (constant
 
 abbrev pub empty_block : Block
 empty_block = record { stmts = []; term = Unreachable }
+
+-- the call of the destructor g with the argument in the local l and the result in the next, which returns to the block b
+abbrev pub call_of : (l b g : ℕ) → Term
+call_of l b g = Call (local_place (suc l)) (callee.Local (record { 0 = g })) (operand.Move (local_place l) ∷ []) b
+
+-- the cursor goes by the call of a destructor to a new block; the types of the argument and of the result have these ids
+abbrev pub bare_called : Cursor → TyId → TyId → ℕ → Cursor
+bare_called c argument result g = record c {
+  locals = (c.locals ++ argument ∷ []) ++ result ∷ [];
+  blocks = set (c.blocks ++ empty_block ∷ []) c.at (record { stmts = c.stmts ++ stmt.Assign (local_place (length c.locals)) (rvalue.RefMut c.place) ∷ []; term = call_of (length c.locals) (length c.blocks) g });
+  at = length c.blocks;
+  stmts = [];
+}
 
 -- an arm for each variant that needs drop, the first variant having the number k and the first arm the block b
 abbrev pub arms_at : List Shape → ℕ → ℕ → List Tree → List Arm

@@ -10,7 +10,7 @@ ghost use Rattle.mir_syntax.specs.Shapes.{Shape, shapes_of, fields_tree, needs_d
 ghost use Rattle.mir_syntax.specs.declared.body.Proj.TheVariants.{Downcast};
 ghost use Rattle.drop_elab.specs.Plan.{done, destroy, chosen, glue_from, glue_def, glue_inside, arms_of, part};
 ghost use Rattle.drop_elab.specs.Types.{HasIsize};
-ghost use Rattle.drop_elab.specs.Code.{arms_at, bare_chosen, variant_tree, empty_block, Laying, Arming, nothing_left};
+ghost use Rattle.drop_elab.specs.Code.{arms_at, bare_called, bare_chosen, variant_tree, empty_block, Laying, Arming, nothing_left};
 
 use crate::types::isize_id;
 use crate::cursor::{Cursor, local_place};
@@ -34,20 +34,17 @@ fn header(program: &Program, id: TyId, destructor: FnId) -> (TyId, TyId)
     (result, argument)
 }
 
-/// The destructor is called with `&mut` of the place.
-fn lay_destructor(
+/// Calls a destructor with `&mut` of the place, and goes on at a new block. The reference is kept in a new local, and the result in another.
+fn call(
     cursor: &mut Cursor,
     alloc: Global,
-    program: &Program,
-    id: TyId,
+    argument_ty: TyId,
+    result_ty: TyId,
     destructor: FnId,
 ) -> Result<(), OutOfMemory>
-    requires ids { IdsInTable program.now }
-    requires is { destructor_of (shapes_of (crate_of program.now)) (at_id (trees_of program.now.types) id) ≡ Some destructor.0 }
-    requires inside { cursor.old.at < length cursor.old.blocks }
-    ensures { OnOk result (Laying program.now cursor.old cursor.new nothing_left (destroy cursor.old.place (at_id (trees_of program.now.types) id) destructor.0)) }
+    requires { cursor.old.at < length cursor.old.blocks }
+    ensures { OnOk result (cursor.new ≡ bare_called cursor.old argument_ty result_ty destructor.0) }
 {
-    let (result_ty, argument_ty) = header(program, id, destructor);
     let argument = cursor.add_local(argument_ty)?;
     let result = cursor.add_local(result_ty)?;
     let next = cursor.add_block(alloc)?;
@@ -62,6 +59,23 @@ fn lay_destructor(
     let term = Term::Call(result, Callee::Local(destructor), args, next);
     cursor.go_on(alloc, term, next);
     Ok(())
+}
+
+/// Lays the call of a destructor with `&mut` of the place.
+fn lay_destructor(
+    cursor: &mut Cursor,
+    alloc: Global,
+    program: &Program,
+    id: TyId,
+    destructor: FnId,
+) -> Result<(), OutOfMemory>
+    requires ids { IdsInTable program.now }
+    requires is { destructor_of (shapes_of (crate_of program.now)) (at_id (trees_of program.now.types) id) ≡ Some destructor.0 }
+    requires inside { cursor.old.at < length cursor.old.blocks }
+    ensures { OnOk result (Laying program.now cursor.old cursor.new nothing_left (destroy cursor.old.place (at_id (trees_of program.now.types) id) destructor.0)) }
+{
+    let (result_ty, argument_ty) = header(program, id, destructor);
+    call(cursor, alloc, argument_ty, result_ty, destructor)
 }
 
 /// Whether one of the fields needs drop.

@@ -12,7 +12,7 @@ use Rattle.mir_syntax.specs.Crate.{TypedStmt, assign, discriminant, TypedBlock}
 use Rattle.mir_syntax.specs.Crate as rvalue
 use Rattle.mir_rules.specs.Typing.{isize_ty}
 use Rattle.drop_elab.specs.Plan.{Plan, done, destroy, choose, arm, guarded, clear, Laid, code, lay, local_place, set_flag, arms_from}
-use Rattle.drop_elab.specs.Code.{Seen, Built, ended, built, put, armed, all_built}
+use Rattle.drop_elab.specs.Code.{call_of, Seen, Built, ended, built, put, armed, all_built}
 use Rattle.drop_elab.proofs.equal.Lists.{put_front, put_long, put_all}
 
 pub both : (a b : List Tree) (x y : List TypedBlock) → a ≡ b → x ≡ y → (let z : Built = record { locals = a; blocks = x } in z) ≡ record { locals = b; blocks = y }
@@ -41,9 +41,6 @@ cleared_is c x rest s =
     ap (λ (ss : List TypedStmt). let z : Built = record { locals = c.locals ++ r.locals; blocks = set c.blocks c.at (record { stmts = ss; term = r.term }) ++ r.blocks } in z) (append_assoc c.stmts (set_flag x false ∷ []) r.stmts)
 
 -- ---- a destructor is called
-
-abbrev pub call_of : ℕ → ℕ → ℕ → Term
-call_of l b g = Call (local_place (suc l)) (callee.Local (record { 0 = g })) (operand.Move (local_place l) ∷ []) b
 
 abbrev pub after_destroy : Seen → Place → Tree → ℕ → TypedBlock → Seen
 after_destroy c q t g e = record {

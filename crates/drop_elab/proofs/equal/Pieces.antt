@@ -24,9 +24,9 @@ use Rattle.mir_syntax.specs.Shapes.{Shape, needs_drop}
 use Rattle.mir_rules.specs.Typing.{isize_ty}
 use Rattle.drop_elab.specs.declared.cursor.Cursor.{Cursor}
 use Rattle.drop_elab.specs.Plan.{Plan, done, destroy, choose, chosen, arm, guarded, clear, lay, local_place, set_flag, arms_from, arms_of, glue_from, part}
-use Rattle.drop_elab.specs.Code.{bare_flag, empty_block, arms_at, bare_chosen, Seen, Built, seen, built, armed, all_built, InTable, Laying, Arming, nothing_left}
+use Rattle.drop_elab.specs.Code.{bare_flag, call_of, bare_called, empty_block, arms_at, bare_chosen, Seen, Built, seen, built, armed, all_built, InTable, Laying, Arming, nothing_left}
 use Rattle.drop_elab.proofs.equal.Below.{all_joined, all_set, below_joined, one_below}
-use Rattle.drop_elab.proofs.equal.Laid.{call_of, after_destroy, destroyed_is, closed, closed_is, armed_more, armed_all, at_choice, chosen_is}
+use Rattle.drop_elab.proofs.equal.Laid.{after_destroy, destroyed_is, closed, closed_is, armed_more, armed_all, at_choice, chosen_is}
 
 seen_same : (l l2 : List Tree) (k k2 : List TypedBlock) (i : ℕ) (s : List TypedStmt) → l ≡ l2 → k ≡ k2 → (let z : Seen = record { locals = l; blocks = k; at = i; stmts = s } in z) ≡ record { locals = l2; blocks = k2; at = i; stmts = s }
 seen_same l l2 k k2 i s e f = ap₂ (λ (l : List Tree) (k : List TypedBlock). let z : Seen = record { locals = l; blocks = k; at = i; stmts = s } in z) e f
@@ -39,14 +39,6 @@ set_in_front trees ks more i x l =
     ∙ set-append_left (map (block_of trees) ks) (map (block_of trees) more) i (block_of trees x) (let n = length-map ks (block_of trees) in omega arith)
 
 -- ---- a destructor
-
-abbrev pub after_call : Cursor → TyId → TyId → ℕ → Cursor
-after_call c arg res g = record c {
-  locals = (c.locals ++ arg ∷ []) ++ res ∷ [];
-  blocks = set (c.blocks ++ empty_block ∷ []) c.at (record { stmts = c.stmts ++ stmt.Assign (local_place (length c.locals)) (bare_rvalue.RefMut c.place) ∷ []; term = call_of (length c.locals) (length c.blocks) g });
-  at = length c.blocks;
-  stmts = [];
-}
 
 module _ (p : Program) (c : Cursor) (arg res : TyId) (g : ℕ) (t : Tree) (within : c.at < length c.blocks) (arg_is : at_id (trees_of p.types) arg ≡ ref_mut t) (res_is : at_id (trees_of p.types) res ≡ empty) where
   trees : List Tree
@@ -62,7 +54,7 @@ module _ (p : Program) (c : Cursor) (arg res : TyId) (g : ℕ) (t : Tree) (withi
   typed_call : List TypedStmt → ℕ → ℕ → TypedBlock
   typed_call ss l b = record { stmts = ss; term = call_of l b g }
 
-  call_blocks : map (block_of (trees_of p.types)) (after_call c arg res g).blocks ≡ (after_destroy (seen (trees_of p.types) c) c.place t g (block_of (trees_of p.types) empty_block)).blocks
+  call_blocks : map (block_of (trees_of p.types)) (bare_called c arg res g).blocks ≡ (after_destroy (seen (trees_of p.types) c) c.place t g (block_of (trees_of p.types) empty_block)).blocks
   call_blocks =
       let ks = map (block_of (trees_of p.types)) c.blocks in
       let ss = map (stmt_of (trees_of p.types)) c.stmts in
@@ -71,13 +63,13 @@ module _ (p : Program) (c : Cursor) (arg res : TyId) (g : ℕ) (t : Tree) (withi
       ∙ ap (λ (ys : List TypedStmt). set ks c.at (record { stmts = ys; term = call_of (length c.locals) (length c.blocks) g }) ++ e ∷ []) (map-append (stmt_of (trees_of p.types)) c.stmts (stmt.Assign (local_place (length c.locals)) (bare_rvalue.RefMut c.place) ∷ []))
       ∙ ap₂ (λ l b. set ks c.at (record { stmts = ss ++ assign (local_place l) (rvalue.ref_mut c.place) ∷ []; term = call_of l b g }) ++ e ∷ []) (sym (length-map c.locals (at_id (trees_of p.types)))) (sym (length-map c.blocks (block_of (trees_of p.types))))
 
-  call_seen : seen (trees_of p.types) (after_call c arg res g) ≡ after_destroy (seen (trees_of p.types) c) c.place t g (block_of (trees_of p.types) empty_block)
+  call_seen : seen (trees_of p.types) (bare_called c arg res g) ≡ after_destroy (seen (trees_of p.types) c) c.place t g (block_of (trees_of p.types) empty_block)
   call_seen =
       let d = after_destroy (seen (trees_of p.types) c) c.place t g (block_of (trees_of p.types) empty_block) in
-      seen_same (map (at_id (trees_of p.types)) ((c.locals ++ arg ∷ []) ++ res ∷ [])) d.locals (map (block_of (trees_of p.types)) (after_call c arg res g).blocks) d.blocks (length c.blocks) [] call_locals call_blocks
+      seen_same (map (at_id (trees_of p.types)) ((c.locals ++ arg ∷ []) ++ res ∷ [])) d.locals (map (block_of (trees_of p.types)) (bare_called c arg res g).blocks) d.blocks (length c.blocks) [] call_locals call_blocks
       ∙ ap (λ n. let z : Seen = record { locals = d.locals; blocks = d.blocks; at = n; stmts = [] } in z) (sym (length-map c.blocks (block_of (trees_of p.types))))
 
-  pub destroy_lays : (new : Cursor) → arg.0 < length p.types → res.0 < length p.types → new ≡ after_call c arg res g → Laying p c new nothing_left (destroy c.place t g)
+  pub destroy_lays : (new : Cursor) → arg.0 < length p.types → res.0 < length p.types → new ≡ bare_called c arg res g → Laying p c new nothing_left (destroy c.place t g)
   destroy_lays new l m is = subst (λ (n : Cursor). Laying p c n nothing_left (destroy c.place t g)) (sym is) (record {
     same_place = refl;
     inside = (let n = length-set (c.blocks ++ empty_block ∷ []) c.at x in let k = length-append c.blocks (empty_block ∷ []) in omega arith);

@@ -1,23 +1,30 @@
-use Rattle.std.proofs.Common.{rules, ◌≡◌, ℕ, ◌<◌, ◌^◌, ◌++◌, List, map, length, IsTrue, IfOk, OnOk, ◌+◌, ◌-◌, ◌*◌, ◌≤◌, ◌/◌, ◌%◌, Bool, true, false, nat_eq, nat_lt, [], ◌∷◌, slice_index_or, slice_set, bit_and, bit_or, Fits, w8, w32, w64, Bor, MutBor}
-use Rattle.mir_syntax.specs.Drops.{KnowsDrops}
-use Rattle.mir_syntax.specs.Ids.{IdsInTable, BodyInTable}
-use Rattle.mir_syntax.specs.Tree.{Tree, at_id, trees_of}
-use Rattle.mir_syntax.specs.Table.{all_below}
+use Rattle.std.proofs.Common.{◌≡◌, ◌∙◌, ap, sym, subst, ◌<◌, List, map, length, arith}
+use Rattle.std.specs.List.{All}
+use Rattle.bit_rows.specs.Rows.{row_at}
+use Rattle.mir_syntax.specs.declared.body.Place.{Place}
+use Rattle.mir_syntax.specs.Tree.{trees_of}
 use Rattle.mir_syntax.specs.Crate.{crate_of, body_of}
 use Rattle.mir_syntax.specs.Shapes.{shapes_of}
-use Rattle.mir_cfg.specs.Paths.{terms_of, Closed}
-use Rattle.drop_elab.specs.Types.{HasBool, HasIsize}
-use Rattle.mir_rules.specs.Typing.{bool_ty as tree_of_bool}
-use Rattle.move_paths.specs.Effects.{units_of_body}
-use Rattle.drop_elab.specs.Elab.{IsElab}
-use Rattle.drop_elab.specs.Changes.{flagged_of}
-use Rattle.drop_elab.specs.Blocks.{IsEnds, IsKnown, locals_of}
+use Rattle.drop_elab.specs.Changes.{IsWhole, wants_in}
+use Rattle.drop_elab.proofs.Fields.{body_whole}
+use Rattle.drop_elab.proofs.equal.Known.{spans_kept, known_is}
 use Rattle.drop_elab.proofs.body.known_ends.Goals as goal
 
--- src/body.rt:78:5
-pub invariant_of-result : goal.invariant_of-result
-invariant_of-result c = ?
+pub units_with_flags-requires-clause-whole : goal.units_with_flags-requires-clause-whole
+units_with_flags-requires-clause-whole c =
+    let p = c.args.program.now in
+    subst (λ (us : List Place). All IsWhole us) (sym c.in_ok-rows.ensures.units) (body_whole (shapes_of (crate_of p)) (body_of (trees_of p.types) c.args.body.now))
 
--- src/body.rt:63:1
+pub invariant_of-result : goal.invariant_of-result
+invariant_of-result c =
+    let us = c.in_ok-rows.rows.units in
+    record { spanned = spans_kept (length c.args.body.now.locals) us.places us.spans (row_at c.in_ok-wanted.wanted 0) c.in_ok-units.units (c.in_ok-wanted.ensures.size.bits_is 0 (omega arith)) c.in_ok-units.ensures.units us.spanned }
+
 pub returns : goal.returns
-returns c = ?
+returns c =
+    let p = c.args.program.now in
+    let r = c.in_ok-rows.rows in
+    let w = c.in_ok-wanted.ensures in
+    let e = c.in_ok-units.ensures in
+    known_is p.types (shapes_of (crate_of p)) c.args.body.now (record { units = c.in_ok-units.units; spans = r.units.spans; maybe = r.maybe; sure = r.sure; spanned = _ }) r.units.places c.in_ok-wanted.wanted
+        c.in_ok-rows.ensures.units c.in_ok-rows.ensures.rows w.size (λ k u q. w.wants k u q ∙ ap (λ bs. wants_in r.maybe r.sure k u 0 bs) c.as_slice.ensures) e.units e.types

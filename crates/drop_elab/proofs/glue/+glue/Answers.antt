@@ -28,8 +28,8 @@ lay_fields-loop-index-preserved t c =
     some_field f p c.args.cursor.now c.loop-index.cursor e c.lay_glue.new.cursor c.loop-index.index c.pop.new.self c.pop.result c.in_ok-enter_field.ensures c.pop.ensures
     (glue_from f c.args.cursor.now.place 0 (fields_tree trees c.args.fields.now)) trees c.args.fields.now item (omega (arith, c.loop-index-test.true)) c.loop-index.invariant found
 
-pub lay_definition-returns-in-Some : goal.lay_definition-returns-in-Some
-lay_definition-returns-in-Some t c =
+pub lay_definition-returns-in_ok-lay_destructor-in-Some : goal.lay_definition-returns-in_ok-lay_destructor-in-Some
+lay_definition-returns-in_ok-lay_destructor-in-Some t c =
     let p = c.args.program.now in
     let D = shapes_of (crate_of p) in
     let d = c.args.def in
@@ -58,3 +58,39 @@ lay_definition-returns-in-None t c =
     (λ h. subst (λ m. Laying p c.args.cursor.now c.lay_inside-in-None.new.cursor nothing_left (glue_def D m d c.args.cursor.now.place)) (sym depth)
     (glue_without p D n d c.args.cursor.now c.lay_inside-in-None.new.cursor s needs at has (h s at)))
     c.lay_inside-in-None.ensures
+
+pub lay_arms-overflow_add-at : goal.lay_arms-overflow_add-at
+lay_arms-overflow_add-at t c = ?
+
+pub lay_arms-loop-number-preserved : goal.lay_arms-loop-number-preserved
+lay_arms-loop-number-preserved t c = ?
+
+pub lay_choice-returns-then-is_empty : goal.lay_choice-returns-then-is_empty
+lay_choice-returns-then-is_empty t c = ?
+
+pub lay_choice-lay_arms-requires : goal.lay_choice-lay_arms-requires
+lay_choice-lay_arms-requires t c = ?
+
+pub lay_choice-returns : goal.lay_choice-returns
+lay_choice-returns t c = ?
+
+pub lay_fields-returns : goal.lay_fields-returns
+lay_fields-returns t c = ?
+
+pub lay_inside-returns-in-Some : goal.lay_inside-returns-in-Some
+lay_inside-returns-in-Some t c = ?
+
+pub lay_inside-lay_choice-requires : goal.lay_inside-lay_choice-requires
+lay_inside-lay_choice-requires t c = ?
+
+pub lay_inside-returns-in-Some-get : goal.lay_inside-returns-in-Some-get
+lay_inside-returns-in-Some-get t c = ?
+
+pub lay_inside-returns-in-None : goal.lay_inside-returns-in-None
+lay_inside-returns-in-None t c = ?
+
+pub lay_tuple-lay_glue-requires : goal.lay_tuple-lay_glue-requires
+lay_tuple-lay_glue-requires t c = ?
+
+pub lay_tuple-returns : goal.lay_tuple-returns
+lay_tuple-returns t c = ?
