@@ -11,7 +11,7 @@ ghost use Rattle.mir_cfg.specs.Paths.{terms_of, Closed};
 ghost use Rattle.liveness.specs.Live.{Live, term_reads, term_fills};
 ghost use Rattle.liveness.specs.Rows.{cleared, or_rows, end_row, block_at, IsRows};
 
-use crate::effects::{gens, kills};
+use crate::effects::long_kills;
 use crate::flow::LiveFlow;
 use crate::terminator::{fill_term, read_term};
 use crate::turned::turned_edges;
@@ -114,19 +114,16 @@ fn starts(alloc: Global, program: &Program, body: &Body) -> Result<BitRows, OutO
     ensures live { IfOk result (λ rows. (b x : ℕ) → b < length body.now.blocks → x < length body.now.locals → IsTrue (flag rows b x) ↔ Live (shapes_of (crate_of program.now)) (body_of (trees_of program.now.types) body.now) b 0 x) }
 {
     let edges = turned_edges(alloc, body.blocks.as_slice())?;
-    let gens = gens(alloc, program, body)?;
-    let kills = kills(alloc, body)?;
+    let kills = long_kills(alloc, body)?;
     let blocks = body.blocks.len() as u32;
-    let bits = body.locals.len() as u32;
     let flow = LiveFlow {
-        blocks,
-        bits,
+        program,
+        body,
         edges,
-        gens,
         kills,
     };
     let facts = solve(alloc, &flow, blocks, flow.edges.as_slice())?;
-    one_table(alloc, facts.as_slice(), bits)
+    one_table(alloc, facts.as_slice(), body.locals.len() as u32)
 }
 
 /// The live locals of a body whose edges lead to its blocks.
