@@ -11,7 +11,7 @@ use Rattle.mir_syntax.specs.Parts.{targets}
 use Rattle.bit_rows.specs.Rows.{marked, stands}
 use Rattle.bit_rows.proofs.Marks.{marked-at}
 use Rattle.liveness.specs.Live.{stmt_reads, stmt_fills, term_reads, term_fills, LiveIn, Live}
-use Rattle.liveness.specs.Rows.{cleared, before_all, blank, gen_row, kill_row, block_fills}
+use Rattle.liveness.specs.Rows.{cleared, before_all, blank, gen_row}
 use Rattle.liveness.specs.Bits.{not_is, not_true, stands_has, has_stands, length-cleared, cleared-at, blank_bit}
 pub use Rattle.liveness.specs.Lattice.{length-before_all}
 use Rattle.liveness.specs.Lattice.{marked_long}

@@ -13,7 +13,7 @@ use Rattle.flow_engine.specs.declared.edges.Edge.{Edge}
 use Rattle.flow_engine.specs.Flow.{Lawful}
 use Rattle.liveness.specs.Live.{stmt_reads, stmt_fills, term_reads}
 use Rattle.liveness.specs.Rows.{cleared, before_all, blank, gen_row, kill_row, block_fills, block_at}
-use Rattle.liveness.specs.Facts.{IsBelow, ones, count_ones, begun, joined, along, sent}
+use Rattle.liveness.specs.Facts.{IsBelow, count_ones, begun, joined, along, sent}
 use Rattle.liveness.specs.Bits.{length-cleared, bit_within, ones_low, ones_same, ones_few}
 
 abbrev pub Fact : Type 0

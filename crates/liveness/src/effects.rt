@@ -27,7 +27,13 @@ fn back_over(stmts: &[Stmt], rows: &mut BitRows, row: u32)
 }
 
 /// Makes of a row without ones the locals that a block reads before it fills them.
-pub(crate) fn read_block(program: &Program, body: &Body, block: &Block, rows: &mut BitRows, row: u32)
+pub(crate) fn read_block(
+    program: &Program,
+    body: &Body,
+    block: &Block,
+    rows: &mut BitRows,
+    row: u32,
+)
     requires knows { KnowsDrops program.now }
     requires ids { IdsInTable program.now }
     requires body_ids { BodyInTable program.now.types body.now }

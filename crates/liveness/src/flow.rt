@@ -40,12 +40,7 @@ impl LiveFlow<'_> {
     }
 
     /// Takes from a row the locals that a block fills.
-    fn clear_filled(
-        &self,
-        alloc: Global,
-        block: u32,
-        row: &mut BitRows,
-    ) -> Result<(), OutOfMemory>
+    fn clear_filled(&self, alloc: Global, block: u32, row: &mut BitRows) -> Result<(), OutOfMemory>
         requires within { block < length self.now.body.now.blocks }
         requires size { HasSize row.old 1 (length self.now.body.now.locals) }
         ensures { OnOk result (row.new ≡ set row.old 0 (zip2 and_not (row_at row.old 0) (kill_row (body_of (trees_of self.now.program.now.types) self.now.body.now).locals (block_at (body_of (trees_of self.now.program.now.types) self.now.body.now).blocks block)))) }

@@ -1,8 +1,8 @@
-ghost use Rattle.std.specs.Prelude.{◌≡◌, ℕ, List, ◌<◌, ◌^◌, ◌↔◌, map, set, length, IfOk, OnOk, IsTrue};
+ghost use Rattle.std.specs.Prelude.{◌≡◌, ℕ, List, [], ◌∷◌, ◌<◌, ◌^◌, ◌↔◌, map, set, length, IfOk, OnOk, IsTrue};
 ghost use Rattle.std.specs.List.{All};
 ghost use Rattle.bit_rows.specs.Rows.{row_at, flag, marked, HasSize};
 ghost use Rattle.mir_syntax.specs.Tree.{trees_of};
-ghost use Rattle.mir_syntax.specs.Crate.{crate_of, body_of};
+ghost use Rattle.mir_syntax.specs.Crate.{crate_of, body_of, block_of};
 ghost use Rattle.mir_syntax.specs.Shapes.{shapes_of};
 ghost use Rattle.mir_syntax.specs.Drops.{KnowsDrops};
 ghost use Rattle.mir_syntax.specs.Ids.{IdsInTable, BodyInTable};
@@ -78,6 +78,31 @@ fn end_block(
     Ok(())
 }
 
+/// One row, of the locals that are live before a block's terminator, given those that are live at the blocks' starts.
+///
+/// # Errors
+///
+/// `OutOfMemory`.
+pub fn live_end(
+    alloc: Global,
+    program: &Program,
+    body: &Body,
+    block: &Block,
+    starts: &BitRows,
+) -> Result<BitRows, OutOfMemory>
+    requires knows { KnowsDrops program.now }
+    requires ids { IdsInTable program.now }
+    requires body_ids { BodyInTable program.now.types body.now }
+    requires few_locals { length body.now.locals < 2 ^ 30 }
+    requires targets { All (λ r. r < length starts.now) (targets block.now.term) }
+    requires same_bits { (r : ℕ) → r < length starts.now → length (row_at starts.now r) ≡ length body.now.locals }
+    ensures { IfOk result (λ row. row ≡ end_row (shapes_of (crate_of program.now)) (body_of (trees_of program.now.types) body.now).locals starts.now (block_of (trees_of program.now.types) block.now) ∷ []) }
+{
+    let mut row = BitRows::new(alloc, 1, body.locals.len() as u32)?;
+    end_block(alloc, program, body, block, starts, &mut row, 0)?;
+    Ok(row)
+}
+
 /// The locals that are live before the blocks' terminators, given those that are live at their starts.
 fn ends(
     alloc: Global,
@@ -102,8 +127,13 @@ fn ends(
     Ok(rows)
 }
 
-/// Of each block the locals that are live before its first statement, as the least solution of the flow of live locals.
-fn starts(alloc: Global, program: &Program, body: &Body) -> Result<BitRows, OutOfMemory>
+/// Of each block the locals that are live before its first statement, for a body whose edges lead to its blocks: the least solution of the
+/// flow of live locals.
+///
+/// # Errors
+///
+/// `OutOfMemory`.
+pub fn live_starts(alloc: Global, program: &Program, body: &Body) -> Result<BitRows, OutOfMemory>
     requires knows { KnowsDrops program.now }
     requires ids { IdsInTable program.now }
     requires body_ids { BodyInTable program.now.types body.now }
@@ -143,7 +173,7 @@ pub fn live(alloc: Global, program: &Program, body: &Body) -> Result<LiveRows, O
     ensures ends_size { IfOk result (λ rows. HasSize rows.ends (length body.now.blocks) (length body.now.locals)) }
     ensures ends { IfOk result (λ rows. (b x : ℕ) → b < length body.now.blocks → x < length body.now.locals → IsTrue (flag rows.ends b x) ↔ Live (shapes_of (crate_of program.now)) (body_of (trees_of program.now.types) body.now) b (length (block_at (body_of (trees_of program.now.types) body.now).blocks b).stmts) x) }
 {
-    let starts = starts(alloc, program, body)?;
+    let starts = live_starts(alloc, program, body)?;
     let ends = ends(alloc, program, body, &starts)?;
     Ok(LiveRows { starts, ends })
 }

@@ -1,4 +1,4 @@
-use Rattle.std.proofs.Common.{◌≡◌, ◌<◌, ℕ, Bool, List, Some, slice_get, sym, ap, ◌∙◌, subst, map, length, IsTrue, ◌↔◌, arith}
+use Rattle.std.proofs.Common.{◌≡◌, ◌<◌, ℕ, Bool, List, sym, ap, ◌∙◌, subst, map, length, IsTrue, ◌↔◌, arith}
 use Rattle.std.specs.List.{All}
 use Rattle.std.proofs.lemmas.Result.{IfOk-weaker}
 use Rattle.mir_syntax.specs.Tree.{trees_of}
@@ -11,7 +11,7 @@ use Rattle.liveness.specs.Live.{Live}
 use Rattle.liveness.specs.Rows.{IsTurned}
 use Rattle.liveness.proofs.Solved.{contains_at}
 use Rattle.liveness.proofs.Whole.{LeastOf, least_moved, inside, long, facts_sized, table_size, table_live}
-use Rattle.liveness.proofs.rows.starts.Goals as goal
+use Rattle.liveness.proofs.rows.live_starts.Goals as goal
 
 pub invariant_of-flow : goal.invariant_of-flow
 invariant_of-flow c =
