@@ -96,7 +96,8 @@ pub fn live_end(
     requires few_locals { length body.now.locals < 2 ^ 30 }
     requires targets { All (λ r. r < length starts.now) (targets block.now.term) }
     requires same_bits { (r : ℕ) → r < length starts.now → length (row_at starts.now r) ≡ length body.now.locals }
-    ensures { IfOk result (λ row. row ≡ end_row (shapes_of (crate_of program.now)) (body_of (trees_of program.now.types) body.now).locals starts.now (block_of (trees_of program.now.types) block.now) ∷ []) }
+    ensures size { IfOk result (λ row. HasSize row 1 (length body.now.locals)) }
+    ensures live { IfOk result (λ row. row ≡ end_row (shapes_of (crate_of program.now)) (body_of (trees_of program.now.types) body.now).locals starts.now (block_of (trees_of program.now.types) block.now) ∷ []) }
 {
     let mut row = BitRows::new(alloc, 1, body.locals.len() as u32)?;
     end_block(alloc, program, body, block, starts, &mut row, 0)?;
