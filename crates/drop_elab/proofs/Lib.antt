@@ -3,4 +3,3 @@ pub mod RowPaths
 pub mod OneResult
 pub mod NoDrop
 pub mod Elaborated
-pub mod refines

@@ -8,7 +8,6 @@ pub mod Going
 pub mod Whole
 pub mod Running
 pub mod Staged
-pub mod plan
 pub mod compose
 pub mod elab
 pub mod WithIds

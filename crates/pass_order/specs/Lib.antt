@@ -3,10 +3,7 @@ pub mod Stages
 pub mod Steps
 pub mod Fits
 pub mod Programs
-pub mod Queries
-pub mod Needs
 pub mod Bodies
 pub mod OptCrate
 pub mod ElabLaws
-pub mod Order
 pub mod WithIds

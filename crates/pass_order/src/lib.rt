@@ -16,13 +16,11 @@
 //!
 //! # Each body with others inlined
 //!
-//! A crate whose bodies are inlined into one another is told by queries (`Kind`). `specs/Queries.antt` says what each of them answers, `opt` above all,
-//! given the steps of bodies as functions (`Pipeline`); `specs/Needs.antt` what each needs in which order and what it steals (`plan`, as `sched_core`
-//! asks for it); `specs/OptCrate.antt` has the steps of a crate and the crate with each body optimised (`opt_crate`). The laws (`opt_laws`) are that
-//! the plan is lawful, who is a candidate and who asks for whom, of which bodies an optimised one is made, that bodies can be
-//! optimised in an order (`specs/Order.antt`), and that `opt_crate` is valid and refines the crate. That elaborated bodies stay valid and refine is their premise (`specs/ElabLaws.antt`); what these call is shown here (`proofs/elab`).
-//! `proofs/plan` speaks of queries over bodies of any type, and `proofs/compose` replaces the bodies of a crate one by one: all are cleaned, then all
-//! elaborated, and then optimised in rounds of rising weight.
+//! A crate whose bodies are inlined into one another is told by the queries of `query_plan`: `specs/OptCrate.antt` has the steps of a crate (`pipeline`) and
+//! the crate with each body optimised (`opt_crate`). The laws (`opt_laws`) are that the queries of a crate can be answered, and that `opt_crate` is
+//! valid and refines the crate. That elaborated bodies stay valid and refine is their premise (`specs/ElabLaws.antt`); what these call is shown here
+//! (`proofs/elab`). `proofs/compose` replaces the bodies of a crate one by one: all are cleaned, then all elaborated, and then optimised in rounds of
+//! rising weight.
 #![tactic(auto)]
 
 mod all_bodies;
@@ -31,15 +29,13 @@ mod laws;
 mod one_body;
 mod opt_laws;
 mod passes;
-mod queries;
 mod stages;
 
 pub use all_bodies::optimised;
 pub use laws::{one_result, optimised_refines, staged_refines};
 pub use one_body::after_passes;
 pub use opt_laws::{
-    bodies_in_order, candidates_are_reached, elaboration_adds_no_callee, ids_come_back,
-    opt_crate_refines, optimised_bodies_are_made_of_others, queries_are_lawful,
+    crate_is_a_source, elaboration_adds_no_callee, ids_come_back, lent_bodies_are_taken,
+    opt_crate_refines,
 };
-pub use queries::Kind;
 pub use stages::{dumped, passes_behind};

@@ -7,7 +7,7 @@ use Rattle.mir_syntax.specs.Shapes.{shapes_of}
 use Rattle.mir_rules.specs.Drops.{NoDrops}
 use Rattle.mir_rules.specs.Valid.{Valid, Within}
 use Rattle.call_graph.specs.Callees.{all_called, callees}
-use Rattle.call_graph.proofs.Once.{IsOnce}
+use Rattle.sched_core.specs.Good.{IsOnce}
 use Rattle.drop_elab.proofs.NoDrop.{no_drop}
 use Rattle.drop_elab.proofs.Elaborated.{is_elab}
 use Rattle.inline_pass.proofs.Terms.{spliced_calls}
@@ -15,7 +15,8 @@ use Rattle.query_plan.specs.Queries.{Pipeline, prom, elab, callees_of, taken, in
 use Rattle.pass_order.specs.OptCrate.{pipeline}
 use Rattle.pass_order.specs.ElabLaws.{ElabLaws}
 use Rattle.query_plan.proofs.Outs.{opt_is}
-use Rattle.query_plan.proofs.Calls.{IsSource}
+use Rattle.query_plan.specs.Source.{IsSource}
+use Rattle.query_plan.proofs.Members.{once_is}
 use Rattle.query_plan.proofs.Once.{after_once}
 use Rattle.pass_order.proofs.compose.Calls.{calls_listed, listed_calls}
 use Rattle.pass_order.proofs.elab.Laid.{elab_calls}
@@ -28,7 +29,7 @@ module _ (laws : ElabLaws) (C : Crate) (rules : Valid C) (within : Within C) whe
 
   once : (b : TypedBody) → IsOnce (callees (shapes_of C) b)
   unfolding callees
-  once b = after_once [] (all_called (shapes_of C) b)
+  once b = once_is (callees (shapes_of C) b) (after_once [] (all_called (shapes_of C) b))
 
   elaborated_calls : (f g : ℕ) → f < length C.functions → stands g (callees (shapes_of C) (elab S f)) ≡ true → stands g (callees_of S f) ≡ true
   elaborated_calls f g lt h =
