@@ -4,3 +4,6 @@ pub mod OneResult
 pub mod NoDrop
 pub mod Elaborated
 pub mod refines
+pub mod valid
+pub mod Types
+pub mod InPlace

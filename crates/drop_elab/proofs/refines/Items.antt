@@ -10,19 +10,17 @@ use Rattle.mir_rules.proofs.Lists.{or_false-left, or_false-right}
 use Rattle.mir_semantics.specs.Values.{Addr}
 use Rattle.mir_semantics.specs.Memory.{further}
 use Rattle.mir_semantics.specs.Step.{Visit, field_visits}
+use Rattle.drop_elab.specs.Tupled as tuples
 use Rattle.drop_elab.specs.Plan.{Plan, done, arm, part, glue_from, arms_of, chosen, glue_inside, glue_of, glue_def, glue}
 use Rattle.drop_elab.proofs.refines.Places.{Armed, arm_at, with_arm}
 use Rattle.drop_elab.proofs.refines.Glue.{of_def, glue_named}
 
 -- the tail of a tuple is one, everywhere in the type
 abbrev pub IsTuple : Tree → Type 0
-IsTuple empty = Unit {0}
-IsTuple (more t ts) = Unit {0}
-IsTuple _ = ⊥
+IsTuple = tuples.IsTuple
 
 abbrev pub Proper : Tree → Type 0
-Proper (more t ts) = Proper t × IsTuple ts × Proper ts
-Proper _ = Unit {0}
+Proper = tuples.Tupled
 
 -- so in all definitions
 abbrev pub ProperShapes : List Shape → Type 0

@@ -162,7 +162,8 @@ module _ (X : Change) (inits : Inits) (apart : (d : ℕ) → holds X.source.shap
               (p, z, (t, ap (slice_get X.body1.locals) (sym z) ∙ et))
 
       pub begins : stand.IfTyped X inits apart proper C1 M1 (stand.Own X inits apart proper (stand.number_of X inits apart proper 0) (opened j k2 k1 (stand.place X inits apart proper)) C2 C1 M2 M1)
-      begins G mt lk s =
+      begins G mt known s =
+          let lk : (x : ℕ) (t : Tree) → slice_get X.body1.locals x ≡ Some t → G k1 x ≡ Some t = known X.body1 X.at1 in
           let (k, ek) = first in
           let (l, b, le, eb, st) = elab_block D X.body1 inits 0 k ek in
           let end = end_of D X.body1 us fs inits 0 k l b in

@@ -1,0 +1,7 @@
+-- An elaborated body is valid.
+pub mod Fine
+pub mod LaidFine
+pub mod GlueFine
+pub mod EndsFine
+pub mod Stays
+pub mod Calls
