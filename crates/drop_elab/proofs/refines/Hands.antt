@@ -171,8 +171,7 @@ module _ (X : Change) (inits : Inits) (apart : (d : ℕ) → holds X.source.shap
         let (t, pt, g) = dest_parts H1 s1.memory h.place d1 e in
         let at : AddrTy D G d1.addr t = dest_ty D G bok X.body1.locals f1 lok s1.memory h.place t d1 r.typed1.mem pt e in
         let (m2', g2, l, lv) = near.store_near D X.body1.locals X.body2.locals f1 f2 j j (numbered.sub_self j) G bok lok V.needs f2 f1 s2.memory s1.memory (statements.nears X inits apart proper proper_locals is2 V Inv frames n s2 s1 r be fr) (statements.onces X inits apart proper proper_locals is2 V Inv frames n s2 s1 r be fr) m2 m1 m1' d1 d2 t v v q dr at hv st in
-        let fa = frame_at m2 m1 q sp in
-        (
+        let fa = frame_at m2 m1 q sp in (
           m2',
           g2,
           (l, lv),
@@ -187,9 +186,9 @@ module _ (X : Change) (inits : Inits) (apart : (d : ℕ) → holds X.source.shap
     refl,
     finishes.all_read X inits apart proper proper_locals S edges is2 V Inv frames rules n s2 s1 r be fr h.args tx.2 mo,
     λ d1 e. (
-      let (d2, g, dr) = kept.dest_as D X.body1.locals X.body2.locals f1 f2 j j (numbered.sub_self j) G bok lok Q (finishes.keeps X inits apart proper proper_locals S edges is2 V Inv frames rules n s2 s1 r be fr) s2.memory s1.memory h.place h.place d1 (numbered.place_as D X.body1.locals X.body2.locals f1 f2 j G bok lok (Itself X.body1) (statements.roots X inits apart proper proper_locals is2 V Inv frames n s2 s1 r be fr) (statements.types X inits apart proper proper_locals is2 V Inv frames n s2 s1 r be fr) h.place h.place tx.0) (finishes.start X inits apart proper proper_locals S edges is2 V Inv frames rules n s2 s1 r be fr) e in
-      (d2, g, record { waits = λ m2 m1 q sp. (refl, frame_at m2 m1 q sp, inr (called d1 d2 e dr m2 m1 q sp)); gets = gets d1 d2 e dr })
-    ),
+        let (d2, g, dr) = kept.dest_as D X.body1.locals X.body2.locals f1 f2 j j (numbered.sub_self j) G bok lok Q (finishes.keeps X inits apart proper proper_locals S edges is2 V Inv frames rules n s2 s1 r be fr) s2.memory s1.memory h.place h.place d1 (numbered.place_as D X.body1.locals X.body2.locals f1 f2 j G bok lok (Itself X.body1) (statements.roots X inits apart proper proper_locals is2 V Inv frames n s2 s1 r be fr) (statements.types X inits apart proper proper_locals is2 V Inv frames n s2 s1 r be fr) h.place h.place tx.0) (finishes.start X inits apart proper proper_locals S edges is2 V Inv frames rules n s2 s1 r be fr) e in
+        (d2, g, record { waits = λ m2 m1 q sp. (refl, frame_at m2 m1 q sp, inr (called d1 d2 e dr m2 m1 q sp)); gets = gets d1 d2 e dr })
+        ),
   )
 
   only : (i x y : ℕ) (v : Value) → j i x ≡ Some (f2, y) → local_at s1.memory i x ≡ Some v → i ≡ f1

@@ -149,17 +149,19 @@ module _ (X : Change) (inits : Inits) (apart : (d : ℕ) → holds X.source.shap
           sets = subst (λ t. ((settings (λ w. only_if (begun w t) true) fs ≡ []) × (next2 ≡ u)) ⊎ (slice_get E.blocks next2 ≡ Some (record { stmts = settings (λ w. only_if (begun w t) true) fs; term = Goto u }))) (sym term) back;
           says = says_after X inits apart proper change f2 s2.memory m' (held s1.memory f1) (λ w. after_effect (change w) (held s1.memory f1 w)) se (λ w hw. refl) (λ w x hw q ef. st.says w x hw ef);
           sound = subst (λ ss. SoundBefore D X.body1 s1.top.block k ss (held s1.memory f1)) (drop_none k.stmts s1.top.at none) so;
-        } in
-        (record {
-          control = place_in s2.top s2.top.block a';
-          memory = m';
-          count = cn;
-          comes = subst (λ z. moves (target X) cn z ≡ Some (on_at s2 s2.top m' s2.top.block a')) here mv;
-          same = (refl, refl);
-          past = past_sets X inits apart proper change f2 s2.memory m' se;
-          frame = record { function1 = f.frame.function1; function2 = f.frame.function2; roots = f.frame.roots; none = f.frame.none; only = f.frame.only; there = f.frame.there; absent = f.frame.absent; slots = λ x t el none. (let (o, eo) = f.frame.slots x t el none in se.there x o eo) };
-          ready = inr (inr H);
-        }, H)
+        } in (
+          record {
+            control = place_in s2.top s2.top.block a';
+            memory = m';
+            count = cn;
+            comes = subst (λ z. moves (target X) cn z ≡ Some (on_at s2 s2.top m' s2.top.block a')) here mv;
+            same = (refl, refl);
+            past = past_sets X inits apart proper change f2 s2.memory m' se;
+            frame = record { function1 = f.frame.function1; function2 = f.frame.function2; roots = f.frame.roots; none = f.frame.none; only = f.frame.only; there = f.frame.there; absent = f.frame.absent; slots = λ x t el none. (let (o, eo) = f.frame.slots x t el none in se.there x o eo) };
+            ready = inr (inr H);
+          },
+          H,
+        )
       where
         there : (g : Flagged) (x : ℕ) → Has fs g → g.flag ≡ Some x → (t : Tree) × (old : Value) × (slice_get E.locals x ≡ Some t) × (local_at s2.memory f2 x ≡ Some old)
         there g x h z =

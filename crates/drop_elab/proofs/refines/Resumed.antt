@@ -111,16 +111,15 @@ module _ (X : Change) (inits : Inits) (apart : (d : ℕ) → holds X.source.shap
             says = says_after X inits apart proper change c2.frame m2' m' (held m1 c1.frame) (held m1' c1.frame) se (λ u hu. turned G mt lk u hu) (λ u x hu q ef. kept_flag u x ef ∙ W.says u x hu (unbegun u q) ef);
             block = sym W.stands1.0;
             here = λ k1 k2 e1 e2. (
-              let (end, es, (en, so)) = edges.edge W.from W.next W.block (held m1' c1.frame) W.is (subst (λ t. Has (targets t) W.next) (sym W.term) (0, refl)) sound k1 k2 (ap (slice_get X.body1.blocks) (sym W.stands1.0) ∙ e1) (ap (slice_get E.blocks) (sym W.stands1.0) ∙ e2) in
-              (
-                end,
-                es ∙ ap (λ a. with_settings fs (drop a k1.stmts) ++ end.stmts) (sym W.stands1.1),
-                (
-                  subst (λ i. stand.Ending X inits apart proper i k1 k2 end) (sym W.stands1.0) en,
-                  subst (λ ss. Rattle.drop_elab.proofs.refines.Sound.SoundBefore D X.body1 c1.block k1 ss (held m1' c1.frame)) (ap (λ a. drop a k1.stmts) (sym W.stands1.1)) (sound_start D X.body1 c1.block k1 (held m1' c1.frame) (subst (λ i. SoundAt D X.body1 i (held m1' c1.frame)) (sym W.stands1.0) so)),
-                ),
-              )
-            );
+                let (end, es, (en, so)) = edges.edge W.from W.next W.block (held m1' c1.frame) W.is (subst (λ t. Has (targets t) W.next) (sym W.term) (0, refl)) sound k1 k2 (ap (slice_get X.body1.blocks) (sym W.stands1.0) ∙ e1) (ap (slice_get E.blocks) (sym W.stands1.0) ∙ e2) in (
+                  end,
+                  es ∙ ap (λ a. with_settings fs (drop a k1.stmts) ++ end.stmts) (sym W.stands1.1),
+                  (
+                    subst (λ i. stand.Ending X inits apart proper i k1 k2 end) (sym W.stands1.0) en,
+                    subst (λ ss. Rattle.drop_elab.proofs.refines.Sound.SoundBefore D X.body1 c1.block k1 ss (held m1' c1.frame)) (ap (λ a. drop a k1.stmts) (sym W.stands1.1)) (sound_start D X.body1 c1.block k1 (held m1' c1.frame) (subst (λ i. SoundAt D X.body1 i (held m1' c1.frame)) (sym W.stands1.0) so)),
+                  ),
+                )
+                );
           },
         );
       }

@@ -190,8 +190,7 @@ module _ (D : List Shape) (proper : ProperShapes D) (b : TypedBody) (p : Place) 
         let pr = proper_locals u.local lt el' in
         let fs = units_fields D apart proper u.proj lt pr hp in
         let (a, c) = both (nat_eq p.local u.local) (goes_on p.proj u.proj) un in
-        let (rest, eu) = goes_parts p.proj u.proj c in
-        (
+        let (rest, eu) = goes_parts p.proj u.proj c in (
           record { path = rest; inside = fields_plain rest (behind p.proj rest (subst Fields eu fs)); is = ap₂ (λ x ps. let v : Place = record { local = x; proj = ps } in v) (sym (eqb-true p.local u.local a)) eu; ty = q },
           direct_proper D proper u.proj lt t pr (fields_formed u.proj fs).1 (subst (λ l. path_ty D l u.proj ≡ Some t) same e2),
         )

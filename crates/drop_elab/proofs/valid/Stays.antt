@@ -110,8 +110,7 @@ module _ (C : Crate) (D : List Shape) (apart : (d : ℕ) → holds D (length D) 
       let ef = ends.end_fine C D apart e defs body args others more long proper_locals ks (statuses_at us inits i k) k.term l b flags h.0.formed h.0.typed lt (record { locals = left_stands e.locals l en.locals r.new_locals sl; blocks = left_stands e.blocks b en.blocks r.new_blocks sb }) in
       let (p, q, t) = blocks_fine (suc i) bs (l + length en.locals) (b + length en.blocks) h.1 (omega (arith, lt)) (right_stands e.locals l en.locals r.new_locals sl) (right_stands e.blocks b en.blocks r.new_blocks sb) in
       let first = ends.first_fine C D apart e defs body args others more long proper_locals body.args i ks flags in
-      let set = ends.with_settings_fine C D apart e defs body args others more long proper_locals ks k.stmts flags h.0.stmts in
-      (
+      let set = ends.with_settings_fine C D apart e defs body args others more long proper_locals ks k.stmts flags h.0.stmts in (
         (record { stmts = each_append (fine.StmtFine C D e) (first_settings body.args i ks) (with_settings ks k.stmts ++ en.stmts) first (each_append (fine.StmtFine C D e) (with_settings ks k.stmts) en.stmts set ef.stmts); term = ef.term }, p),
         each_append (fine.BlockFine C D e) en.blocks r.new_blocks ef.blocks q,
         each_append (fine.TypeFine C D e) en.locals r.new_locals ef.locals t,
