@@ -5,6 +5,8 @@
 //! bodies needs to know no more of them than that.
 #![tactic(auto)]
 
+mod asking;
 mod walk;
 
+pub use asking::{Asking, Part, all_are_lent};
 pub use walk::Walk;
