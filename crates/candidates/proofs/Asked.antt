@@ -1,6 +1,6 @@
 -- The work of an optimised body goes on by one answer.
 use Rattle.std.proofs.Common.{◌≡◌, ◌≢◌, refl, sym, ap, ap₂, ◌∙◌, subst, ℕ, suc, ◌<◌, Bool, true, false, not, ◌&&◌, ◌||◌, List, [], ◌∷◌, ◌++◌, append_assoc, append-nil, length, map, drop, ◌⊎◌, inl, inr, arith}
-use Rattle.std.specs.Prelude.{Option, Some, None, if◌then◌else◌, nat_lt, option_map}
+use Rattle.std.specs.Prelude.{Option, Some, None, if◌then◌else◌, nat_lt, option_map, MatchOption, IfSome}
 use Rattle.std.proofs.lemmas.List.{map-append}
 use Rattle.bit_rows.specs.Rows.{row_at, stands}
 use Rattle.mir_syntax.specs.Drops.{fn_number}
@@ -227,3 +227,12 @@ module _ {B : Type 0} (P : Pipeline B) (is : IsSource P) (f : ℕ) where
 
     pub after_opt : (v : Walk) (a2 : Asking) → comes_in P f v ≡ comes_after P f g.0 a.walk → Asks P f a2 (left_with P f (comes_in P f v)) → GoesOn P f a a2
     after_opt v a2 comes k = then_is a (part.Opt g q) (left_with P f (comes_in P f v)) a2 p k (ap (left_with P f) (sym comes))
+
+pub taken_below : (n : ℕ) (one : Option FnId) → MatchOption (option_map fn_number one) (Unit {0}) (λ g. g < n) → IfSome one (λ g. g.0 < n)
+taken_below n None h = tt
+taken_below n (Some g) h = h
+
+-- what was brought by the program's attributes was so by the pipeline's
+pub brought_by : (p : Program) {B : Type 0} (P : Pipeline B) → IsOf p P → (w v : Walk) (xs : List ℕ) → Brings (never_in p.functions) (length p.functions) w v xs → Brings (never_of P) P.functions w v xs
+brought_by p P i w v xs b =
+    subst (λ never. Brings never P.functions w v xs) (same_never p P i) (subst (λ (m : ℕ). Brings (never_in p.functions) m w v xs) (sym i.functions) b)

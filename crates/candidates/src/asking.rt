@@ -6,11 +6,12 @@ ghost use Rattle.mir_syntax.specs.Crate.{TypedBody};
 ghost use Rattle.call_graph.specs.Graph.{reach};
 ghost use Rattle.query_plan.specs.declared.kind.Kind.TheVariants as kind;
 ghost use Rattle.query_plan.specs.Queries.{Pipeline, graph, prom, callees_of, is_large, qualifies, may_take, cands, opt};
-ghost use Rattle.query_plan.specs.Needs.{query};
+ghost use Rattle.query_plan.specs.Needs.{query, needs_of};
 ghost use Rattle.query_plan.specs.Source.{IsSource};
 ghost use Rattle.candidates.specs.declared.asking.Part.TheVariants as part;
-ghost use Rattle.candidates.specs.Walk.{AllBelow};
-ghost use Rattle.candidates.specs.Comes.{all_of, comes_in};
+ghost use Rattle.candidates.specs.declared.walk.Walk.{Walk as AnyWalk};
+ghost use Rattle.candidates.specs.Walk.{AllBelow, IsFresh, Brings};
+ghost use Rattle.candidates.specs.Comes.{all_of, comes_in, never_of};
 ghost use Rattle.candidates.specs.Asking.{IsOf, PartBelow, StaysBelow, left_with, IsBetween, IsAsking, Asks, GoesOn, entered};
 
 use crate::walk::Walk;
@@ -149,11 +150,11 @@ impl Asking {
     }
 
     /// Whether the candidate qualifies was told.
-    pub fn given_qualif(&mut self, g: FnId, qualifies: bool)
+    pub fn given_qualif(&mut self, g: FnId, flag: bool)
         ensures stays { (n : ℕ) → g.0 < n → StaysBelow n self.old → StaysBelow n self.new }
-        ensures goes_on { (P : Pipeline TypedBody) → IsSource P → (f : ℕ) → IsAsking P f self.old → self.old.part ≡ part.Qualif g → qualifies ≡ qualifies P g.0 → GoesOn P f self.old self.new }
+        ensures goes_on { (P : Pipeline TypedBody) → IsSource P → (f : ℕ) → IsAsking P f self.old → self.old.part ≡ part.Qualif g → flag ≡ qualifies P g.0 → GoesOn P f self.old self.new }
     {
-        self.part = Part::Opt(g, qualifies);
+        self.part = Part::Opt(g, flag);
     }
 
     /// The optimised body of the candidate was given: whom it brings, which are whom the body calls if the function takes it, else nobody.
@@ -185,4 +186,10 @@ impl Asking {
 pub fn all_are_lent()
     ensures large { (P : Pipeline TypedBody) (f : ℕ) (a : Asking) → IsAsking P f a → a.part ≡ part.Elab → a.large ≡ is_large P f }
     ensures lent { (P : Pipeline TypedBody) (f : ℕ) (a : Asking) → IsAsking P f a → a.part ≡ part.Elab → (g : ℕ) → stands g (map fn_number a.lent) ≡ (stands g (cands P (opt P) f) && may_take P f g) }
+{}
+
+/// What an optimised body needs: its callees, its cost, and then what is asked of its candidates in turn, before its own elaborated body.
+pub fn needs_are_asked()
+    ensures needs { (P : Pipeline TypedBody) (f : ℕ) → needs_of P kind.Opt f ≡ query P.functions kind.Callees f ∷ query P.functions kind.Cost f ∷ left_with P f (all_of P f) }
+    ensures comes { (P : Pipeline TypedBody) → IsSource P → (f : ℕ) → f < P.functions → (w v : AnyWalk) → IsFresh P.functions w → Brings (never_of P) P.functions w v (callees_of P f) → comes_in P f v ≡ all_of P f }
 {}

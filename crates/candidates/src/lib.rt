@@ -8,5 +8,5 @@
 mod asking;
 mod walk;
 
-pub use asking::{Asking, Part, all_are_lent};
+pub use asking::{Asking, Part, all_are_lent, needs_are_asked};
 pub use walk::Walk;
