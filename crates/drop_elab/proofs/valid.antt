@@ -6,3 +6,4 @@ pub mod EndsFine
 pub mod Stays
 pub mod Calls
 pub mod Sizes
+pub mod UnitWeights
