@@ -7,3 +7,4 @@ pub mod Stays
 pub mod Calls
 pub mod Sizes
 pub mod UnitWeights
+pub mod Few

@@ -92,23 +92,23 @@ few_locals (arm v q rest) l b s =
 
 -- ---- glue
 
--- three and what is inside, four times, where there is need for it
-abbrev pub bound : Bool → ℕ → ℕ
-bound true inside = 3 + 4 * inside
-bound false inside = 0
+-- where there is need for it, so much and four times what is inside
+abbrev pub bound : ℕ → Bool → ℕ → ℕ
+bound k true inside = k + 4 * inside
+bound k false inside = 0
 
-pub bound_less : (b : Bool) (n : ℕ) → bound b n ≤ 4 * counted b n
-bound_less true n = omega arith
-bound_less false n = omega arith
+pub bound_less : (k : ℕ) → k ≤ 4 → (b : Bool) (n : ℕ) → bound k b n ≤ 4 * counted b n
+bound_less k l true n = omega (arith, l)
+bound_less k l false n = omega arith
 
-module _ (D : List Shape) (proper : ProperShapes D) (c : Costs) (small : c.of_destroy + c.of_choose ≤ 3) (low : c.of_arm ≤ 4) where
-  module _ (of_def : ℕ → Place → Plan → Plan) (w : ℕ → ℕ) (ok : (d : ℕ) (q : Place) (rest : Plan) → cost c (of_def d q rest) ≤ bound (needs_drop D (named d)) (w d) + cost c rest) where
+module _ (D : List Shape) (proper : ProperShapes D) (c : Costs) (m : ℕ) (small : c.of_destroy + c.of_choose ≤ m) (few : m ≤ 4) (low : c.of_arm ≤ 4) where
+  module _ (of_def : ℕ → Place → Plan → Plan) (w : ℕ → ℕ) (ok : (d : ℕ) (q : Place) (rest : Plan) → cost c (of_def d q rest) ≤ bound m (needs_drop D (named d)) (w d) + cost c rest) where
     -- of the rest of a tuple, and of a type
     Row : Tree → Type 0
     Row t = IsTuple t → (q : Place) (i : ℕ) (rest : Plan) → cost c (glue_from of_def q i t rest) ≤ 4 * inside_by D w t + cost c rest
 
     Whole : Tree → Type 0
-    Whole t = (q : Place) (i : ℕ) (rest : Plan) → cost c (glue_from of_def q i t rest) ≤ bound (needs_drop D t) (inside_by D w t) + cost c rest
+    Whole t = (q : Place) (i : ℕ) (rest : Plan) → cost c (glue_from of_def q i t rest) ≤ bound m (needs_drop D t) (inside_by D w t) + cost c rest
 
     claim : (t : Tree) → Proper t → Row t × Whole t
     unfolding Row Whole needs_drop
@@ -119,12 +119,12 @@ module _ (D : List Shape) (proper : ProperShapes D) (c : Costs) (small : c.of_de
             λ q i rest. (
             let x = b (part q (Field i)) 0 (glue_from of_def q (suc i) ts rest) in
             let y = r pr.1 q (suc i) rest in
-            let z = bound_less (needs_drop D t) (inside_by D w t) in
+            let z = bound_less m few (needs_drop D t) (inside_by D w t) in
             omega (arith, x, y, z))
         in
-        (λ tu q i rest. row q i rest, λ q i rest. go q i rest (needs_drop D (more t ts)) refl (row q i rest) (λ n. (let x = b (part q (Field i)) 0 (glue_from of_def q (suc i) ts rest) in let y = s q (suc i) rest in let u = ap (λ c. bound c (inside_by D w t)) (or_false-left (needs_drop D t) (needs_drop D ts) n) in let v = ap (λ c. bound c (inside_by D w ts)) (or_false-right (needs_drop D t) (needs_drop D ts) n) in omega (arith, x, y, u, v))))
+        (λ tu q i rest. row q i rest, λ q i rest. go q i rest (needs_drop D (more t ts)) refl (row q i rest) (λ n. (let x = b (part q (Field i)) 0 (glue_from of_def q (suc i) ts rest) in let y = s q (suc i) rest in let u = ap (λ c. bound m c (inside_by D w t)) (or_false-left (needs_drop D t) (needs_drop D ts) n) in let v = ap (λ c. bound m c (inside_by D w ts)) (or_false-right (needs_drop D t) (needs_drop D ts) n) in omega (arith, x, y, u, v))))
       where
-        go : (q : Place) (i : ℕ) (rest : Plan) (b : Bool) → needs_drop D (more t ts) ≡ b → cost c (glue_from of_def q i (more t ts) rest) ≤ 4 * inside_by D w (more t ts) + cost c rest → (needs_drop D (more t ts) ≡ false → cost c (glue_from of_def q i (more t ts) rest) ≤ cost c rest) → cost c (glue_from of_def q i (more t ts) rest) ≤ bound b (inside_by D w (more t ts)) + cost c rest
+        go : (q : Place) (i : ℕ) (rest : Plan) (b : Bool) → needs_drop D (more t ts) ≡ b → cost c (glue_from of_def q i (more t ts) rest) ≤ 4 * inside_by D w (more t ts) + cost c rest → (needs_drop D (more t ts) ≡ false → cost c (glue_from of_def q i (more t ts) rest) ≤ cost c rest) → cost c (glue_from of_def q i (more t ts) rest) ≤ bound m b (inside_by D w (more t ts)) + cost c rest
         go q i rest true e row none = omega (arith, row)
         go q i rest false e row none = (let h = none e in omega (arith, h))
     claim (named d) pr = (λ tu q i rest. absurd tu, λ q i rest. ok d q rest)
@@ -137,7 +137,7 @@ module _ (D : List Shape) (proper : ProperShapes D) (c : Costs) (small : c.of_de
     unfolding Row
     row_cost t pr tu = (claim t pr).0 tu
 
-    whole_cost : (t : Tree) → Proper t → (q : Place) (i : ℕ) (rest : Plan) → cost c (glue_from of_def q i t rest) ≤ bound (needs_drop D t) (inside_by D w t) + cost c rest
+    whole_cost : (t : Tree) → Proper t → (q : Place) (i : ℕ) (rest : Plan) → cost c (glue_from of_def q i t rest) ≤ bound m (needs_drop D t) (inside_by D w t) + cost c rest
     unfolding Whole
     whole_cost t pr = (claim t pr).1
 
@@ -171,22 +171,22 @@ module _ (D : List Shape) (proper : ProperShapes D) (c : Costs) (small : c.of_de
         go true = (let x = chosen_cost q (arms_of D of_def q 0 s.variants) rest in let y = arms_cost q 0 s.variants h in omega (arith, x, y))
         go false = (let (tu, pr) = first_proper s.variants h in let x = row_cost (struct_fields s) pr tu q 0 rest in omega (arith, x))
 
-  def_cost : (n d : ℕ) (q : Place) (rest : Plan) → cost c (glue_def D n d q rest) ≤ bound (needs_drop D (named d)) (inside_def D n d) + cost c rest
+  def_cost : (n d : ℕ) (q : Place) (rest : Plan) → cost c (glue_def D n d q rest) ≤ bound m (needs_drop D (named d)) (inside_def D n d) + cost c rest
   def_cost zero d q rest = omega arith
   def_cost (suc n) d q rest = go (needs_drop D (named d)) (slice_get D d) refl (def_cost n)
     where
       Ih : Type 0
-      Ih = (d : ℕ) (q : Place) (rest : Plan) → cost c (glue_def D n d q rest) ≤ bound (needs_drop D (named d)) (inside_def D n d) + cost c rest
+      Ih = (d : ℕ) (q : Place) (rest : Plan) → cost c (glue_def D n d q rest) ≤ bound m (needs_drop D (named d)) (inside_def D n d) + cost c rest
 
-      shape : (s : Shape) (o : Option ℕ) → slice_get D d ≡ Some s → ((d : ℕ) (q : Place) (rest : Plan) → cost c (glue_def D n d q rest) ≤ bound (needs_drop D (named d)) (inside_def D n d) + cost c rest) → cost c (glue_shape D (glue_def D n) d s o q rest) ≤ 3 + 4 * inside_variants D (inside_def D n) s.is_enum s.variants + cost c rest
+      shape : (s : Shape) (o : Option ℕ) → slice_get D d ≡ Some s → ((d : ℕ) (q : Place) (rest : Plan) → cost c (glue_def D n d q rest) ≤ bound m (needs_drop D (named d)) (inside_def D n d) + cost c rest) → cost c (glue_shape D (glue_def D n) d s o q rest) ≤ m + 4 * inside_variants D (inside_def D n) s.is_enum s.variants + cost c rest
       shape s None es ih = (let x = inside_cost (glue_def D n) (inside_def D n) ih s (proper d s es) q rest in omega (arith, x, small))
       shape s (Some g) es ih = (let x = inside_cost (glue_def D n) (inside_def D n) ih s (proper d s es) q rest in omega (arith, x, small))
 
-      go : (b : Bool) (o : Option Shape) → slice_get D d ≡ o → ((d : ℕ) (q : Place) (rest : Plan) → cost c (glue_def D n d q rest) ≤ bound (needs_drop D (named d)) (inside_def D n d) + cost c rest) → cost c (glue_of D (glue_def D n) d b o q rest) ≤ bound b (Rattle.mir_rules.specs.Weights.inside_of D (inside_def D n) o) + cost c rest
+      go : (b : Bool) (o : Option Shape) → slice_get D d ≡ o → ((d : ℕ) (q : Place) (rest : Plan) → cost c (glue_def D n d q rest) ≤ bound m (needs_drop D (named d)) (inside_def D n d) + cost c rest) → cost c (glue_of D (glue_def D n) d b o q rest) ≤ bound m b (Rattle.mir_rules.specs.Weights.inside_of D (inside_def D n) o) + cost c rest
       go true (Some s) es ih = shape s s.destructor es ih
       go true None es ih = omega arith
       go false o es ih = omega arith
 
-  pub glue_cost : (q : Place) (t : Tree) (rest : Plan) → Proper t → cost c (glue D q t rest) ≤ bound (needs_drop D t) (inside_by D (inside_def D (length D)) t) + cost c rest
+  pub glue_cost : (q : Place) (t : Tree) (rest : Plan) → Proper t → cost c (glue D q t rest) ≤ bound m (needs_drop D t) (inside_by D (inside_def D (length D)) t) + cost c rest
   unfolding glue
   glue_cost q t rest pr = whole_cost (glue_def D (length D)) (inside_def D (length D)) (def_cost (length D)) t pr q 0 rest
