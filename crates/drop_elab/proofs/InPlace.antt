@@ -14,7 +14,7 @@ use Rattle.mir_rules.proofs.ValidCrates.{term_at, holds_body, valid_again}
 use Rattle.mir_semantics.specs.Refines.{Refines}
 use Rattle.mir_rules.proofs.Fixed.{apart_in}
 use Rattle.drop_elab.specs.Destructors.{AddsDestructors}
-use Rattle.drop_elab.specs.Elab.{IsElab, elab_by}
+use Rattle.drop_elab.specs.Elab.{IsElab}
 use Rattle.drop_elab.specs.Tupled.{TypesTupled, FewVariants}
 use Rattle.drop_elab.proofs.refines.Refined.{proper_shapes, refines}
 use Rattle.drop_elab.proofs.valid.Calls.{adds_destructors}

@@ -1,5 +1,5 @@
 -- The types of a table are tuples of tuples, and within the limits an enum has few variants.
-use Rattle.std.proofs.Common.{◌≡◌, refl, sym, ap, ◌∙◌, subst, ℕ, zero, suc, ◌+◌, ◌<◌, ◌≤◌, Bool, true, false, nat_lt, ◌||◌, List, [], ◌∷◌, ◌++◌, map, length, get_or, sum_by, Option, Some, None, slice_get, arith}
+use Rattle.std.proofs.Common.{◌≡◌, sym, ap, ◌∙◌, subst, ℕ, zero, suc, ◌+◌, ◌<◌, ◌≤◌, Bool, true, false, nat_lt, List, [], ◌∷◌, ◌++◌, map, length, get_or, sum_by, Option, Some, None, slice_get, arith}
 use Rattle.std.proofs.lemmas.Bool.{ltb-false}
 use Rattle.std.proofs.lemmas.List.Sums.{sum_by-cons}
 use Rattle.mir_syntax.specs.declared.types.Ty.{Ty}
@@ -14,7 +14,6 @@ use Rattle.mir_syntax.specs.declared.program.Program.{Program}
 use Rattle.mir_syntax.specs.Tree.{Tree, scalar, empty, more, named, at_id, at_ids, node, trees_from, trees_of}
 use Rattle.mir_syntax.specs.Crate.{TypedBody, TypedDef, TypedVariant, Crate, body_of, crate_of}
 use Rattle.mir_syntax.specs.Shapes.{Shape, first_variant, fields_tuple, shapes_of}
-use Rattle.mir_rules.specs.DefinitionRules.{holds}
 use Rattle.mir_rules.specs.Limits.{most_functions, most_statements, most_nodes, most_units, is_large_type, definition_passed, outside_passed, locals_passed, functions_passed, types_passed, bodies_passed, statements_passed, passed}
 use Rattle.mir_rules.specs.Broken.{definition, gather, if_broken, at_spot}
 use Rattle.mir_rules.specs.Valid.{Valid, Within}

@@ -1,5 +1,5 @@
 -- A result comes to a place for a frame of the source: the units at or under the place begin, and all locals stay loose.
-use Rattle.std.proofs.Common.{◌≡◌, ◌⊎◌, inl, inr, refl, sym, ap, ap₂, ◌∙◌, subst, ℕ, ◌+◌, Bool, true, false, not, nat_eq, ◌&&◌, if◌then◌else◌, List, [], ◌∷◌, ◌++◌, length, Option, Some, None, slice_get, option_map, arith}
+use Rattle.std.proofs.Common.{◌≡◌, ◌⊎◌, inl, inr, refl, sym, ap, ap₂, ◌∙◌, subst, ℕ, ◌+◌, Bool, true, false, not, nat_eq, ◌&&◌, if◌then◌else◌, List, [], ◌∷◌, ◌++◌, length, Some, None, slice_get, option_map, arith}
 use Rattle.std.proofs.lemmas.Bool.{eqb-true}
 use Rattle.mir_syntax.specs.declared.body.Place.{Place}
 use Rattle.mir_syntax.specs.declared.body.Proj.{Proj}
@@ -8,7 +8,7 @@ use Rattle.mir_syntax.specs.Parts.{has_deref}
 use Rattle.mir_syntax.specs.Shapes.{Shape, path_ty, place_ty, needs_drop}
 use Rattle.mir_rules.specs.DefinitionRules.{holds}
 use Rattle.mir_rules.specs.Weights.{units}
-use Rattle.mir_semantics.specs.Values.{Addr, Value, put, at_path, whole, full}
+use Rattle.mir_semantics.specs.Values.{Addr, Value, put, at_path, whole}
 use Rattle.mir_semantics.specs.Memory.{Memory, local_at, value_at, write}
 use Rattle.mir_semantics.specs.Step.{Dest, allows, store}
 use Rattle.mir_renaming.specs.Renaming.{RootOf}

@@ -1,5 +1,5 @@
 -- The end of a block of the elaborated function that is no drop and no call: both do the same.
-use Rattle.std.proofs.Common.{◌≡◌, inl, refl, sym, ap, ap₂, ◌∙◌, subst, ℕ, suc, ◌<◌, Bool, true, false, ◌||◌, nat_eq, if◌then◌else◌, List, [], ◌∷◌, ◌++◌, map, length, drop, Option, Some, None, slice_get, arith}
+use Rattle.std.proofs.Common.{◌≡◌, inl, refl, sym, ap, ap₂, ◌∙◌, subst, ℕ, suc, ◌<◌, Bool, true, false, ◌||◌, nat_eq, if◌then◌else◌, List, [], ◌∷◌, ◌++◌, map, length, Some, None, slice_get, arith}
 use Rattle.mir_syntax.specs.declared.body.Arm.{Arm}
 use Rattle.mir_syntax.specs.declared.body.Place.{Place}
 use Rattle.mir_syntax.specs.declared.body.Operand.{Operand}
@@ -8,12 +8,12 @@ use Rattle.mir_syntax.specs.declared.body.Term.TheVariants.{Goto, Switch, Return
 use Rattle.mir_syntax.specs.Parts.{arm_block, term_operands, targets}
 use Rattle.mir_syntax.specs.Tree.{Tree}
 use Rattle.mir_syntax.specs.Shapes.{Shape}
-use Rattle.mir_syntax.specs.Crate.{TypedStmt, TypedBlock, TypedBody}
+use Rattle.mir_syntax.specs.Crate.{TypedBlock, TypedBody}
 use Rattle.mir_num.specs.Numbers.{flag}
 use Rattle.mir_rules.specs.DefinitionRules.{holds}
 use Rattle.mir_semantics.specs.Memory.{Memory, local_at}
 use Rattle.mir_semantics.specs.Values.{Value, number}
-use Rattle.mir_semantics.specs.Step.{Here, Control, State, Next, take_arm, to_block, finish, perform, step, read_number}
+use Rattle.mir_semantics.specs.Step.{Here, State, Next, take_arm, to_block, finish, perform, step, read_number}
 use Rattle.mir_renaming.specs.Renaming.{Renaming}
 use Rattle.mir_renaming.proofs.Ghosts.{Flat}
 use Rattle.mir_relate.specs.Alike.{Between, Sides, Reads, AllRead}
@@ -30,12 +30,10 @@ use Rattle.mir_relate.proofs.Rest.{drop_none}
 use Rattle.mir_relate.proofs.Running as running
 use Rattle.move_paths.specs.Effects.{term_effect, moved_by}
 use Rattle.move_paths.specs.Inits.{after_effect}
-use Rattle.drop_elab.specs.Plan.{Laid}
-use Rattle.drop_elab.specs.Elab.{Inits, Flagged, with_settings}
+use Rattle.drop_elab.specs.Elab.{Inits, Flagged}
 use Rattle.drop_elab.proofs.refines.Items.{Proper, ProperShapes}
 use Rattle.drop_elab.proofs.refines.Bodies.{block_of, elab_block}
 use Rattle.drop_elab.proofs.refines.Sound.{Has, SoundAt, SoundBefore, sound_start, sound_along}
-use Rattle.drop_elab.proofs.refines.Places.{none_left}
 use Rattle.drop_elab.proofs.refines.Stand as stand
 use Rattle.drop_elab.proofs.refines.Stand.{held}
 use Rattle.drop_elab.proofs.refines.Stages as stages

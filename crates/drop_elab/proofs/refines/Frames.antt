@@ -1,15 +1,14 @@
 -- Frames of the elaborated function open, wait and go on: the layer's laws of them.
-use Rattle.std.proofs.Common.{◌≡◌, ◌⊎◌, inl, inr, refl, sym, ap, ap₂, ◌∙◌, subst, ℕ, ◌<◌, Bool, true, false, List, [], ◌∷◌, ◌++◌, length, Option, Some, None, slice_get, arith}
+use Rattle.std.proofs.Common.{◌≡◌, ◌⊎◌, inl, inr, refl, sym, ap, ap₂, ◌∙◌, subst, ℕ, ◌<◌, true, false, List, [], ◌∷◌, ◌++◌, length, Option, Some, None, slice_get, arith}
 use Rattle.mir_syntax.specs.declared.body.Place.{Place}
-use Rattle.mir_syntax.specs.declared.body.Term.{Term}
 use Rattle.mir_syntax.specs.declared.body.Term.TheVariants.{Call}
 use Rattle.mir_syntax.specs.Tree.{Tree}
-use Rattle.mir_syntax.specs.Crate.{TypedBlock, TypedBody}
+use Rattle.mir_syntax.specs.Crate.{TypedBlock}
 use Rattle.mir_syntax.specs.Shapes.{Shape, place_ty}
 use Rattle.mir_rules.specs.DefinitionRules.{holds}
 use Rattle.mir_semantics.specs.Values.{Value, whole}
 use Rattle.mir_semantics.specs.Memory.{Memory, local_at, close_frame}
-use Rattle.mir_semantics.specs.Step.{Here, Dest, Dropping, Control, State, Next, type_of, store, go_on, destroyed, return_to}
+use Rattle.mir_semantics.specs.Step.{Dest, Dropping, Control, State, Next, type_of, store, go_on, destroyed, return_to}
 use Rattle.mir_syntax.proofs.Binds.{bind_some, some_bind}
 use Rattle.mir_renaming.specs.Renaming.{Renaming}
 use Rattle.mir_renaming.proofs.Memory.{write_other}
@@ -19,7 +18,6 @@ use Rattle.mir_renaming.proofs.Types.{TypeMap, MemTy, AddrTy}
 use Rattle.mir_renaming.proofs.Typed.{FramesTy, TermTy}
 use Rattle.drop_elab.specs.Elab.{Inits}
 use Rattle.mir_relate.specs.Alike.{Same}
-use Rattle.mir_relate.specs.Leaves.{Leaves}
 use Rattle.mir_relate.specs.Frames.{Change, target, DestsRel, Pass, Below}
 use Rattle.mir_relate.specs.Pass.{GentleTo, Valids, FrameLaws, Goes, Related}
 use Rattle.mir_relate.proofs.Leaves.{some_val, leaves_none, leaves_less}

@@ -1,25 +1,22 @@
 -- A call of the elaborated function: the target clears the flags of what it moves, and then both call.
-use Rattle.std.proofs.Common.{◌≡◌, ◌⊎◌, inl, inr, refl, sym, ap, ap₂, ◌∙◌, subst, ℕ, ◌<◌, Bool, true, false, ◌&&◌, ◌||◌, if◌then◌else◌, List, [], ◌∷◌, ◌++◌, length, drop, Option, Some, None, slice_get, arith}
+use Rattle.std.proofs.Common.{◌≡◌, inr, refl, sym, ap, ap₂, ◌∙◌, subst, ℕ, ◌<◌, Bool, true, false, ◌&&◌, ◌||◌, if◌then◌else◌, List, [], length, Some, None, slice_get, arith}
 use Rattle.mir_syntax.specs.declared.body.Place.{Place}
-use Rattle.mir_syntax.specs.declared.body.Operand.{Operand}
-use Rattle.mir_syntax.specs.declared.body.Callee.{Callee}
 use Rattle.mir_syntax.specs.declared.body.Term.{Term}
-use Rattle.mir_syntax.specs.declared.body.Term.TheVariants.{Goto, Call}
+use Rattle.mir_syntax.specs.declared.body.Term.TheVariants.{Call}
 use Rattle.mir_syntax.specs.Parts.{has_deref, term_operands, targets}
 use Rattle.mir_syntax.specs.Tree.{Tree}
-use Rattle.mir_syntax.specs.Shapes.{Shape, path_ty, place_ty, needs_drop}
-use Rattle.mir_syntax.specs.Crate.{TypedStmt, TypedBlock, TypedBody}
+use Rattle.mir_syntax.specs.Shapes.{Shape, path_ty, needs_drop}
+use Rattle.mir_syntax.specs.Crate.{TypedBlock, TypedBody}
 use Rattle.mir_num.specs.Numbers.{flag}
 use Rattle.mir_rules.specs.DefinitionRules.{holds}
 use Rattle.mir_semantics.specs.Memory.{Memory, local_at}
 use Rattle.mir_semantics.specs.Values.{Addr, Value, number, whole}
-use Rattle.mir_semantics.specs.Step.{Here, Dest, Control, State, Next, type_of, resolve, guard_of, dest_of, store, read_all, to_block, finish, perform, step}
+use Rattle.mir_semantics.specs.Step.{Here, Dest, Control, State, Next, type_of, guard_of, dest_of, store, read_all, to_block, finish, perform, step}
 use Rattle.mir_syntax.proofs.Binds.{bind_some}
 use Rattle.mir_renaming.specs.Renaming.{Renaming}
 use Rattle.mir_renaming.proofs.Ghosts.{Flat}
 use Rattle.mir_renaming.proofs.Statements.{DestRel}
 use Rattle.mir_renaming.proofs.Types.{TypeMap, HasTy, AddrTy, some_eq, dest_ty}
-use Rattle.mir_relate.specs.Simulation.{moves}
 use Rattle.mir_relate.specs.Alike.{Same, Between}
 use Rattle.mir_relate.specs.Renumbered.{TermSame}
 use Rattle.mir_relate.specs.Frames.{Change, target, Pass, Below}
@@ -33,9 +30,9 @@ use Rattle.mir_relate.proofs.Numbered as numbered
 use Rattle.mir_relate.proofs.Own as own
 use Rattle.mir_relate.proofs.Running as running
 use Rattle.mir_relate.proofs.Single.{dest_plain}
-use Rattle.move_paths.specs.Effects.{is_under, moved, begun, begun_or_ended, ended_if, term_effect, moved_by}
+use Rattle.move_paths.specs.Effects.{moved, begun, begun_or_ended, ended_if, moved_by}
 use Rattle.move_paths.specs.Inits.{after_effect}
-use Rattle.drop_elab.specs.Elab.{Inits, Flagged, only_if}
+use Rattle.drop_elab.specs.Elab.{Inits, only_if}
 use Rattle.drop_elab.proofs.refines.Items.{Proper, ProperShapes}
 use Rattle.drop_elab.proofs.refines.Sound.{Has, SoundAt, sound_along}
 use Rattle.drop_elab.proofs.refines.Stand as stand
@@ -171,8 +168,7 @@ module _ (X : Change) (inits : Inits) (apart : (d : ℕ) → holds X.source.shap
         let (t, pt, g) = dest_parts H1 s1.memory h.place d1 e in
         let at : AddrTy D G d1.addr t = dest_ty D G bok X.body1.locals f1 lok s1.memory h.place t d1 r.typed1.mem pt e in
         let (m2', g2, l, lv) = near.store_near D X.body1.locals X.body2.locals f1 f2 j j (numbered.sub_self j) G bok lok V.needs f2 f1 s2.memory s1.memory (statements.nears X inits apart proper proper_locals is2 V Inv frames n s2 s1 r be fr) (statements.onces X inits apart proper proper_locals is2 V Inv frames n s2 s1 r be fr) m2 m1 m1' d1 d2 t v v q dr at hv st in
-        let fa = frame_at m2 m1 q sp in
-        (
+        let fa = frame_at m2 m1 q sp in (
           m2',
           g2,
           (l, lv),
@@ -187,9 +183,9 @@ module _ (X : Change) (inits : Inits) (apart : (d : ℕ) → holds X.source.shap
     refl,
     finishes.all_read X inits apart proper proper_locals S edges is2 V Inv frames rules n s2 s1 r be fr h.args tx.2 mo,
     λ d1 e. (
-      let (d2, g, dr) = kept.dest_as D X.body1.locals X.body2.locals f1 f2 j j (numbered.sub_self j) G bok lok Q (finishes.keeps X inits apart proper proper_locals S edges is2 V Inv frames rules n s2 s1 r be fr) s2.memory s1.memory h.place h.place d1 (numbered.place_as D X.body1.locals X.body2.locals f1 f2 j G bok lok (Itself X.body1) (statements.roots X inits apart proper proper_locals is2 V Inv frames n s2 s1 r be fr) (statements.types X inits apart proper proper_locals is2 V Inv frames n s2 s1 r be fr) h.place h.place tx.0) (finishes.start X inits apart proper proper_locals S edges is2 V Inv frames rules n s2 s1 r be fr) e in
-      (d2, g, record { waits = λ m2 m1 q sp. (refl, frame_at m2 m1 q sp, inr (called d1 d2 e dr m2 m1 q sp)); gets = gets d1 d2 e dr })
-    ),
+        let (d2, g, dr) = kept.dest_as D X.body1.locals X.body2.locals f1 f2 j j (numbered.sub_self j) G bok lok Q (finishes.keeps X inits apart proper proper_locals S edges is2 V Inv frames rules n s2 s1 r be fr) s2.memory s1.memory h.place h.place d1 (numbered.place_as D X.body1.locals X.body2.locals f1 f2 j G bok lok (Itself X.body1) (statements.roots X inits apart proper proper_locals is2 V Inv frames n s2 s1 r be fr) (statements.types X inits apart proper proper_locals is2 V Inv frames n s2 s1 r be fr) h.place h.place tx.0) (finishes.start X inits apart proper proper_locals S edges is2 V Inv frames rules n s2 s1 r be fr) e in
+        (d2, g, record { waits = λ m2 m1 q sp. (refl, frame_at m2 m1 q sp, inr (called d1 d2 e dr m2 m1 q sp)); gets = gets d1 d2 e dr })
+        ),
   )
 
   only : (i x y : ℕ) (v : Value) → j i x ≡ Some (f2, y) → local_at s1.memory i x ≡ Some v → i ≡ f1

@@ -1,33 +1,30 @@
 -- The laws of the elaborated function, from the rules of the source's body.
-use Rattle.std.proofs.Common.{◌≡◌, ◌⊎◌, inl, inr, refl, sym, ap, ap₂, ◌∙◌, subst, ℕ, zero, suc, Bool, true, false, List, [], ◌∷◌, ◌++◌, length, drop, Option, Some, None, slice_get, arith}
+use Rattle.std.proofs.Common.{◌≡◌, ◌⊎◌, inl, inr, refl, sym, ap, ◌∙◌, subst, ℕ, Bool, true, false, List, [], ◌∷◌, ◌++◌, length, drop, Option, Some, None, slice_get, arith}
 use Rattle.mir_syntax.specs.declared.body.Place.{Place}
 use Rattle.mir_syntax.specs.declared.body.Operand.{Operand}
 use Rattle.mir_syntax.specs.declared.body.Callee.{Callee}
 use Rattle.mir_syntax.specs.declared.body.Term.{Term}
 use Rattle.mir_syntax.specs.declared.body.Term.TheVariants.{Goto, Switch, Return, Unreachable, Drop, Call, Assert}
-use Rattle.mir_syntax.specs.Parts.{is_direct, rvalue_operands, targets}
 use Rattle.mir_syntax.specs.Tree.{Tree}
-use Rattle.mir_syntax.specs.Shapes.{Shape, path_through}
-use Rattle.mir_syntax.specs.Crate.{TypedStmt, assign, TypedBlock, TypedBody}
+use Rattle.mir_syntax.specs.Shapes.{Shape}
+use Rattle.mir_syntax.specs.Crate.{TypedStmt, TypedBlock, TypedBody}
 use Rattle.mir_rules.specs.DefinitionRules.{holds}
-use Rattle.mir_semantics.specs.Memory.{Memory, local_at}
+use Rattle.mir_semantics.specs.Memory.{local_at}
 use Rattle.mir_semantics.specs.Values.{Value}
 use Rattle.mir_semantics.specs.Step.{Dropping, State, Next, step}
-use Rattle.mir_renaming.proofs.Ghosts.{Flat}
 use Rattle.mir_renaming.proofs.Typed.{Typed}
 use Rattle.mir_relate.specs.Simulation.{moves}
-use Rattle.mir_relate.specs.Frames.{Change, target, Pass, Below}
-use Rattle.mir_relate.specs.Pass.{Valids, FrameLaws, Laws, Answers, Related}
-use Rattle.mir_relate.proofs.Leaves.{some_val}
+use Rattle.mir_relate.specs.Frames.{Change, target, Pass}
+use Rattle.mir_relate.specs.Pass.{Valids, FrameLaws, Laws, Answers}
 use Rattle.mir_relate.proofs.OneForOne.{own_laws, KeepsRuns}
 use Rattle.mir_relate.proofs.Rest.{drop_none}
 use Rattle.mir_relate.proofs.Running as running
 use Rattle.move_paths.specs.Effects.{moved, begun}
 use Rattle.move_paths.specs.Inits.{after_effect}
 use Rattle.drop_elab.specs.Plan.{Laid}
-use Rattle.drop_elab.specs.Elab.{Inits, IsInits, Status, Flagged, settings, with_settings, only_if, call_end, lay_end, statuses_at, want_flags}
+use Rattle.drop_elab.specs.Elab.{Inits, Status, Flagged, settings, with_settings, only_if, call_end, lay_end, statuses_at, want_flags}
 use Rattle.drop_elab.proofs.refines.Items.{Proper, ProperShapes}
-use Rattle.drop_elab.proofs.refines.Bodies.{block_of, elab_block, end_of}
+use Rattle.drop_elab.proofs.refines.Bodies.{block_of, elab_block}
 use Rattle.drop_elab.proofs.refines.Places.{Stands, head_stands, none_left}
 use Rattle.drop_elab.proofs.refines.Sound.{Has, SoundBefore}
 use Rattle.drop_elab.proofs.refines.Flags.{flag_local}
@@ -35,9 +32,6 @@ use Rattle.drop_elab.proofs.refines.Machine.{on_at, place_in}
 use Rattle.drop_elab.proofs.refines.Settings.{flags_distinct, run_settings}
 use Rattle.drop_elab.proofs.refines.Stand as stand
 use Rattle.drop_elab.proofs.refines.Stand.{held}
-use Rattle.drop_elab.proofs.refines.Sorts.{sorted}
-use Rattle.drop_elab.proofs.refines.Edging.{rows_long}
-use Rattle.drop_elab.proofs.refines.Edging as edging
 use Rattle.drop_elab.proofs.refines.Stages as stages
 use Rattle.drop_elab.proofs.refines.Ended as ended
 use Rattle.drop_elab.proofs.refines.Starts.{says_after, past_sets}
@@ -149,17 +143,19 @@ module _ (X : Change) (inits : Inits) (apart : (d : ℕ) → holds X.source.shap
           sets = subst (λ t. ((settings (λ w. only_if (begun w t) true) fs ≡ []) × (next2 ≡ u)) ⊎ (slice_get E.blocks next2 ≡ Some (record { stmts = settings (λ w. only_if (begun w t) true) fs; term = Goto u }))) (sym term) back;
           says = says_after X inits apart proper change f2 s2.memory m' (held s1.memory f1) (λ w. after_effect (change w) (held s1.memory f1 w)) se (λ w hw. refl) (λ w x hw q ef. st.says w x hw ef);
           sound = subst (λ ss. SoundBefore D X.body1 s1.top.block k ss (held s1.memory f1)) (drop_none k.stmts s1.top.at none) so;
-        } in
-        (record {
-          control = place_in s2.top s2.top.block a';
-          memory = m';
-          count = cn;
-          comes = subst (λ z. moves (target X) cn z ≡ Some (on_at s2 s2.top m' s2.top.block a')) here mv;
-          same = (refl, refl);
-          past = past_sets X inits apart proper change f2 s2.memory m' se;
-          frame = record { function1 = f.frame.function1; function2 = f.frame.function2; roots = f.frame.roots; none = f.frame.none; only = f.frame.only; there = f.frame.there; absent = f.frame.absent; slots = λ x t el none. (let (o, eo) = f.frame.slots x t el none in se.there x o eo) };
-          ready = inr (inr H);
-        }, H)
+        } in (
+          record {
+            control = place_in s2.top s2.top.block a';
+            memory = m';
+            count = cn;
+            comes = subst (λ z. moves (target X) cn z ≡ Some (on_at s2 s2.top m' s2.top.block a')) here mv;
+            same = (refl, refl);
+            past = past_sets X inits apart proper change f2 s2.memory m' se;
+            frame = record { function1 = f.frame.function1; function2 = f.frame.function2; roots = f.frame.roots; none = f.frame.none; only = f.frame.only; there = f.frame.there; absent = f.frame.absent; slots = λ x t el none. (let (o, eo) = f.frame.slots x t el none in se.there x o eo) };
+            ready = inr (inr H);
+          },
+          H,
+        )
       where
         there : (g : Flagged) (x : ℕ) → Has fs g → g.flag ≡ Some x → (t : Tree) × (old : Value) × (slice_get E.locals x ≡ Some t) × (local_at s2.memory f2 x ≡ Some old)
         there g x h z =

@@ -1,5 +1,5 @@
 -- A valid crate with an elaborated body, where that is valid too, refines the crate.
-use Rattle.std.proofs.Common.{◌≡◌, refl, sym, ap, ◌∙◌, subst, ℕ, zero, suc, true, false, List, [], ◌∷◌, length, Option, Some, None, slice_get, arith}
+use Rattle.std.proofs.Common.{◌≡◌, refl, sym, ap, ◌∙◌, subst, ℕ, suc, true, false, List, [], ◌∷◌, Option, Some, None, slice_get}
 use Rattle.mir_syntax.specs.declared.body.Place.{Place}
 use Rattle.mir_syntax.specs.declared.body.Operand.{Operand}
 use Rattle.mir_syntax.specs.declared.body.Term.{Term}
@@ -21,7 +21,7 @@ use Rattle.mir_renaming.proofs.Types.{TypeMap}
 use Rattle.valid_runs.proofs.Blanks.{Tupled, shapes_tupled}
 use Rattle.valid_runs.proofs.Codes.{valid_code}
 use Rattle.valid_runs.proofs.Shown.{Free, bottom, step_flat, step_known}
-use Rattle.drop_elab.specs.Elab.{IsElab, elab_by}
+use Rattle.drop_elab.specs.Elab.{IsElab}
 use Rattle.drop_elab.specs.Tupled.{TypesTupled}
 use Rattle.mir_relate.specs.Frames.{Change}
 use Rattle.mir_relate.specs.Pass.{Valids}

@@ -1,10 +1,8 @@
 -- A call's result has come to a frame of the elaborated function: the target sets the flags of what it initialises, and follows again.
-use Rattle.std.proofs.Common.{◌≡◌, ◌⊎◌, inl, inr, refl, sym, ap, ap₂, ◌∙◌, subst, ℕ, zero, suc, ◌+◌, Bool, true, false, ◌||◌, if◌then◌else◌, List, [], ◌∷◌, ◌++◌, length, drop, Option, Some, None, slice_get, arith}
+use Rattle.std.proofs.Common.{◌≡◌, ◌⊎◌, inl, inr, refl, sym, ap, ap₂, ◌∙◌, subst, ℕ, ◌+◌, Bool, true, false, ◌||◌, if◌then◌else◌, List, [], ◌∷◌, ◌++◌, length, drop, Option, Some, None, slice_get, arith}
 use Rattle.mir_syntax.specs.declared.body.Place.{Place}
-use Rattle.mir_syntax.specs.declared.body.Operand.{Operand}
-use Rattle.mir_syntax.specs.declared.body.Callee.{Callee}
 use Rattle.mir_syntax.specs.declared.body.Term.{Term}
-use Rattle.mir_syntax.specs.declared.body.Term.TheVariants.{Goto, Call}
+use Rattle.mir_syntax.specs.declared.body.Term.TheVariants.{Goto}
 use Rattle.mir_syntax.specs.Tree.{Tree}
 use Rattle.mir_syntax.specs.Parts.{targets}
 use Rattle.mir_syntax.specs.Crate.{TypedStmt, TypedBlock, TypedBody}
@@ -12,7 +10,7 @@ use Rattle.mir_syntax.specs.Shapes.{Shape, place_ty}
 use Rattle.mir_rules.specs.DefinitionRules.{holds}
 use Rattle.mir_semantics.specs.Values.{Value, whole}
 use Rattle.mir_semantics.specs.Memory.{Memory, local_at}
-use Rattle.mir_semantics.specs.Step.{Dest, Control, State, on, store, go_on, to_block, finish, step}
+use Rattle.mir_semantics.specs.Step.{Dest, Control, State, on, store, finish, step}
 use Rattle.mir_renaming.specs.Renaming.{Renaming}
 use Rattle.mir_renaming.proofs.Memory.{write_back}
 use Rattle.mir_renaming.proofs.Stores.{store_split}
@@ -23,7 +21,6 @@ use Rattle.move_paths.specs.Inits.{after_effect}
 use Rattle.drop_elab.specs.Plan.{Laid}
 use Rattle.drop_elab.specs.Elab.{Inits, Flagged, settings, with_settings, only_if, want_flags}
 use Rattle.mir_relate.specs.Frames.{Change, target}
-use Rattle.mir_relate.proofs.Leaves.{some_val}
 use Rattle.drop_elab.proofs.refines.Items.{Proper, ProperShapes}
 use Rattle.drop_elab.proofs.refines.Sound.{Has, SoundAt, sound_start, sound_at_same}
 use Rattle.drop_elab.proofs.refines.Flags.{flag_found, flag_local}
@@ -111,16 +108,15 @@ module _ (X : Change) (inits : Inits) (apart : (d : ℕ) → holds X.source.shap
             says = says_after X inits apart proper change c2.frame m2' m' (held m1 c1.frame) (held m1' c1.frame) se (λ u hu. turned G mt lk u hu) (λ u x hu q ef. kept_flag u x ef ∙ W.says u x hu (unbegun u q) ef);
             block = sym W.stands1.0;
             here = λ k1 k2 e1 e2. (
-              let (end, es, (en, so)) = edges.edge W.from W.next W.block (held m1' c1.frame) W.is (subst (λ t. Has (targets t) W.next) (sym W.term) (0, refl)) sound k1 k2 (ap (slice_get X.body1.blocks) (sym W.stands1.0) ∙ e1) (ap (slice_get E.blocks) (sym W.stands1.0) ∙ e2) in
-              (
-                end,
-                es ∙ ap (λ a. with_settings fs (drop a k1.stmts) ++ end.stmts) (sym W.stands1.1),
-                (
-                  subst (λ i. stand.Ending X inits apart proper i k1 k2 end) (sym W.stands1.0) en,
-                  subst (λ ss. Rattle.drop_elab.proofs.refines.Sound.SoundBefore D X.body1 c1.block k1 ss (held m1' c1.frame)) (ap (λ a. drop a k1.stmts) (sym W.stands1.1)) (sound_start D X.body1 c1.block k1 (held m1' c1.frame) (subst (λ i. SoundAt D X.body1 i (held m1' c1.frame)) (sym W.stands1.0) so)),
-                ),
-              )
-            );
+                let (end, es, (en, so)) = edges.edge W.from W.next W.block (held m1' c1.frame) W.is (subst (λ t. Has (targets t) W.next) (sym W.term) (0, refl)) sound k1 k2 (ap (slice_get X.body1.blocks) (sym W.stands1.0) ∙ e1) (ap (slice_get E.blocks) (sym W.stands1.0) ∙ e2) in (
+                  end,
+                  es ∙ ap (λ a. with_settings fs (drop a k1.stmts) ++ end.stmts) (sym W.stands1.1),
+                  (
+                    subst (λ i. stand.Ending X inits apart proper i k1 k2 end) (sym W.stands1.0) en,
+                    subst (λ ss. Rattle.drop_elab.proofs.refines.Sound.SoundBefore D X.body1 c1.block k1 ss (held m1' c1.frame)) (ap (λ a. drop a k1.stmts) (sym W.stands1.1)) (sound_start D X.body1 c1.block k1 (held m1' c1.frame) (subst (λ i. SoundAt D X.body1 i (held m1' c1.frame)) (sym W.stands1.0) so)),
+                  ),
+                )
+                );
           },
         );
       }

@@ -13,15 +13,14 @@ use Rattle.mir_syntax.specs.Tree.{Tree, scalar, empty, more, named}
 use Rattle.mir_syntax.specs.Tree as tree
 use Rattle.mir_syntax.specs.Parts.{has_deref}
 use Rattle.mir_syntax.specs.Crate.{TypedStmt, TypedBlock, TypedBody}
-use Rattle.mir_syntax.specs.Shapes.{Shape, first_variant, struct_fields, fields_of, field_ty, variant_ty, proj_ty, path_ty, place_ty, needs_drop}
+use Rattle.mir_syntax.specs.Shapes.{Shape, first_variant, struct_fields, fields_of, field_ty, proj_ty, path_ty, place_ty, needs_drop}
 use Rattle.mir_syntax.proofs.Binds.{bind_some, some_bind}
 use Rattle.mir_rules.specs.Calls.{Calls}
 use Rattle.mir_rules.specs.DefinitionRules.{holds}
 use Rattle.move_paths.specs.Effects.{units_of_body, goes_on, is_under, moved, begun}
 use Rattle.drop_elab.specs.Plan.{Plan, done, destroy, choose, arm, guarded, clear, part, glue_from, arms_of, chosen, glue_inside, glue_shape, glue_of, glue_def, glue, Laid, code, arms_from, lay}
-use Rattle.drop_elab.specs.Elab.{Inits, IsElab, Status, dead, static, conditional, Flagged, with_flags, flag_locals, want_flags, statuses_at, settings, only_if, cleared, typed_glue, guarded_by, plan_unit, plan_drop, call_end, lay_end, LaidBlocks, lay_blocks, elab_by}
+use Rattle.drop_elab.specs.Elab.{Inits, IsElab, Status, dead, static, conditional, Flagged, want_flags, statuses_at, settings, only_if, cleared, typed_glue, guarded_by, plan_unit, plan_drop, call_end, lay_end, LaidBlocks, lay_blocks, elab_by}
 use Rattle.drop_elab.specs.Destructors.{Holds, Destroys, AddsDestructors}
-use Rattle.drop_elab.specs.Tupled.{TypesTupled}
 use Rattle.mir_relate.proofs.Leaves.{some_val}
 use Rattle.drop_elab.proofs.refines.Items.{IsTuple, Proper, ProperShapes}
 use Rattle.drop_elab.proofs.refines.Propers.{direct_proper}
@@ -190,8 +189,7 @@ module _ (D : List Shape) (proper : ProperShapes D) (b : TypedBody) (p : Place) 
         let pr = proper_locals u.local lt el' in
         let fs = units_fields D apart proper u.proj lt pr hp in
         let (a, c) = both (nat_eq p.local u.local) (goes_on p.proj u.proj) un in
-        let (rest, eu) = goes_parts p.proj u.proj c in
-        (
+        let (rest, eu) = goes_parts p.proj u.proj c in (
           record { path = rest; inside = fields_plain rest (behind p.proj rest (subst Fields eu fs)); is = ap₂ (λ x ps. let v : Place = record { local = x; proj = ps } in v) (sym (eqb-true p.local u.local a)) eu; ty = q },
           direct_proper D proper u.proj lt t pr (fields_formed u.proj fs).1 (subst (λ l. path_ty D l u.proj ≡ Some t) same e2),
         )

@@ -1,6 +1,6 @@
 -- The text of the source's body keeps the rules in the elaborated one, and so do the settings of flags and the ends of blocks.
-use Rattle.std.proofs.Common.{◌≡◌, refl, sym, ap, ap₂, ◌∙◌, subst, ℕ, zero, suc, ◌+◌, ◌<◌, ◌≤◌, Bool, true, false, nat_lt, ◌&&◌, ◌||◌, ◌==◌, if◌then◌else◌, List, [], ◌∷◌, ◌++◌, length, Option, Some, None, slice_get, arith, ltb-true, lt-ltb}
-use Rattle.std.specs.List.{list_all, list_any}
+use Rattle.std.proofs.Common.{◌≡◌, refl, sym, ap, ◌∙◌, subst, ℕ, zero, suc, ◌+◌, ◌<◌, ◌≤◌, Bool, true, false, ◌&&◌, ◌||◌, if◌then◌else◌, List, [], ◌∷◌, ◌++◌, length, Option, Some, None, slice_get, arith, ltb-true, lt-ltb}
+use Rattle.std.specs.List.{list_all}
 use Rattle.std.proofs.lemmas.Bool.{and_from}
 use Rattle.std.proofs.lemmas.Option.{slice_get_within}
 use Rattle.mir_syntax.specs.declared.body.Place.{Place}
@@ -22,7 +22,7 @@ use Rattle.mir_rules.proofs.Lists.{and_true-left, and_true-right, list_all_true,
 use Rattle.mir_rules.proofs.Statements.{StmtTyped}
 use Rattle.mir_rules.proofs.Terminators.{TermTyped, not_to_start}
 use Rattle.move_paths.specs.Effects.{units_of_body, is_under, effect, moved, begun}
-use Rattle.drop_elab.specs.Plan.{Plan, done, clear, guarded, Laid, lay}
+use Rattle.drop_elab.specs.Plan.{Plan, done, clear}
 use Rattle.drop_elab.specs.Elab.{Status, dead, static, conditional, Flagged, set_to, settings, with_settings, first_settings, only_if, cleared, typed_glue, guarded_by, plan_unit, plan_drop, call_end, lay_end}
 use Rattle.mir_relate.specs.Renumbered.{StmtSame}
 use Rattle.mir_relate.proofs.Leaves.{some_val}

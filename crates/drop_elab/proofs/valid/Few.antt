@@ -1,13 +1,10 @@
 -- An elaborated body has no more blocks and locals than are counted of the body.
-use Rattle.std.proofs.Common.{◌≡◌, refl, sym, ap, ap₂, ◌∙◌, subst, ℕ, zero, suc, ◌+◌, ◌*◌, ◌≤◌, Bool, true, false, ◌&&◌, ◌||◌, if◌then◌else◌, cond, List, [], ◌∷◌, ◌++◌, map, length, sum_by, count_by, Option, Some, None, slice_get, arith}
+use Rattle.std.proofs.Common.{◌≡◌, refl, sym, ap, ◌∙◌, subst, ℕ, suc, ◌+◌, ◌*◌, ◌≤◌, Bool, true, false, ◌&&◌, if◌then◌else◌, cond, List, [], ◌∷◌, ◌++◌, map, length, sum_by, Option, Some, None, slice_get, arith}
 use Rattle.std.proofs.lemmas.List.{length-append}
 use Rattle.std.proofs.lemmas.List.Sums.{sum_by-cons}
 use Rattle.std.proofs.lemmas.List.Recursion.{is_count_by}
 use Rattle.mir_syntax.specs.declared.body.Place.{Place}
 use Rattle.mir_syntax.specs.declared.body.Proj.{Proj}
-use Rattle.mir_syntax.specs.declared.body.Proj.TheVariants.{Field}
-use Rattle.mir_syntax.specs.declared.body.Operand.{Operand}
-use Rattle.mir_syntax.specs.declared.body.Callee.{Callee}
 use Rattle.mir_syntax.specs.declared.body.Term.{Term}
 use Rattle.mir_syntax.specs.declared.body.Term.TheVariants.{Goto, Switch, Return, Unreachable, Drop, Call, Assert}
 use Rattle.mir_syntax.specs.Tree.{Tree}
@@ -19,9 +16,8 @@ use Rattle.mir_rules.specs.DefinitionRules.{holds}
 use Rattle.mir_rules.specs.Limits.{weight_of, term_weight, block_weight, body_weight, is_call, ends_in_call, blocks_count, locals_count}
 use Rattle.mir_rules.specs.Weights.{units, counted, inside_by, inside_def, drop_weight}
 use Rattle.move_paths.specs.Effects.{in_local, units_of_body, is_under, moved, begun}
-use Rattle.drop_elab.specs.Plan.{Plan, done, clear, Laid, lay}
-use Rattle.drop_elab.specs.Elab.{Inits, IsElab, Status, dead, static, conditional, is_conditional, conditional_under, none_of, wants_flag, either_bit, want_flags, Flagged, with_flags, flag_locals, statuses_at, settings, only_if, cleared, typed_glue, guarded_by, plan_unit, plan_drop, call_end, lay_end, LaidBlocks, lay_blocks, elab_by}
-use Rattle.mir_relate.proofs.Leaves.{some_val}
+use Rattle.drop_elab.specs.Plan.{Plan, done, clear, Laid}
+use Rattle.drop_elab.specs.Elab.{Inits, Status, dead, static, conditional, is_conditional, conditional_under, none_of, wants_flag, either_bit, want_flags, Flagged, with_flags, flag_locals, statuses_at, settings, only_if, cleared, typed_glue, guarded_by, plan_unit, plan_drop, call_end, lay_end, LaidBlocks, lay_blocks, elab_by}
 use Rattle.drop_elab.proofs.refines.Items.{Proper, ProperShapes}
 use Rattle.drop_elab.proofs.refines.Propers.{direct_proper}
 use Rattle.drop_elab.proofs.refines.Sound.{Has}

@@ -1,23 +1,22 @@
 -- Statements and terminators of a body that are formed and keep the rules, and those that elaboration makes.
-use Rattle.std.proofs.Common.{◌≡◌, refl, sym, ap, ap₂, ◌∙◌, subst, ℕ, zero, suc, ◌<◌, Bool, true, false, nat_lt, ◌==◌, ◌&&◌, ◌||◌, List, [], ◌∷◌, ◌++◌, length, map, Option, Some, slice_get, arith, ltb-true, lt-ltb}
+use Rattle.std.proofs.Common.{◌≡◌, refl, ap, ap₂, subst, ℕ, zero, suc, ◌<◌, Bool, true, false, ◌==◌, ◌||◌, List, [], ◌∷◌, ◌++◌, length, map, Some, slice_get, arith, lt-ltb}
 use Rattle.std.specs.List.{list_all, list_any}
 use Rattle.std.proofs.lemmas.Bool.{and_from}
 use Rattle.std.proofs.lemmas.Option.{slice_get_within}
 use Rattle.mir_syntax.specs.declared.types.ScalarTy.TheVariants as scalar_ty
 use Rattle.mir_syntax.specs.declared.body.Place.{Place}
-use Rattle.mir_syntax.specs.declared.body.Const.TheVariants as constant
 use Rattle.mir_syntax.specs.declared.body.Operand.TheVariants as operand
 use Rattle.mir_syntax.specs.declared.body.Callee.TheVariants as callee
 use Rattle.mir_syntax.specs.declared.body.Arm.{Arm}
 use Rattle.mir_syntax.specs.declared.body.Term.{Term}
 use Rattle.mir_syntax.specs.declared.body.Term.TheVariants.{Goto, Switch, Call}
-use Rattle.mir_syntax.specs.Tree.{Tree, scalar, empty, more, ref_mut}
+use Rattle.mir_syntax.specs.Tree.{Tree, empty, more, ref_mut}
 use Rattle.mir_syntax.specs.Crate.{«use», discriminant, TypedStmt, assign, TypedBlock, TypedBody, Crate}
 use Rattle.mir_syntax.specs.Crate as rvalue
-use Rattle.mir_syntax.specs.Parts.{arm_block, targets}
+use Rattle.mir_syntax.specs.Parts.{arm_block}
 use Rattle.mir_syntax.specs.Shapes.{Shape, place_ty}
 use Rattle.mir_syntax.proofs.Binds.{some_bind}
-use Rattle.mir_rules.specs.BodyRules.{breaks_v05, arm_value, has_twice, has_too_wide}
+use Rattle.mir_rules.specs.BodyRules.{arm_value, has_twice, has_too_wide}
 use Rattle.mir_rules.specs.Formed.{type_formed, place_formed, callee_formed, block_there, stmt_formed, term_formed}
 use Rattle.mir_rules.specs.Typing.{bool_ty, isize_ty, enum_of, operand_ty, operands_ty, rvalue_ty, callee_args_ty, callee_result_ty}
 use Rattle.mir_rules.proofs.Statements.{StmtTyped}

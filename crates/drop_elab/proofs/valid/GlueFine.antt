@@ -1,18 +1,17 @@
 -- The glue of a place that has the type keeps the rules.
-use Rattle.std.proofs.Common.{◌≡◌, ◌⊎◌, inl, inr, refl, sym, ap, ap₂, ◌∙◌, subst, ℕ, zero, suc, ◌+◌, ◌<◌, ◌≤◌, Bool, true, false, nat_lt, ◌&&◌, ◌^◌, if◌then◌else◌, List, [], ◌∷◌, ◌++◌, length, Option, Some, None, slice_get, arith, lt-ltb}
+use Rattle.std.proofs.Common.{◌≡◌, ◌⊎◌, inl, inr, refl, sym, ap, ◌∙◌, subst, ℕ, zero, suc, ◌+◌, ◌<◌, ◌≤◌, Bool, true, false, nat_lt, ◌^◌, if◌then◌else◌, List, [], ◌∷◌, ◌++◌, length, Option, Some, None, slice_get, arith, lt-ltb}
 use Rattle.std.specs.Bool.{then_some}
 use Rattle.std.proofs.lemmas.Bool.{and_from}
-use Rattle.std.proofs.lemmas.Option.{slice_get_within}
 use Rattle.mir_syntax.specs.declared.body.Place.{Place}
 use Rattle.mir_syntax.specs.declared.body.Proj.{Proj}
 use Rattle.mir_syntax.specs.declared.body.Proj.TheVariants.{Field, Downcast, Deref}
 use Rattle.mir_syntax.specs.Tree.{Tree, scalar, empty, more, named}
 use Rattle.mir_syntax.specs.Tree as tree
-use Rattle.mir_syntax.specs.Parts.{begins_with_field, path_formed}
+use Rattle.mir_syntax.specs.Parts.{path_formed}
 use Rattle.mir_syntax.specs.Crate.{TypedBody, Crate}
-use Rattle.mir_syntax.specs.Shapes.{◌>>=◌, Shape, first_variant, struct_fields, fields_of, field_ty, variant_ty, proj_ty, path_ty, place_ty, needs_drop, destructor_of}
+use Rattle.mir_syntax.specs.Shapes.{Shape, first_variant, struct_fields, fields_of, field_ty, variant_ty, proj_ty, path_ty, place_ty, needs_drop}
 use Rattle.mir_syntax.proofs.Binds.{bind_some, some_bind}
-use Rattle.mir_rules.specs.Formed.{type_formed, place_formed}
+use Rattle.mir_rules.specs.Formed.{type_formed}
 use Rattle.mir_rules.specs.Limits.{most_nodes}
 use Rattle.mir_rules.specs.Typing.{enum_of}
 use Rattle.mir_rules.proofs.Lists.{and_true-left, and_true-right}

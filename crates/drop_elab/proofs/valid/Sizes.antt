@@ -1,5 +1,5 @@
 -- How many blocks and locals the glue of a place takes: a few for each node that needs drop.
-use Rattle.std.proofs.Common.{◌≡◌, refl, sym, ap, ◌∙◌, subst, ℕ, zero, suc, ◌+◌, ◌*◌, ◌≤◌, Bool, true, false, ◌||◌, if◌then◌else◌, List, [], ◌∷◌, ◌++◌, length, sum_by, Option, Some, None, slice_get, arith}
+use Rattle.std.proofs.Common.{◌≡◌, refl, ap, ℕ, zero, suc, ◌+◌, ◌*◌, ◌≤◌, Bool, true, false, if◌then◌else◌, List, [], ◌∷◌, ◌++◌, length, sum_by, Option, Some, None, slice_get, arith}
 use Rattle.std.proofs.lemmas.List.{length-append}
 use Rattle.std.proofs.lemmas.List.Sums.{sum_by-cons}
 use Rattle.mir_syntax.specs.declared.body.Place.{Place}
@@ -116,11 +116,11 @@ module _ (D : List Shape) (proper : ProperShapes D) (c : Costs) (m : ℕ) (small
         let (a, b) = claim t pr.0 in
         let (r, s) = claim ts pr.2 in
         let row : (q : Place) (i : ℕ) (rest : Plan) → cost c (glue_from of_def q i (more t ts) rest) ≤ 4 * inside_by D w (more t ts) + cost c rest =
-            λ q i rest. (
-            let x = b (part q (Field i)) 0 (glue_from of_def q (suc i) ts rest) in
-            let y = r pr.1 q (suc i) rest in
-            let z = bound_less m few (needs_drop D t) (inside_by D w t) in
-            omega (arith, x, y, z))
+        λ q i rest. (
+        let x = b (part q (Field i)) 0 (glue_from of_def q (suc i) ts rest) in
+        let y = r pr.1 q (suc i) rest in
+        let z = bound_less m few (needs_drop D t) (inside_by D w t) in
+        omega (arith, x, y, z))
         in
         (λ tu q i rest. row q i rest, λ q i rest. go q i rest (needs_drop D (more t ts)) refl (row q i rest) (λ n. (let x = b (part q (Field i)) 0 (glue_from of_def q (suc i) ts rest) in let y = s q (suc i) rest in let u = ap (λ c. bound m c (inside_by D w t)) (or_false-left (needs_drop D t) (needs_drop D ts) n) in let v = ap (λ c. bound m c (inside_by D w ts)) (or_false-right (needs_drop D t) (needs_drop D ts) n) in omega (arith, x, y, u, v))))
       where

@@ -1,31 +1,30 @@
 -- A crate with an elaborated body is valid.
-use Rattle.std.proofs.Common.{◌≡◌, refl, sym, ap, ap₂, ◌∙◌, subst, ℕ, zero, suc, ◌+◌, ◌<◌, ◌≤◌, Bool, true, false, nat_lt, ◌&&◌, List, [], ◌∷◌, ◌++◌, length, take, Option, Some, None, slice_get, arith, ltb-true, lt-ltb}
+use Rattle.std.proofs.Common.{◌≡◌, refl, sym, ap, ap₂, ◌∙◌, subst, ℕ, zero, suc, ◌+◌, ◌<◌, ◌≤◌, Bool, true, false, List, [], ◌∷◌, ◌++◌, length, take, Some, None, slice_get, arith, lt-ltb}
 use Rattle.std.specs.List.{list_all}
 use Rattle.std.proofs.lemmas.Bool.{and_from}
 use Rattle.std.proofs.lemmas.Option.{slice_get_within}
 use Rattle.mir_syntax.specs.declared.body.Place.{Place}
 use Rattle.mir_syntax.specs.Tree.{Tree, named}
-use Rattle.mir_syntax.specs.Crate.{TypedStmt, TypedBlock, TypedBody, TypedFunction, Crate}
+use Rattle.mir_syntax.specs.Crate.{TypedBlock, TypedBody, TypedFunction, Crate}
 use Rattle.mir_syntax.specs.Shapes.{Shape, shapes_of}
 use Rattle.mir_syntax.proofs.Binds.{some_bind}
 use Rattle.mir_rules.specs.DefinitionRules.{holds}
-use Rattle.mir_rules.specs.Formed.{type_formed, stmt_formed, term_formed, block_formed, has_start, body_formed}
+use Rattle.mir_rules.specs.Formed.{type_formed, stmt_formed, term_formed, block_formed, body_formed}
 use Rattle.mir_rules.specs.Typing.{bool_ty}
 use Rattle.mir_rules.specs.Valid.{Valid, with_body, at_function}
 use Rattle.mir_rules.proofs.Bodies.{Alike}
 use Rattle.mir_rules.proofs.Destructors.{IsDestructor, shape_is, destructor_found}
 use Rattle.mir_rules.proofs.Fixed.{apart_in}
 use Rattle.mir_rules.proofs.Keeps.{BodyKeeps}
-use Rattle.mir_rules.proofs.Lists.{list_all_true, list_all_true-at}
+use Rattle.mir_rules.proofs.Lists.{list_all_true}
 use Rattle.mir_rules.proofs.Statements.{typed_stmt}
 use Rattle.mir_rules.proofs.Terminators.{TermTyped, typed_term}
 use Rattle.mir_rules.proofs.ValidCrates.{body_formed_at, first_block, args_below, local_formed_at, stmt_formed_at, term_formed_at, stmt_at, term_at, valid_put}
 use Rattle.move_paths.specs.Effects.{units_of_body}
 use Rattle.drop_elab.specs.Plan.{Laid}
-use Rattle.drop_elab.specs.Elab.{Inits, IsElab, Flagged, with_flags, flag_locals, want_flags, statuses_at, with_settings, first_settings, lay_end, LaidBlocks, lay_blocks, elab_by}
+use Rattle.drop_elab.specs.Elab.{Inits, Flagged, with_flags, flag_locals, want_flags, statuses_at, with_settings, first_settings, lay_end, LaidBlocks, lay_blocks, elab_by}
 use Rattle.drop_elab.specs.Tupled.{TypesTupled, FewVariants}
 use Rattle.drop_elab.proofs.refines.Items.{Proper}
-use Rattle.drop_elab.proofs.refines.Sound.{Has}
 use Rattle.drop_elab.proofs.refines.Bodies.{flags_of, first_new, blocks_long}
 use Rattle.drop_elab.proofs.refines.Flags.{flags_range}
 use Rattle.drop_elab.proofs.refines.Places.{StandsIn, left_stands, right_stands}
@@ -110,8 +109,7 @@ module _ (C : Crate) (D : List Shape) (apart : (d : ℕ) → holds D (length D) 
       let ef = ends.end_fine C D apart e defs body args others more long proper_locals ks (statuses_at us inits i k) k.term l b flags h.0.formed h.0.typed lt (record { locals = left_stands e.locals l en.locals r.new_locals sl; blocks = left_stands e.blocks b en.blocks r.new_blocks sb }) in
       let (p, q, t) = blocks_fine (suc i) bs (l + length en.locals) (b + length en.blocks) h.1 (omega (arith, lt)) (right_stands e.locals l en.locals r.new_locals sl) (right_stands e.blocks b en.blocks r.new_blocks sb) in
       let first = ends.first_fine C D apart e defs body args others more long proper_locals body.args i ks flags in
-      let set = ends.with_settings_fine C D apart e defs body args others more long proper_locals ks k.stmts flags h.0.stmts in
-      (
+      let set = ends.with_settings_fine C D apart e defs body args others more long proper_locals ks k.stmts flags h.0.stmts in (
         (record { stmts = each_append (fine.StmtFine C D e) (first_settings body.args i ks) (with_settings ks k.stmts ++ en.stmts) first (each_append (fine.StmtFine C D e) (with_settings ks k.stmts) en.stmts set ef.stmts); term = ef.term }, p),
         each_append (fine.BlockFine C D e) en.blocks r.new_blocks ef.blocks q,
         each_append (fine.TypeFine C D e) en.locals r.new_locals ef.locals t,

@@ -1,15 +1,14 @@
 -- A type's units weigh no more than the type.
-use Rattle.std.proofs.Common.{◌≡◌, refl, sym, ap, ◌∙◌, subst, ℕ, zero, suc, ◌+◌, ◌≤◌, Bool, true, false, ◌||◌, if◌then◌else◌, List, [], ◌∷◌, ◌++◌, map, length, Option, Some, None, is_some, slice_get, arith}
-use Rattle.mir_syntax.specs.declared.body.Place.{Place}
+use Rattle.std.proofs.Common.{◌≡◌, refl, sym, ap, ◌∙◌, subst, ℕ, zero, suc, ◌+◌, ◌≤◌, Bool, true, false, if◌then◌else◌, List, [], ◌∷◌, ◌++◌, map, length, Option, Some, None, is_some, slice_get, arith}
 use Rattle.mir_syntax.specs.declared.body.Proj.{Proj}
 use Rattle.mir_syntax.specs.declared.body.Proj.TheVariants.{Field}
 use Rattle.mir_syntax.specs.Tree.{Tree, scalar, empty, more, named}
 use Rattle.mir_syntax.specs.Tree as tree
-use Rattle.mir_syntax.specs.Shapes.{◌>>=◌, Shape, first_variant, struct_fields, fields_of, field_ty, proj_ty, path_ty, needs_drop}
-use Rattle.mir_syntax.proofs.Binds.{bind_some, some_bind}
+use Rattle.mir_syntax.specs.Shapes.{Shape, first_variant, struct_fields, fields_of, field_ty, proj_ty, path_ty, needs_drop}
+use Rattle.mir_syntax.proofs.Binds.{some_bind}
 use Rattle.mir_rules.specs.DefinitionRules.{holds}
 use Rattle.mir_rules.specs.Limits.{weight_of}
-use Rattle.mir_rules.specs.Weights.{under, units_from, one_unit, units_of_parts, units_of_shape, units_of, units_def, units, counted, inside_by, inside_variants, inside_of, inside_def, drop_weight}
+use Rattle.mir_rules.specs.Weights.{under, units_from, units_of_parts, units_of_shape, units_of, units_def, units, counted, inside_by, inside_variants, inside_of, inside_def, drop_weight}
 use Rattle.mir_rules.proofs.FixedWeights.{inside_named}
 use Rattle.drop_elab.proofs.refines.Items.{IsTuple, Proper, ProperShapes}
 use Rattle.drop_elab.proofs.refines.Outer.{none_from, none_def}
@@ -51,12 +50,12 @@ module _ (D : List Shape) (apart : (d : ℕ) → holds D (length D) d d ≡ fals
       let (a, b) = claim of_def ok t pr.0 in
       let (r, s) = claim of_def ok ts pr.2 in
       let row : (T : Tree) (i : ℕ) → ((j : ℕ) (u : Tree) → field_ty (more t ts) j ≡ Some u → proj_ty D T (Field (i + j)) ≡ Some u) → paths_weigh D T (units_from of_def i (more t ts)) ≤ inside_by D w (more t ts) =
-          λ T i h. (
-          let z : i + 0 ≡ i = omega arith in
-          let e = weigh_append D T (map (under i) (units_from of_def 0 t)) (units_from of_def (suc i) ts) in
-          let x = weigh_under D T t i (subst (λ n. proj_ty D T (Field n) ≡ Some t) z (h 0 t refl)) (units_from of_def 0 t) in
-          let y = r pr.1 T (suc i) (λ j u k. (let q : i + suc j ≡ suc i + j = omega arith in subst (λ n. proj_ty D T (Field n) ≡ Some u) q (h (suc j) u k))) in
-          omega (arith, e, x, y, b))
+      λ T i h. (
+      let z : i + 0 ≡ i = omega arith in
+      let e = weigh_append D T (map (under i) (units_from of_def 0 t)) (units_from of_def (suc i) ts) in
+      let x = weigh_under D T t i (subst (λ n. proj_ty D T (Field n) ≡ Some t) z (h 0 t refl)) (units_from of_def 0 t) in
+      let y = r pr.1 T (suc i) (λ j u k. (let q : i + suc j ≡ suc i + j = omega arith in subst (λ n. proj_ty D T (Field n) ≡ Some u) q (h (suc j) u k))) in
+      omega (arith, e, x, y, b))
       in
       (λ tu T i h. row T i h, go (needs_drop D (more t ts)) refl (row (more t ts) 0 (λ j u k. (let z : 0 + j ≡ j = omega arith in subst (λ n. proj_ty D (more t ts) (Field n) ≡ Some u) (sym z) (some_bind _ {o = fields_of D (more t ts)} refl k)))))
     where
