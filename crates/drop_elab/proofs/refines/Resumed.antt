@@ -1,5 +1,6 @@
 -- A call's result has come to a frame of the elaborated function: the target sets the flags of what it initialises, and follows again.
 use Rattle.std.proofs.Common.{◌≡◌, ◌⊎◌, inl, inr, refl, sym, ap, ap₂, ◌∙◌, subst, ℕ, ◌+◌, Bool, true, false, ◌||◌, if◌then◌else◌, List, [], ◌∷◌, ◌++◌, length, drop, Option, Some, None, slice_get, arith}
+use Rattle.std.proofs.lemmas.List.{append-nil}
 use Rattle.mir_syntax.specs.declared.body.Place.{Place}
 use Rattle.mir_syntax.specs.declared.body.Term.{Term}
 use Rattle.mir_syntax.specs.declared.body.Term.TheVariants.{Goto}
@@ -157,12 +158,8 @@ module _ (X : Change) (inits : Inits) (apart : (d : ℕ) → holds X.source.shap
               here = ap (λ (b : ℕ). Some (record s { memory = m2'; top = record c2 { block = b } })) q ∙ ap₂ (λ a o. Some (record s { memory = m2'; top = record c2 { block = W.next; at = a; dropping = o } })) W.stands2.0 W.stands2.1
           pick (inr eb) =
               let block : TypedBlock = record { stmts = settings (λ u. only_if (begun u W.block.term) true) fs; term = Goto W.next } in
-              let (n, a', m', mv, dr, se) = run_settings (target X) E s c2 (ap (slice_get X.bodies) fr.function2 ∙ X.at2 ∙ ap (λ b. Some b) is2) change c2.block block eb fs [] m2' 0 (flags_distinct (length X.body1.locals) us (want_flags us inits 0 X.body1.blocks)) there (sym (no_more (settings change fs))) in
+              let (n, a', m', mv, dr, se) = run_settings (target X) E s c2 (ap (slice_get X.bodies) fr.function2 ∙ X.at2 ∙ ap (λ b. Some b) is2) change c2.block block eb fs [] m2' 0 (flags_distinct (length X.body1.locals) us (want_flags us inits 0 X.body1.blocks)) there (sym (append-nil (settings change fs))) in
               at_next s G mt lk (n + 1) m' (moves_then (target X) n 1 (record s { memory = m2'; top = c2 }) (on_at s c2 m' c2.block a') (Some (on_at s c2 m' W.next 0)) (subst (λ z. moves (target X) n z ≡ Some (on_at s c2 m' c2.block a')) here mv) (one_move (target X) (on_at s c2 m' c2.block a') (on_at s c2 m' W.next 0) (goto_step s m' c2.block a' block eb dr refl))) se
             where
               here : on_at s c2 m2' c2.block 0 ≡ record s { memory = m2'; top = c2 }
               here = ap₂ (λ a o. record s { memory = m2'; top = record c2 { at = a; dropping = o } }) (sym W.stands2.0) (sym W.stands2.1)
-
-              no_more : (ss : List TypedStmt) → ss ++ [] ≡ ss
-              no_more [] = refl
-              no_more (x ∷ ss) = ap (λ ss. x ∷ ss) (no_more ss)

@@ -1,6 +1,6 @@
 -- An elaborated body has no more blocks and locals than are counted of the body.
 use Rattle.std.proofs.Common.{◌≡◌, refl, sym, ap, ◌∙◌, subst, ℕ, suc, ◌+◌, ◌*◌, ◌≤◌, Bool, true, false, ◌&&◌, if◌then◌else◌, cond, List, [], ◌∷◌, ◌++◌, map, length, sum_by, Option, Some, None, slice_get, arith}
-use Rattle.std.proofs.lemmas.List.{length-append}
+use Rattle.std.proofs.lemmas.List.{length-append, append-nil}
 use Rattle.std.proofs.lemmas.List.Sums.{sum_by-cons}
 use Rattle.std.proofs.lemmas.List.Recursion.{is_count_by}
 use Rattle.mir_syntax.specs.declared.body.Place.{Place}
@@ -71,10 +71,6 @@ module _ (D : List Shape) (apart : (d : ℕ) → holds D (length D) d d ≡ fals
     pub needs : needs_drop D ty ≡ true
     pub tupled : Proper ty
 
-  no_rest : (ps : List Proj) → ps ++ [] ≡ ps
-  no_rest [] = refl
-  no_rest (p ∷ ps) = ap (λ qs. p ∷ qs) (no_rest ps)
-
   known : (u : Place) → Has (units_of_body D b) u → Known u
   unfolding place_ty
   known u hu =
@@ -83,7 +79,7 @@ module _ (D : List Shape) (apart : (d : ℕ) → holds D (length D) d d ≡ fals
       let el' : slice_get b.locals u.local ≡ Some lt = subst (λ y. slice_get b.locals y ≡ Some lt) z el in
       let pr = proper_locals u.local lt el' in
       let (v, ev) = unit_typed u.proj lt pr hp in
-      let at = unit_under D apart proper u.proj lt v [] pr (subst (λ ps. Has (units D lt) ps) (sym (no_rest u.proj)) hp) ev in
+      let at = unit_under D apart proper u.proj lt v [] pr (subst (λ ps. Has (units D lt) ps) (sym (append-nil u.proj)) hp) ev in
       record { ty = v; typed = some_bind _ el' ev; needs = unit_needs D apart proper v [] at; tupled = direct_proper D proper u.proj lt v pr (fields_formed u.proj (units_fields D apart proper u.proj lt pr hp)).1 ev }
 
   -- ---- the plan of a drop

@@ -18,7 +18,7 @@ use Rattle.mir_rules.proofs.Lists.{and_true-left, and_true-right}
 use Rattle.drop_elab.specs.Plan.{Plan, done, destroy, choose, arm, guarded, clear, part, glue_from, arms_of, chosen, glue_inside, glue_shape, glue_of, glue_def, glue}
 use Rattle.drop_elab.specs.Tupled.{FewVariants}
 use Rattle.drop_elab.proofs.refines.Places.{Armed}
-use Rattle.drop_elab.proofs.refines.Items.{IsTuple, Proper, ProperShapes}
+use Rattle.drop_elab.proofs.refines.Items.{IsTuple, Proper, ProperShapes, first_proper}
 use Rattle.drop_elab.proofs.valid.Fine as fine
 use Rattle.drop_elab.proofs.valid.LaidFine.{Rising, rising_less}
 use Rattle.drop_elab.proofs.valid.LaidFine as laid
@@ -151,10 +151,6 @@ module _ (C : Crate) (D : List Shape) (e : TypedBody) where
     pub destroys : (d : ℕ) (s : Shape) (g : ℕ) → slice_get D d ≡ Some s → s.destructor ≡ Some g → fine.Destroys C D e (named d) g
 
   module _ (defs : DefsFine) where
-    first_variant_proper : (ts : List Tree) → ((k : ℕ) (t : Tree) → slice_get ts k ≡ Some t → IsTuple t × Proper t) → IsTuple (first_variant ts) × Proper (first_variant ts)
-    first_variant_proper [] h = (tt, tt)
-    first_variant_proper (t ∷ ts) h = h 0 t refl
-
     inside_fine : (of_def : ℕ → Place → Plan → Plan) → OfDef of_def → (d : ℕ) (s : Shape) (p : Place) (rest : Plan) → slice_get D d ≡ Some s → fine.PlaceFine C D e p (named d) → laid.PlanFine C D e rest → laid.PlanFine C D e (glue_inside D of_def s p rest)
     inside_fine of_def ok d s p rest es h r = go s.is_enum refl
       where
@@ -163,7 +159,7 @@ module _ (C : Crate) (D : List Shape) (e : TypedBody) where
             let (a, b, c) = arms_fine of_def ok p 0 s.variants (λ j us k. (let (tu, pr) = defs.proper d s es j us k in let z : 0 + j ≡ j = omega arith in (tu, pr, subst (λ n. Row (part p (Downcast n)) 0 us) (sym z) (variant_row p (named d) us j h (some_bind _ es (ap (λ b. if b then slice_get s.variants j else None) q ∙ k)) tu)))) (let f = defs.few d s es q in omega (arith, f)) in
             chosen_fine p (named d) s (arms_of D of_def p 0 s.variants) rest h (some_bind _ es (ap (λ b. then_some b s) q)) a b c r
         go false q =
-            let (tu, pr) = first_variant_proper s.variants (defs.proper d s es) in
+            let (tu, pr) = first_proper s.variants (defs.proper d s es) in
             from_fine of_def ok (struct_fields s) p 0 rest pr (inr (tu, type_row p (named d) (struct_fields s) h (some_bind _ es (ap (λ b. if b then None else Some (struct_fields s)) q)))) r
 
     def_fine : (n : ℕ) → OfDef (glue_def D n)

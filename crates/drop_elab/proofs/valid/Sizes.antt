@@ -10,7 +10,7 @@ use Rattle.mir_syntax.specs.Shapes.{Shape, first_variant, struct_fields, needs_d
 use Rattle.mir_rules.specs.Weights.{counted, inside_by, variant_weight, inside_variants, inside_def}
 use Rattle.mir_rules.proofs.Lists.{or_false-left, or_false-right}
 use Rattle.drop_elab.specs.Plan.{Plan, done, destroy, choose, arm, guarded, clear, part, glue_from, arms_of, chosen, glue_inside, glue_shape, glue_of, glue_def, glue, Laid, code, arms_from, lay}
-use Rattle.drop_elab.proofs.refines.Items.{IsTuple, Proper, ProperShapes}
+use Rattle.drop_elab.proofs.refines.Items.{IsTuple, Proper, ProperShapes, first_proper}
 
 -- what each piece of a plan costs
 pub record Costs : Type 0 where
@@ -159,10 +159,6 @@ module _ (D : List Shape) (proper : ProperShapes D) (c : Costs) (m : ℕ) (small
     chosen_cost q (choose p as' qs) rest = omega arith
     chosen_cost q (guarded x p as') rest = omega arith
     chosen_cost q (clear x as') rest = omega arith
-
-    first_proper : (ts : List Tree) → ((k : ℕ) (t : Tree) → slice_get ts k ≡ Some t → IsTuple t × Proper t) → IsTuple (first_variant ts) × Proper (first_variant ts)
-    first_proper [] h = (tt, tt)
-    first_proper (t ∷ ts) h = h 0 t refl
 
     inside_cost : (s : Shape) → ((k : ℕ) (t : Tree) → slice_get s.variants k ≡ Some t → IsTuple t × Proper t) → (q : Place) (rest : Plan) → cost c (glue_inside D of_def s q rest) ≤ c.of_choose + (4 * inside_variants D w s.is_enum s.variants + cost c rest)
     inside_cost s h q rest = go s.is_enum

@@ -25,7 +25,7 @@ use Rattle.drop_elab.specs.Plan.{Laid}
 use Rattle.drop_elab.specs.Elab.{Inits, Flagged, with_flags, flag_locals, want_flags, statuses_at, with_settings, first_settings, lay_end, LaidBlocks, lay_blocks, elab_by}
 use Rattle.drop_elab.specs.Tupled.{TypesTupled, FewVariants}
 use Rattle.drop_elab.proofs.refines.Items.{Proper}
-use Rattle.drop_elab.proofs.refines.Bodies.{flags_of, first_new, blocks_long}
+use Rattle.drop_elab.proofs.refines.Bodies.{flags_of, first_new, blocks_long, stands_behind}
 use Rattle.drop_elab.proofs.refines.Flags.{flags_range}
 use Rattle.drop_elab.proofs.refines.Places.{StandsIn, left_stands, right_stands}
 use Rattle.drop_elab.proofs.refines.Refined.{proper_shapes}
@@ -38,10 +38,6 @@ use Rattle.drop_elab.proofs.valid.EndsFine as ends
 
 each_all : {A : Type 0} (p : A → Bool) (xs : List A) → Each (λ x. p x ≡ true) xs → list_all p xs ≡ true
 each_all p xs h = list_all_true p xs (λ i x e. each_at (λ x. p x ≡ true) xs i x h e)
-
-stands_behind : {A : Type 0} (xs ys : List A) → StandsIn (xs ++ ys) (length xs) ys
-stands_behind [] ys i x e = let z : 0 + i ≡ i = omega arith in rw z e
-stands_behind (h ∷ xs) ys i x e = let z : suc (length xs) + i ≡ suc (length xs + i) = omega arith in rw z (stands_behind xs ys i x e)
 
 take_front : {A : Type 0} (n : ℕ) (xs ys : List A) → n ≤ length xs → take n (xs ++ ys) ≡ take n xs
 take_front zero xs ys l = refl

@@ -10,7 +10,7 @@ use Rattle.mir_rules.specs.DefinitionRules.{holds}
 use Rattle.mir_rules.specs.Limits.{weight_of}
 use Rattle.mir_rules.specs.Weights.{under, units_from, units_of_parts, units_of_shape, units_of, units_def, units, counted, inside_by, inside_variants, inside_of, inside_def, drop_weight}
 use Rattle.mir_rules.proofs.FixedWeights.{inside_named}
-use Rattle.drop_elab.proofs.refines.Items.{IsTuple, Proper, ProperShapes}
+use Rattle.drop_elab.proofs.refines.Items.{IsTuple, Proper, ProperShapes, first_proper}
 use Rattle.drop_elab.proofs.refines.Outer.{none_from, none_def}
 
 module _ (D : List Shape) where
@@ -75,10 +75,6 @@ module _ (D : List Shape) (apart : (d : ℕ) → holds D (length D) d d ≡ fals
   whole_weighs : (of_def : ℕ → List (List Proj)) → Ok of_def → (t : Tree) → Proper t → paths_weigh D t (units_from of_def 0 t) ≤ counted (needs_drop D t) (inside_by D w t)
   unfolding Whole
   whole_weighs of_def ok t pr = (claim of_def ok t pr).1
-
-  first_proper : (ts : List Tree) → ((k : ℕ) (t : Tree) → slice_get ts k ≡ Some t → IsTuple t × Proper t) → IsTuple (first_variant ts) × Proper (first_variant ts)
-  first_proper [] h = (tt, tt)
-  first_proper (t ∷ ts) h = h 0 t refl
 
   defs_weigh : (n : ℕ) → Ok (units_def D n)
   unfolding Ok drop_weight
