@@ -1,5 +1,7 @@
 -- An elaborated body in a crate, and in the place of a body that is valid there.
-use Rattle.std.proofs.Common.{◌≡◌, refl, sym, ap, ◌∙◌, subst, ℕ, ◌≤◌, length, take, Some, slice_get, arith}
+use Rattle.std.proofs.Common.{◌≡◌, refl, sym, ap, ◌∙◌, subst, ℕ, ◌≤◌, length, take, Some, slice_get, arith, true}
+use Rattle.mir_rules.proofs.Keeps.{BodyKeeps}
+use Rattle.mir_rules.specs.Formed.{body_formed}
 use Rattle.std.proofs.lemmas.List.{set-set}
 use Rattle.mir_syntax.specs.declared.body.Place.{Place}
 use Rattle.mir_syntax.specs.declared.body.Term.TheVariants.{Drop}
@@ -43,7 +45,7 @@ valid_in_place C f b v tu few e is blocks locals =
     let g = with_body v.function b in
     let there = holds_body C f b v in
     let al = alike C2 v.valid f g there tu few e is in
-    valid_again C f b e v al.args al.start (subst (λ e. Rattle.mir_rules.specs.Formed.body_formed C2 e ≡ Rattle.std.proofs.Common.true) (sym is.is) (formed_by C2 v.valid f g there tu few is.inits)) (subst (Rattle.mir_rules.proofs.Keeps.BodyKeeps C2) (sym is.is) (keeps_by C2 v.valid f g there tu few is.inits)) blocks locals
+    valid_again C f b e v al.args al.start (subst (λ e. body_formed C2 e ≡ true) (sym is.is) (formed_by C2 v.valid f g there tu few is.inits)) (subst (BodyKeeps C2) (sym is.is) (keeps_by C2 v.valid f g there tu few is.inits)) blocks locals
 
 pub calls_in_place : (C : Crate) (f : ℕ) (b : TypedBody) (valid : ValidAt C f b) → TypesTupled (shapes_of (at_function C f valid.function b)) b → (e : TypedBody) → IsElab (shapes_of (at_function C f valid.function b)) b e → AddsDestructors (shapes_of (at_function C f valid.function b)) e b
 calls_in_place C f b v tu e is = (let C2 = at_function C f v.function b in adds_destructors (shapes_of C2) (proper_shapes C2 b tu) (apart_in C2 v.valid) b e tu.locals is)

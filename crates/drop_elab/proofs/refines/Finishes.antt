@@ -28,7 +28,7 @@ use Rattle.mir_relate.proofs.Numbered as numbered
 use Rattle.mir_relate.proofs.Own as own
 use Rattle.mir_relate.proofs.Rest.{drop_none}
 use Rattle.mir_relate.proofs.Running as running
-use Rattle.move_paths.specs.Effects.{term_effect, moved_by}
+use Rattle.move_paths.specs.Effects.{term_effect, moved_by, ended_if}
 use Rattle.move_paths.specs.Inits.{after_effect}
 use Rattle.drop_elab.specs.Elab.{Inits, Flagged}
 use Rattle.drop_elab.proofs.refines.Items.{Proper, ProperShapes}
@@ -176,10 +176,10 @@ module _ (X : Change) (inits : Inits) (apart : (d : ℕ) → holds X.source.shap
     edge_read : (o : Operand) → IsScalar D X.body1.locals o → changes.Reading X o → ((u : Place) (h : Bool) → Has us u → after_effect (term_effect u k.term) h ≡ h) → (t : ℕ) → Has (targets k.term) t → (i : ℕ) (m2 m1 : Memory) → Q m2 m1 → read_number H1 s1.memory o ≡ Some (i, m1) → To m2 m1 t t
     edge_read o sc (th, ne) calm t ht i m2 m1 q e =
         let (l, tu) = changes.number_turns X inits apart proper proper_locals V.needs r.typed1.types (V.valid1.blank_ok r.typed1.types) f1 lok s1.memory o (i, m1) th ne e now in
-        edge_to m2 m1 q l (λ u hu. tu u hu ∙ ap (λ b. after_effect (Rattle.move_paths.specs.Effects.ended_if (b || false)) (held s1.memory f1 u)) (scalar_moves X inits apart proper proper_locals o u sc hu)) calm t ht
+        edge_to m2 m1 q l (λ u hu. tu u hu ∙ ap (λ b. after_effect (ended_if (b || false)) (held s1.memory f1 u)) (scalar_moves X inits apart proper proper_locals o u sc hu)) calm t ht
 
-    calm_scalars : (os : List Operand) (u : Place) (h : Bool) → AllScalar D X.body1.locals os → Has us u → after_effect (Rattle.move_paths.specs.Effects.ended_if (moved_by os u)) h ≡ h
-    calm_scalars os u h sc hu = ap (λ b. after_effect (Rattle.move_paths.specs.Effects.ended_if b) h) (scalars_move X inits apart proper proper_locals os u sc hu)
+    calm_scalars : (os : List Operand) (u : Place) (h : Bool) → AllScalar D X.body1.locals os → Has us u → after_effect (ended_if (moved_by os u)) h ≡ h
+    calm_scalars os u h sc hu = ap (λ b. after_effect (ended_if b) h) (scalars_move X inits apart proper proper_locals os u sc hu)
 
     abbrev SameQ : Term → Term → Type 0
     SameQ = own.SameStepIf X P V Inv frames n s2 s1 r [] s1.callers refl (omega arith) be sides Q left refl start

@@ -10,7 +10,7 @@ use Rattle.mir_syntax.specs.Crate.{TypedBlock, TypedBody}
 use Rattle.mir_num.specs.Numbers.{flag}
 use Rattle.mir_rules.specs.DefinitionRules.{holds}
 use Rattle.mir_semantics.specs.Memory.{Memory, local_at}
-use Rattle.mir_semantics.specs.Values.{Addr, Value, number, whole}
+use Rattle.mir_semantics.specs.Values.{Addr, Value, number, whole, blank}
 use Rattle.mir_semantics.specs.Step.{Here, Dest, Control, State, Next, type_of, guard_of, dest_of, store, read_all, to_block, finish, perform, step}
 use Rattle.mir_syntax.proofs.Binds.{bind_some}
 use Rattle.mir_renaming.specs.Renaming.{Renaming}
@@ -84,7 +84,7 @@ module _ (X : Change) (inits : Inits) (apart : (d : ℕ) → holds X.source.shap
   abbrev H1 : Here
   H1 = record { shapes = X.source.shapes; locals = X.body1.locals; frame = s1.top.frame }
 
-  abbrev bok : (t : Tree) → HasTy X.source.shapes r.typed1.types t (Rattle.mir_semantics.specs.Values.blank X.source.shapes t)
+  abbrev bok : (t : Tree) → HasTy X.source.shapes r.typed1.types t (blank X.source.shapes t)
   bok = V.valid1.blank_ok r.typed1.types
 
   abbrev lok : (x : ℕ) (t : Tree) → slice_get X.body1.locals x ≡ Some t → r.typed1.types s1.top.frame x ≡ Some t

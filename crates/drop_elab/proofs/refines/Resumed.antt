@@ -23,7 +23,7 @@ use Rattle.drop_elab.specs.Plan.{Laid}
 use Rattle.drop_elab.specs.Elab.{Inits, Flagged, settings, with_settings, only_if, want_flags}
 use Rattle.mir_relate.specs.Frames.{Change, target}
 use Rattle.drop_elab.proofs.refines.Items.{Proper, ProperShapes}
-use Rattle.drop_elab.proofs.refines.Sound.{Has, SoundAt, sound_start, sound_at_same}
+use Rattle.drop_elab.proofs.refines.Sound.{Has, SoundAt, sound_start, sound_at_same, SoundBefore}
 use Rattle.drop_elab.proofs.refines.Flags.{flag_found, flag_local}
 use Rattle.drop_elab.proofs.refines.Machine.{on_at, place_in, term_step}
 use Rattle.drop_elab.proofs.refines.Runs.{one_move, moves_then}
@@ -114,7 +114,7 @@ module _ (X : Change) (inits : Inits) (apart : (d : ℕ) → holds X.source.shap
                   es ∙ ap (λ a. with_settings fs (drop a k1.stmts) ++ end.stmts) (sym W.stands1.1),
                   (
                     subst (λ i. stand.Ending X inits apart proper i k1 k2 end) (sym W.stands1.0) en,
-                    subst (λ ss. Rattle.drop_elab.proofs.refines.Sound.SoundBefore D X.body1 c1.block k1 ss (held m1' c1.frame)) (ap (λ a. drop a k1.stmts) (sym W.stands1.1)) (sound_start D X.body1 c1.block k1 (held m1' c1.frame) (subst (λ i. SoundAt D X.body1 i (held m1' c1.frame)) (sym W.stands1.0) so)),
+                    subst (λ ss. SoundBefore D X.body1 c1.block k1 ss (held m1' c1.frame)) (ap (λ a. drop a k1.stmts) (sym W.stands1.1)) (sound_start D X.body1 c1.block k1 (held m1' c1.frame) (subst (λ i. SoundAt D X.body1 i (held m1' c1.frame)) (sym W.stands1.0) so)),
                   ),
                 )
                 );

@@ -1,5 +1,6 @@
 -- The text of the source's body keeps the rules in the elaborated one, and so do the settings of flags and the ends of blocks.
 use Rattle.std.proofs.Common.{◌≡◌, refl, sym, ap, ◌∙◌, subst, ℕ, zero, suc, ◌+◌, ◌<◌, ◌≤◌, Bool, true, false, ◌&&◌, ◌||◌, if◌then◌else◌, List, [], ◌∷◌, ◌++◌, length, Option, Some, None, slice_get, arith, ltb-true, lt-ltb}
+use Rattle.move_paths.specs.Inits.{is_argument}
 use Rattle.drop_elab.proofs.refines.Bodies.{front_stays}
 use Rattle.std.specs.List.{list_all}
 use Rattle.std.proofs.lemmas.Bool.{and_from}
@@ -161,7 +162,7 @@ module _ (C : Crate) (D : List Shape) (apart : (d : ℕ) → holds D (length D) 
   with_settings_fine ks (x ∷ ss) h s = (s.0, each_append StmtFine (settings (λ u. effect u x) ks) (with_settings ks ss) (settings_fine (λ u. effect u x) ks h) (with_settings_fine ks ss h s.1))
 
   pub first_fine : (n i : ℕ) (ks : List Flagged) → Each FlagFine ks → Each (fine.StmtFine C D e) (first_settings n i ks)
-  first_fine n zero ks h = settings_fine (λ u. Some (Rattle.move_paths.specs.Inits.is_argument n u)) ks h
+  first_fine n zero ks h = settings_fine (λ u. Some (is_argument n u)) ks h
   first_fine n (suc i) ks h = tt
 
   -- ---- the plan of a drop

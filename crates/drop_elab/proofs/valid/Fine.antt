@@ -1,5 +1,6 @@
 -- Statements and terminators of a body that are formed and keep the rules, and those that elaboration makes.
 use Rattle.std.proofs.Common.{◌≡◌, refl, ap, ap₂, subst, ℕ, zero, suc, ◌<◌, Bool, true, false, ◌==◌, ◌||◌, List, [], ◌∷◌, ◌++◌, length, map, Some, slice_get, arith, lt-ltb}
+use Rattle.mir_syntax.specs.declared.types.IntTy.TheVariants.{Isize}
 use Rattle.std.specs.List.{list_all, list_any}
 use Rattle.std.proofs.lemmas.Bool.{and_from}
 use Rattle.std.proofs.lemmas.Option.{slice_get_within}
@@ -132,7 +133,7 @@ module _ (C : Crate) (D : List Shape) (e : TypedBody) where
       }
 
   -- arms that lead to targets, for numbers that stand once and fit
-  pub choose_fine : (l b : ℕ) (arms : List Arm) → slice_get e.locals l ≡ Some isize_ty → Each (λ a. Target a.block) arms → Target b → has_twice (map arm_value arms) ≡ false → has_too_wide (Some (scalar_ty.Int Rattle.mir_syntax.specs.declared.types.IntTy.TheVariants.Isize)) (map arm_value arms) ≡ false → TermFine (Switch (operand.Move (local_place l)) arms b)
+  pub choose_fine : (l b : ℕ) (arms : List Arm) → slice_get e.locals l ≡ Some isize_ty → Each (λ a. Target a.block) arms → Target b → has_twice (map arm_value arms) ≡ false → has_too_wide (Some (scalar_ty.Int Isize)) (map arm_value arms) ≡ false → TermFine (Switch (operand.Move (local_place l)) arms b)
   unfolding term_formed operand_ty
   choose_fine l b arms el ha hb once fits =
       let p = local_fine l isize_ty el in
@@ -140,7 +141,7 @@ module _ (C : Crate) (D : List Shape) (e : TypedBody) where
         formed = and_from _ _ refl (and_from _ _ refl (and_from _ _ (and_from _ _ p.formed refl) (all_there arms ha)));
         typed = record {
           targets = none_first arms ha;
-          own = record { ty = scalar_ty.Int Rattle.mir_syntax.specs.declared.types.IntTy.TheVariants.Isize; operand = p.typed; once = once; fits = fits };
+          own = record { ty = scalar_ty.Int Isize; operand = p.typed; once = once; fits = fits };
           moves = record { through = refl; indirect = refl };
         };
       }

@@ -7,7 +7,7 @@ use Rattle.mir_syntax.specs.declared.body.Proj.TheVariants.{Field, Downcast}
 use Rattle.mir_syntax.specs.Tree.{Tree, scalar, empty, more, named}
 use Rattle.mir_syntax.specs.Tree as tree
 use Rattle.mir_syntax.specs.Shapes.{Shape, first_variant, struct_fields, needs_drop}
-use Rattle.mir_rules.specs.Weights.{counted, inside_by, variant_weight, inside_variants, inside_def}
+use Rattle.mir_rules.specs.Weights.{counted, inside_by, variant_weight, inside_variants, inside_def, inside_of}
 use Rattle.mir_rules.proofs.Lists.{or_false-left, or_false-right}
 use Rattle.drop_elab.specs.Plan.{Plan, done, destroy, choose, arm, guarded, clear, part, glue_from, arms_of, chosen, glue_inside, glue_shape, glue_of, glue_def, glue, Laid, code, arms_from, lay}
 use Rattle.drop_elab.proofs.refines.Items.{IsTuple, Proper, ProperShapes, first_proper}
@@ -178,7 +178,7 @@ module _ (D : List Shape) (proper : ProperShapes D) (c : Costs) (m : ℕ) (small
       shape s None es ih = (let x = inside_cost (glue_def D n) (inside_def D n) ih s (proper d s es) q rest in omega (arith, x, small))
       shape s (Some g) es ih = (let x = inside_cost (glue_def D n) (inside_def D n) ih s (proper d s es) q rest in omega (arith, x, small))
 
-      go : (b : Bool) (o : Option Shape) → slice_get D d ≡ o → ((d : ℕ) (q : Place) (rest : Plan) → cost c (glue_def D n d q rest) ≤ bound m (needs_drop D (named d)) (inside_def D n d) + cost c rest) → cost c (glue_of D (glue_def D n) d b o q rest) ≤ bound m b (Rattle.mir_rules.specs.Weights.inside_of D (inside_def D n) o) + cost c rest
+      go : (b : Bool) (o : Option Shape) → slice_get D d ≡ o → ((d : ℕ) (q : Place) (rest : Plan) → cost c (glue_def D n d q rest) ≤ bound m (needs_drop D (named d)) (inside_def D n d) + cost c rest) → cost c (glue_of D (glue_def D n) d b o q rest) ≤ bound m b (inside_of D (inside_def D n) o) + cost c rest
       go true (Some s) es ih = shape s s.destructor es ih
       go true None es ih = omega arith
       go false o es ih = omega arith

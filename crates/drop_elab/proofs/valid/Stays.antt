@@ -4,13 +4,13 @@ use Rattle.std.specs.List.{list_all}
 use Rattle.std.proofs.lemmas.Bool.{and_from}
 use Rattle.std.proofs.lemmas.Option.{slice_get_within}
 use Rattle.mir_syntax.specs.declared.body.Place.{Place}
-use Rattle.mir_syntax.specs.Tree.{Tree, named}
+use Rattle.mir_syntax.specs.Tree.{Tree, named, tuple_of}
 use Rattle.mir_syntax.specs.Crate.{TypedBlock, TypedBody, TypedFunction, Crate}
 use Rattle.mir_syntax.specs.Shapes.{Shape, shapes_of}
 use Rattle.mir_syntax.proofs.Binds.{some_bind}
 use Rattle.mir_rules.specs.DefinitionRules.{holds}
 use Rattle.mir_rules.specs.Formed.{type_formed, stmt_formed, term_formed, block_formed, body_formed}
-use Rattle.mir_rules.specs.Typing.{bool_ty}
+use Rattle.mir_rules.specs.Typing.{bool_ty, result_of, args_of}
 use Rattle.mir_rules.specs.Valid.{Valid, with_body, at_function}
 use Rattle.mir_rules.proofs.Bodies.{Alike}
 use Rattle.mir_rules.proofs.Destructors.{IsDestructor, shape_is, destructor_found}
@@ -76,8 +76,8 @@ module _ (C : Crate) (e : TypedBody) where
   destroys : (d g : ℕ) → (fn : TypedFunction) × (slice_get C.functions g ≡ Some fn) × IsDestructor d fn → fine.Destroys C (shapes_of C) e (named d) g
   destroys d g (fn, at, is) = record {
     formed = lt-ltb g (length C.functions) (slice_get_within C.functions g fn at);
-    args = some_bind _ at (ap₂ (λ n ts. Some (Rattle.mir_syntax.specs.Tree.tuple_of (Rattle.mir_rules.specs.Typing.args_of (record { args = n; locals = ts; blocks = [] })))) is.args is.locals);
-    result = some_bind _ at (ap (λ ts. Some (Rattle.mir_rules.specs.Typing.result_of (record { args = 0; locals = ts; blocks = [] }))) is.locals);
+    args = some_bind _ at (ap₂ (λ n ts. Some (tuple_of (args_of (record { args = n; locals = ts; blocks = [] })))) is.args is.locals);
+    result = some_bind _ at (ap (λ ts. Some (result_of (record { args = 0; locals = ts; blocks = [] }))) is.locals);
   }
 
   defs_fine : (b : TypedBody) → TypesTupled (shapes_of C) b → FewVariants (shapes_of C) → glued.DefsFine C (shapes_of C) e
