@@ -1,5 +1,5 @@
 -- An elaborated body in a crate, and in the place of a body that is valid there.
-use Rattle.std.proofs.Common.{◌≡◌, refl, sym, ap, ◌∙◌, subst, ℕ, ◌≤◌, length, take, Some, slice_get, arith, true}
+use Rattle.std.proofs.Common.{◌≡◌, sym, ap, ◌∙◌, subst, ℕ, ◌≤◌, length, Some, slice_get, arith, true}
 use Rattle.mir_rules.proofs.Keeps.{BodyKeeps}
 use Rattle.mir_rules.specs.Formed.{body_formed}
 use Rattle.std.proofs.lemmas.List.{set-set}

@@ -12,7 +12,7 @@ use Rattle.mir_syntax.specs.declared.types.ScalarTy.TheVariants as scalar_ty
 use Rattle.mir_syntax.specs.declared.body.Body.{Body}
 use Rattle.mir_syntax.specs.declared.program.Program.{Program}
 use Rattle.mir_syntax.specs.Tree.{Tree, scalar, empty, more, named, at_id, at_ids, node, trees_from, trees_of, tuple_of, ref_mut, ref}
-use Rattle.mir_syntax.specs.Crate.{TypedBody, TypedDef, TypedVariant, Crate, body_of, crate_of, TypedFunction, variant_of, field_of, def_of}
+use Rattle.mir_syntax.specs.Crate.{TypedDef, Crate, body_of, crate_of, TypedFunction, variant_of, field_of, def_of}
 use Rattle.mir_syntax.specs.Shapes.{Shape, first_variant, fields_tuple, shapes_of, shapes_from, field_ty_of, shape_of}
 use Rattle.mir_rules.specs.Limits.{most_functions, most_statements, most_nodes, most_units, is_large_type, definition_passed, outside_passed, locals_passed, functions_passed, types_passed, bodies_passed, statements_passed, passed}
 use Rattle.mir_rules.specs.Broken.{definition, gather, if_broken, at_spot}

@@ -1,5 +1,5 @@
 -- A result comes to a place for a frame of the source: the units at or under the place begin, and all locals stay loose.
-use Rattle.std.proofs.Common.{◌≡◌, ◌⊎◌, inl, inr, refl, sym, ap, ap₂, ◌∙◌, subst, ℕ, ◌+◌, Bool, true, false, not, nat_eq, ◌&&◌, if◌then◌else◌, List, [], ◌∷◌, ◌++◌, length, Some, None, slice_get, option_map, arith}
+use Rattle.std.proofs.Common.{◌≡◌, ◌⊎◌, inl, inr, refl, sym, ap, ap₂, ◌∙◌, subst, ℕ, ◌+◌, Bool, true, false, not, nat_eq, ◌&&◌, if◌then◌else◌, List, [], length, Some, None, slice_get, option_map, arith}
 use Rattle.std.proofs.lemmas.List.{append-nil}
 use Rattle.std.proofs.lemmas.Bool.{eqb-true}
 use Rattle.mir_syntax.specs.declared.body.Place.{Place}
@@ -31,7 +31,7 @@ use Rattle.drop_elab.proofs.refines.Kept.{units_fields, kept_by_typed, begun_by_
 use Rattle.drop_elab.proofs.refines.Deep.{Loose, put_loose, whole_deep}
 use Rattle.drop_elab.proofs.refines.Held.{unit_hole, write_elsewhere}
 use Rattle.drop_elab.proofs.refines.Solid.{unit_of_local}
-use Rattle.drop_elab.proofs.refines.Ended.{goes_parts, goes_back, and_both}
+use Rattle.drop_elab.proofs.refines.Ended.{goes_parts, goes_back}
 use Rattle.drop_elab.proofs.refines.Changes.{indirect_not, deref_indirect}
 use Rattle.drop_elab.proofs.refines.Stand as stand
 use Rattle.drop_elab.proofs.refines.Stand.{held_in, held}

@@ -20,7 +20,7 @@ use Rattle.mir_renaming.proofs.Types.{TypeMap, MemTy, AddrTy}
 use Rattle.mir_renaming.proofs.Typed.{FramesTy, TermTy}
 use Rattle.drop_elab.specs.Elab.{Inits}
 use Rattle.mir_relate.specs.Alike.{Same}
-use Rattle.mir_relate.specs.Frames.{Change, target, DestsRel, Pass, Below, lowest}
+use Rattle.mir_relate.specs.Frames.{Change, DestsRel, Pass, Below, lowest}
 use Rattle.mir_relate.specs.Pass.{GentleTo, Valids, FrameLaws, Goes, Related, KeptLaw}
 use Rattle.mir_relate.proofs.Leaves.{some_val, leaves_none, leaves_less}
 use Rattle.mir_relate.proofs.Mild.{gentle_on}

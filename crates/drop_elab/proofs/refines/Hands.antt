@@ -10,7 +10,7 @@ use Rattle.mir_syntax.specs.Crate.{TypedBlock, TypedBody}
 use Rattle.mir_num.specs.Numbers.{flag}
 use Rattle.mir_rules.specs.DefinitionRules.{holds}
 use Rattle.mir_semantics.specs.Memory.{Memory, local_at}
-use Rattle.mir_semantics.specs.Values.{Addr, Value, number, whole, blank}
+use Rattle.mir_semantics.specs.Values.{Value, number, whole, blank}
 use Rattle.mir_semantics.specs.Step.{Here, Dest, Control, State, Next, type_of, guard_of, dest_of, store, read_all, to_block, finish, perform, step}
 use Rattle.mir_syntax.proofs.Binds.{bind_some}
 use Rattle.mir_renaming.specs.Renaming.{Renaming}

@@ -1,5 +1,5 @@
 -- What the rules say of a body that is elaborated; a terminator that reads scalars moves no unit.
-use Rattle.std.proofs.Common.{◌≡◌, refl, sym, ap, ◌∙◌, subst, ℕ, ◌<◌, Bool, true, false, nat_eq, ◌&&◌, ◌||◌, List, [], ◌∷◌, length, Some, slice_get, arith}
+use Rattle.std.proofs.Common.{◌≡◌, refl, sym, ap, ◌∙◌, subst, ℕ, ◌<◌, Bool, true, false, nat_eq, ◌||◌, List, [], ◌∷◌, length, Some, slice_get, arith}
 use Rattle.std.proofs.lemmas.Bool.{eqb-true}
 use Rattle.mir_syntax.specs.declared.types.ScalarTy.{ScalarTy}
 use Rattle.mir_syntax.specs.declared.body.Place.{Place}

@@ -1,5 +1,5 @@
 -- A statement of the elaborated function: the target does the same, and then sets the flags of the units that it changes.
-use Rattle.std.proofs.Common.{◌≡◌, inl, refl, sym, ap, ap₂, ◌∙◌, subst, ℕ, zero, suc, false, List, [], ◌∷◌, ◌++◌, length, drop, Option, Some, None, slice_get, append_assoc, arith}
+use Rattle.std.proofs.Common.{◌≡◌, inl, refl, sym, ap, ap₂, ◌∙◌, subst, ℕ, suc, false, List, [], ◌∷◌, ◌++◌, length, drop, Option, Some, None, slice_get, append_assoc, arith}
 use Rattle.drop_elab.proofs.refines.Bodies.{front_stays}
 use Rattle.mir_syntax.specs.declared.body.Place.{Place}
 use Rattle.mir_syntax.specs.declared.body.Term.{Term}

@@ -1,5 +1,5 @@
 -- An elaborated body calls what the body calls, and destructors of what it drops.
-use Rattle.std.proofs.Common.{◌≡◌, ◌⊎◌, inl, inr, refl, sym, ap, ap₂, ◌∙◌, subst, ℕ, zero, suc, ◌+◌, Bool, true, false, nat_eq, ◌&&◌, if◌then◌else◌, List, [], ◌∷◌, ◌++◌, length, Option, Some, None, slice_get, append_assoc, arith}
+use Rattle.std.proofs.Common.{◌≡◌, ◌⊎◌, inl, inr, refl, sym, ap, ap₂, ◌∙◌, subst, ℕ, zero, suc, ◌+◌, Bool, true, false, nat_eq, if◌then◌else◌, List, [], ◌∷◌, ◌++◌, length, Option, Some, None, slice_get, append_assoc, arith}
 use Rattle.std.proofs.lemmas.Bool.{eqb-true}
 use Rattle.mir_syntax.specs.declared.body.Place.{Place}
 use Rattle.mir_syntax.specs.declared.body.Proj.{Proj}
@@ -13,7 +13,7 @@ use Rattle.mir_syntax.specs.Tree.{Tree, scalar, empty, more, named}
 use Rattle.mir_syntax.specs.Tree as tree
 use Rattle.mir_syntax.specs.Parts.{has_deref}
 use Rattle.mir_syntax.specs.Crate.{TypedStmt, TypedBlock, TypedBody}
-use Rattle.mir_syntax.specs.Shapes.{Shape, first_variant, struct_fields, fields_of, field_ty, proj_ty, path_ty, place_ty, needs_drop}
+use Rattle.mir_syntax.specs.Shapes.{Shape, struct_fields, fields_of, field_ty, proj_ty, path_ty, place_ty, needs_drop}
 use Rattle.mir_syntax.proofs.Binds.{bind_some, some_bind}
 use Rattle.mir_rules.specs.Calls.{Calls}
 use Rattle.mir_rules.specs.DefinitionRules.{holds}

@@ -9,7 +9,7 @@ use Rattle.mir_syntax.specs.Tree.{Tree, scalar, empty, more, named}
 use Rattle.mir_syntax.specs.Tree as tree
 use Rattle.mir_syntax.specs.Parts.{path_formed}
 use Rattle.mir_syntax.specs.Crate.{TypedBody, Crate}
-use Rattle.mir_syntax.specs.Shapes.{Shape, first_variant, struct_fields, fields_of, field_ty, variant_ty, proj_ty, path_ty, place_ty, needs_drop}
+use Rattle.mir_syntax.specs.Shapes.{Shape, struct_fields, fields_of, field_ty, variant_ty, proj_ty, path_ty, place_ty, needs_drop}
 use Rattle.mir_syntax.proofs.Binds.{bind_some, some_bind}
 use Rattle.mir_rules.specs.Formed.{type_formed}
 use Rattle.mir_rules.specs.Limits.{most_nodes}

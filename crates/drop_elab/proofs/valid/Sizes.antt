@@ -6,7 +6,7 @@ use Rattle.mir_syntax.specs.declared.body.Place.{Place}
 use Rattle.mir_syntax.specs.declared.body.Proj.TheVariants.{Field, Downcast}
 use Rattle.mir_syntax.specs.Tree.{Tree, scalar, empty, more, named}
 use Rattle.mir_syntax.specs.Tree as tree
-use Rattle.mir_syntax.specs.Shapes.{Shape, first_variant, struct_fields, needs_drop}
+use Rattle.mir_syntax.specs.Shapes.{Shape, struct_fields, needs_drop}
 use Rattle.mir_rules.specs.Weights.{counted, inside_by, variant_weight, inside_variants, inside_def, inside_of}
 use Rattle.mir_rules.proofs.Lists.{or_false-left, or_false-right}
 use Rattle.drop_elab.specs.Plan.{Plan, done, destroy, choose, arm, guarded, clear, part, glue_from, arms_of, chosen, glue_inside, glue_shape, glue_of, glue_def, glue, Laid, code, arms_from, lay}
