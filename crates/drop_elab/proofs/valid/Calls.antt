@@ -77,14 +77,6 @@ module _ (D : List Shape) (proper : ProperShapes D) (b : TypedBody) (p : Place) 
   row : (q : Place) (t us : Tree) → Part q t → fields_of D t ≡ Some us → Row q 0 us
   row q t us h f j u k = (let z : 0 + j ≡ j = omega arith in subst (λ n. Part (part q (Field n)) u) (sym z) (further q (Field j) t u h refl (some_bind _ f k)))
 
-  self : (us : Tree) → IsTuple us → fields_of D us ≡ Some us
-  self empty h = refl
-  self (more t ts) h = refl
-  self (scalar s) h = absurd h
-  self (tree.ref t) h = absurd h
-  self (tree.ref_mut t) h = absurd h
-  self (named d) h = absurd h
-
   abbrev OfDef : (ℕ → Place → Plan → Plan) → Type 0
   OfDef of_def = (d : ℕ) (q : Place) (rest : Plan) → Part q (named d) → PlanGood Good rest → PlanGood Good (of_def d q rest)
 

@@ -19,6 +19,7 @@ use Rattle.drop_elab.specs.Plan.{Plan, done, destroy, choose, arm, guarded, clea
 use Rattle.drop_elab.specs.Tupled.{FewVariants}
 use Rattle.drop_elab.proofs.refines.Places.{Armed}
 use Rattle.drop_elab.proofs.refines.Items.{IsTuple, Proper, ProperShapes, first_proper}
+use Rattle.drop_elab.proofs.refines.Propers.{tuple_fields}
 use Rattle.drop_elab.proofs.valid.Fine as fine
 use Rattle.drop_elab.proofs.valid.LaidFine.{Rising, rising_less}
 use Rattle.drop_elab.proofs.valid.LaidFine as laid
@@ -73,17 +74,9 @@ module _ (C : Crate) (D : List Shape) (e : TypedBody) where
   variant_row : (p : Place) (t us : Tree) (k : ℕ) → fine.PlaceFine C D e p t → variant_ty D t k ≡ Some us → IsTuple us → Row (part p (Downcast k)) 0 us
   variant_row p t us k h f tu j u q =
       let a = typed_part p (Downcast k) t us (placed p t h) f in
-      let b = typed_part (part p (Downcast k)) (Field j) us u a (some_bind _ (self us tu) q) in
+      let b = typed_part (part p (Downcast k)) (Field j) us u a (some_bind _ (tuple_fields D us tu) q) in
       let z : 0 + j ≡ j = omega arith in
       subst (λ n. fine.PlaceFine C D e (part (part p (Downcast k)) (Field n)) u) (sym z) (record { formed = and_from _ _ b.local (path_variant p.proj k j (and_true-right (nat_lt p.local (length e.locals)) (path_formed p.proj) h.formed)); typed = b.ty })
-    where
-      self : (us : Tree) → IsTuple us → fields_of D us ≡ Some us
-      self empty h = refl
-      self (more t ts) h = refl
-      self (scalar s) h = absurd h
-      self (tree.ref t) h = absurd h
-      self (tree.ref_mut t) h = absurd h
-      self (named d) h = absurd h
 
   -- what is asked of a function that makes the glue of definitions
   abbrev OfDef : (ℕ → Place → Plan → Plan) → Type 0
