@@ -44,4 +44,12 @@ pub mod Changes
 pub mod Lasts
 pub mod Starts
 pub mod Statements
+pub mod Delivers
+pub mod Resumed
+pub mod Frames
+pub mod Rules
+pub mod Finishes
+pub mod Hands
+pub mod Law
+pub mod Refined
 pub mod Follows

@@ -38,7 +38,7 @@ use Rattle.drop_elab.proofs.refines.Ended as ended
 use Rattle.drop_elab.proofs.refines.Ends as ends
 use Rattle.drop_elab.proofs.refines.Steps as steps
 
-closed_ty : (D : List Shape) (G : TypeMap) (m : Memory) (n : ℕ) → MemTy D G m → MemTy D G (close_frame m n)
+pub closed_ty : (D : List Shape) (G : TypeMap) (m : Memory) (n : ℕ) → MemTy D G m → MemTy D G (close_frame m n)
 closed_ty D G m n k = record { at = λ f x t v g e. go f x t v g e (same_or_not f n) }
   where
     go : (f x : ℕ) (t : Tree) (v : Value) → G f x ≡ Some t → local_at (close_frame m n) f x ≡ Some v → ((nat_eq f n ≡ true) × (f ≡ n)) ⊎ ((nat_eq f n ≡ false) × (f ≡ n → ⊥)) → HasTy D G t v
@@ -186,7 +186,7 @@ module _ (X : Change) (inits : Inits) (apart : (d : ℕ) → holds X.source.shap
           same = (refl, refl);
           past = ps;
           frame = steps.frame_past X inits apart proper proper_locals S at2 j c2 (place_in c2 i a) c1 (record c1 { dropping = Some d }) M2 m m1 refl refl refl refl ps fr2;
-          ready = inr (W.block, W.dropped, d, W.cur, is1, is2, h, refl, refl, wk);
+          ready = inr (inl (W.block, W.dropped, d, W.cur, is1, is2, h, refl, refl, wk));
         }
 
     -- none is left

@@ -1,5 +1,5 @@
 -- The first step of a drop in a frame of the elaborated function, over the layer.
-use Rattle.std.proofs.Common.{◌≡◌, inr, refl, sym, ap, ◌∙◌, subst, ℕ, ◌≤◌, true, false, List, [], ◌∷◌, ◌++◌, length, map, drop, Some, None, slice_get, arith}
+use Rattle.std.proofs.Common.{◌≡◌, inl, inr, refl, sym, ap, ◌∙◌, subst, ℕ, ◌≤◌, true, false, List, [], ◌∷◌, ◌++◌, length, map, drop, Some, None, slice_get, arith}
 use Rattle.mir_syntax.specs.declared.body.Place.{Place}
 use Rattle.mir_syntax.specs.declared.body.Term.TheVariants.{Drop}
 use Rattle.mir_syntax.specs.Tree.{Tree}
@@ -144,7 +144,7 @@ module _ (X : Change) (inits : Inits) (apart : (d : ℕ) → holds X.source.shap
               same = (refl, refl);
               past = steps.past_refl X inits apart proper proper_locals S at2 s2.top.frame s2.memory;
               frame = frame1;
-              ready = inr (k, p, d, None, [], I ∷ [], dropped, number_is, st.calm2, working);
+              ready = inr (inl (k, p, d, None, [], I ∷ [], dropped, number_is, st.calm2, working));
             },
           ),
           be,

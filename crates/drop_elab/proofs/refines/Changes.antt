@@ -109,8 +109,27 @@ value_here : (m : Memory) (g x : ℕ) (v : Value) → local_at m g x ≡ Some v 
 unfolding value_at
 value_here m g x v e = some_bind (at_path []) e refl
 
+-- what the rules say of operands that are read
+abbrev pub breaks21 : Change → List Operand → Bool
+breaks21 X os = breaks_v21 X.source.shapes X.body1.locals os
+
+abbrev pub breaks22 : Change → List Operand → Bool
+breaks22 X os = breaks_v22 X.source.shapes X.body1.locals os
+
+abbrev pub AllReading : Change → List Operand → Type 0
+AllReading X os = (breaks21 X os ≡ false) × (breaks22 X os ≡ false)
+
+abbrev pub Reading : Change → Operand → Type 0
+Reading X o = AllReading X (o ∷ [])
+
+pub first_reading : (X : Change) (o : Operand) (os : List Operand) → AllReading X (o ∷ os) → Reading X o
+first_reading X o os (a, b) = (
+  ap (λ c. c || false) (or_false-left (moves_through_destructor X.source.shapes X.body1.locals o) (list_any (moves_through_destructor X.source.shapes X.body1.locals) os) a),
+  ap (λ c. c || false) (or_false-left (moves_needing_indirectly X.source.shapes X.body1.locals o) (list_any (moves_needing_indirectly X.source.shapes X.body1.locals) os) b),
+)
+
 -- a path of fields goes on only from one of fields
-indirect_not : (ps us : List Proj) → Fields us → is_direct ps ≡ false → goes_on ps us ≡ false
+pub indirect_not : (ps us : List Proj) → Fields us → is_direct ps ≡ false → goes_on ps us ≡ false
 indirect_not [] us h e = absurd (grind arith)
 indirect_not (p ∷ ps) [] h e = refl
 indirect_not (Field i ∷ ps) (Field k ∷ us) h e = go (nat_eq i k) (indirect_not ps us h e)
@@ -123,13 +142,13 @@ indirect_not (Deref ∷ ps) (q ∷ us) h e = refl
 indirect_not (Field i ∷ ps) (Downcast k ∷ us) h e = absurd h
 indirect_not (Field i ∷ ps) (Deref ∷ us) h e = absurd h
 
-deref_indirect : (ps : List Proj) → has_deref ps ≡ true → is_direct ps ≡ false
+pub deref_indirect : (ps : List Proj) → has_deref ps ≡ true → is_direct ps ≡ false
 deref_indirect [] e = absurd (grind arith)
 deref_indirect (Field i ∷ ps) e = deref_indirect ps e
 deref_indirect (Downcast k ∷ ps) e = refl
 deref_indirect (Deref ∷ ps) e = refl
 
-direct_plain : (ps : List Proj) → is_direct ps ≡ true → has_deref ps ≡ false
+pub direct_plain : (ps : List Proj) → is_direct ps ≡ true → has_deref ps ≡ false
 direct_plain [] e = refl
 direct_plain (Field i ∷ ps) e = direct_plain ps e
 direct_plain (Downcast k ∷ ps) e = absurd (grind arith)
@@ -179,7 +198,7 @@ module _ (X : Change) (inits : Inits) (apart : (d : ℕ) → holds X.source.shap
   }
 
   -- units and their locals
-  of_unit : (u : Place) → Has us u → (lt : Tree) × (slice_get X.body1.locals u.local ≡ Some lt) × (G f u.local ≡ Some lt) × Proper lt × Has (units D lt) u.proj
+  pub of_unit : (u : Place) → Has us u → (lt : Tree) × (slice_get X.body1.locals u.local ≡ Some lt) × (G f u.local ≡ Some lt) × Proper lt × Has (units D lt) u.proj
   of_unit u hu =
       let (y, lt, ul, el, hp) = unit_of_local D 0 X.body1.locals u hu in
       let z : y ≡ u.local = sym (ul ∙ (let z : 0 + y ≡ y = omega arith in z)) in

@@ -1,5 +1,6 @@
 -- What the target does first comes first: it comes to where it can follow, and then a step of a drop of the source has its answer.
 use Rattle.std.proofs.Common.{◌≡◌, ◌⊎◌, inl, inr, refl, sym, ap, ◌∙◌, subst, ℕ, zero, suc, false, List, [], length, Option, Some, None, slice_get, arith}
+use Rattle.mir_renaming.specs.Renaming.{Renaming}
 use Rattle.mir_syntax.specs.declared.body.Place.{Place}
 use Rattle.mir_syntax.specs.declared.body.Term.{Term}
 use Rattle.mir_syntax.specs.declared.body.Term.TheVariants.{Goto, Switch, Return, Unreachable, Drop, Call, Assert}
@@ -12,7 +13,7 @@ use Rattle.mir_semantics.specs.Step.{Code, Dropping, Control, State, Next, on, s
 use Rattle.mir_renaming.proofs.Typed.{Typed, step_typed}
 use Rattle.mir_relate.specs.Simulation.{moves, keep_on}
 use Rattle.drop_elab.specs.Elab.{Inits}
-use Rattle.mir_relate.specs.Frames.{Change, target, Pass, Below}
+use Rattle.mir_relate.specs.Frames.{Change, target, Pass, Below, Base}
 use Rattle.mir_relate.specs.Pass.{Valids, FrameLaws, Answers, Related}
 use Rattle.mir_relate.proofs.Mild.{gentle_none}
 use Rattle.mir_relate.proofs.Leaves.{some_val}
@@ -47,36 +48,31 @@ module _ (X : Change) (inits : Inits) (apart : (d : ℕ) → holds X.source.shap
   abbrev T : Code
   T = target X
 
-  -- in a state where the target can follow: what is related, and at a statement or in a drop
+  -- what is related in a state where the target can follow
   pub record Follows (n : ℕ) (s2 s1 : State) : Type 0 where
     pub related : Related X (stand.pass X inits apart proper) V Inv n s2 s1
     pub below : Below X (stand.pass X inits apart proper) related.core.lent s2.top.dest s1.top.dest s2.top.frame s1.top.frame s2.callers s1.callers s2.memory s1.memory
     pub frame : stand.Frame X inits apart proper related.core.lent s2.top s1.top s2.memory s1.memory
-    pub ready : stand.Ready X inits apart proper n s2.top s1.top s2.memory s1.memory
 
-  -- the target comes there
-  pub comes_there : (n : ℕ) (s2 s1 : State) (r : Related X (stand.pass X inits apart proper) V Inv n s2 s1) → Below X (stand.pass X inits apart proper) r.core.lent s2.top.dest s1.top.dest s2.top.frame s1.top.frame s2.callers s1.callers s2.memory s1.memory → stand.Own X inits apart proper n r.core.lent s2.top s1.top s2.memory s1.memory → (k : ℕ) × (s : State) × (moves (target X) k s2 ≡ Some s) × (s.trace ≡ s2.trace) × Follows n s s1
-  comes_there n s2 s1 r be o =
-      let O = o s2 in
+  -- where the target comes
+  abbrev pub come_to : (s : State) (n : ℕ) (j : Renaming) (c1 : Control) (m1 : Memory) → stand.Comes X inits apart proper s n j s.top c1 s.memory m1 → State
+  come_to s n j c1 m1 O = record s { memory = O.memory; top = O.control }
+
+  pub comes_there : (n : ℕ) (s2 s1 : State) (r : Related X (stand.pass X inits apart proper) V Inv n s2 s1) → Below X (stand.pass X inits apart proper) r.core.lent s2.top.dest s1.top.dest s2.top.frame s1.top.frame s2.callers s1.callers s2.memory s1.memory → (O : stand.Comes X inits apart proper s2 n r.core.lent s2.top s1.top s2.memory s1.memory) → Follows n (come_to s2 n r.core.lent s1.top s1.memory O) s1
+  comes_there n s2 s1 r be O =
       let s : State = record s2 { memory = O.memory; top = O.control } in
       let lf = left O.memory O.control O.past O.frame O.same.0 in
-      let bl = own.below_left X P V Inv frames n s2 s1 r [] s1.callers refl (omega arith) be O.memory s1.memory lf (gentle_none X.source.shapes r.typed1.types s1.top.frame s1.memory) in (
-        O.count,
-        s,
-        O.comes,
-        refl,
-        record {
-          related = record { core = record { lent = r.core.lent; base = c_base O.control O.same.0 O.memory; linked = lf.0; runs = inr ([], s1.callers, refl, omega arith, (refl, λ G mt lk t. record { control = O.control; memory = O.memory; count = 0; comes = refl; same = (refl, refl); past = steps.past_refl X inits apart proper proper_locals S at2 O.control.frame O.memory; frame = O.frame; ready = O.ready }), at_control O.control O.memory O.same.0 O.same.1 bl) }; typed1 = r.typed1; typed2 = typed_moves X V O.count s2 s r.typed2 O.comes; drops = r.drops; dests = r.dests; inv = r.inv };
-          below = at_control O.control O.memory O.same.0 O.same.1 bl;
-          frame = O.frame;
-          ready = O.ready;
-        },
-      )
+      let bl = own.below_left X P V Inv frames n s2 s1 r [] s1.callers refl (omega arith) be O.memory s1.memory lf (gentle_none X.source.shapes r.typed1.types s1.top.frame s1.memory) in
+      record {
+        related = record { core = record { lent = r.core.lent; base = c_base O.control O.same.0 O.memory; linked = lf.0; runs = inr ([], s1.callers, refl, omega arith, (refl, λ G mt lk t. record { control = O.control; memory = O.memory; count = 0; comes = refl; same = (refl, refl); past = steps.past_refl X inits apart proper proper_locals S at2 O.control.frame O.memory; frame = O.frame; ready = O.ready }), at_control O.control O.memory O.same.0 O.same.1 bl) }; typed1 = r.typed1; typed2 = typed_moves X V O.count s2 s r.typed2 O.comes; drops = r.drops; dests = r.dests; inv = r.inv };
+        below = at_control O.control O.memory O.same.0 O.same.1 bl;
+        frame = O.frame;
+      }
     where
       at_control : (c : Control) (m : Memory) → c.frame ≡ s2.top.frame → c.dest ≡ s2.top.dest → Below X (stand.pass X inits apart proper) r.core.lent s2.top.dest s1.top.dest s2.top.frame s1.top.frame s2.callers s1.callers m s1.memory → Below X (stand.pass X inits apart proper) r.core.lent c.dest s1.top.dest c.frame s1.top.frame s2.callers s1.callers m s1.memory
       at_control c m f d b = subst (λ f. Below X (stand.pass X inits apart proper) r.core.lent c.dest s1.top.dest f s1.top.frame s2.callers s1.callers m s1.memory) (sym f) (subst (λ d. Below X (stand.pass X inits apart proper) r.core.lent d s1.top.dest s2.top.frame s1.top.frame s2.callers s1.callers m s1.memory) (sym d) b)
 
-      c_base : (c : Control) → c.frame ≡ s2.top.frame → (m : Memory) → Rattle.mir_relate.specs.Frames.Base r.core.lent (record s2 { memory = m; top = c }) s1
+      c_base : (c : Control) → c.frame ≡ s2.top.frame → (m : Memory) → Base r.core.lent (record s2 { memory = m; top = c }) s1
       c_base c f m = record { fresh1 = r.core.base.fresh1; fresh2 = r.core.base.fresh2; top1 = r.core.base.top1; top2 = (let t = r.core.base.top2 in omega (arith, f, t)); answers = r.core.base.answers; trace = r.core.base.trace }
 
       left : (m : Memory) (c : Control) → stand.Past X inits apart proper s2.top.frame s2.memory m → stand.Frame X inits apart proper r.core.lent c s1.top m s1.memory → c.frame ≡ s2.top.frame → own.Left X (stand.pass X inits apart proper) V Inv frames n s2 s1 r [] s1.callers refl (omega arith) be m s1.memory
@@ -95,9 +91,12 @@ module _ (X : Change) (inits : Inits) (apart : (d : ℕ) → holds X.source.shap
           mapped : (h x g y : ℕ) → r.core.lent h x ≡ Some (g, y) → g ≡ s2.top.frame → slice_get X.body1.locals y ≡ None → ⊥
           mapped h x g y e a none = let (b, d, (t, z)) = fr.only h x y (e ∙ ap (λ g. Some (g, y)) (a ∙ sym q)) in let u : ◌≡◌ {A = Option Tree} None (Some t) = sym none ∙ z in grind arith
 
-  -- a step of the source in a drop, or at a block's end that drops; what is left is a statement and any other end of a block
+  -- what is left: a statement, any end of a block but a drop, and a call behind its settings
   abbrev pub AtStatement : Type 0
   AtStatement = (n : ℕ) (s2 s1 : State) (f : Follows n s2 s1) → stand.Stated X inits apart proper s2.top s1.top s2.memory s1.memory → ((k : TypedBlock) (p : Place) (t : ℕ) → slice_get X.body1.blocks s1.top.block ≡ Some k → slice_get k.stmts s1.top.at ≡ None → k.term ≡ Drop p t → ⊥) → (x : Next) → step X.source s1 ≡ Some x → Answers X P n s2 x
+
+  abbrev pub AtCall : Type 0
+  AtCall = (n : ℕ) (s2 s1 : State) (f : Follows n s2 s1) → stand.Handing X inits apart proper s2.top s1.top s2.memory s1.memory → (x : Next) → step X.source s1 ≡ Some x → Answers X P n s2 x
 
   at_end : (s1 : State) → ((k : TypedBlock) × (p : Place) × (t : ℕ) × (slice_get X.body1.blocks s1.top.block ≡ Some k) × (slice_get k.stmts s1.top.at ≡ None) × (k.term ≡ Drop p t)) ⊎ ((k : TypedBlock) (p : Place) (t : ℕ) → slice_get X.body1.blocks s1.top.block ≡ Some k → slice_get k.stmts s1.top.at ≡ None → k.term ≡ Drop p t → ⊥)
   at_end s1 = by_block (slice_get X.body1.blocks s1.top.block) refl
@@ -126,14 +125,16 @@ module _ (X : Change) (inits : Inits) (apart : (d : ℕ) → holds X.source.shap
       by_block None e = inr (λ k p u e' q z. (let w : None ≡ Some k = sym e ∙ e' in grind arith))
       by_block (Some k) e = by_stmt k e (slice_get k.stmts s1.top.at) refl
 
-  -- the layer's law for a step of the elaborated function, given that of statements and of other ends of blocks
-  pub step_answers : AtStatement → (n : ℕ) (s2 s1 : State) (r : Related X (stand.pass X inits apart proper) V Inv n s2 s1) → Below X (stand.pass X inits apart proper) r.core.lent s2.top.dest s1.top.dest s2.top.frame s1.top.frame s2.callers s1.callers s2.memory s1.memory → stand.Own X inits apart proper n r.core.lent s2.top s1.top s2.memory s1.memory → (x : Next) → step X.source s1 ≡ Some x → Answers X P n s2 x
-  step_answers others n s2 s1 r be o x e =
-      let (k, s, mv, tr, f) = comes_there n s2 s1 r be o in
-      answers_after X P n k s2 s x mv tr (there s f f.ready)
+  -- the layer's law for a step of the elaborated function, given these
+  pub step_answers : AtStatement → AtCall → (n : ℕ) (s2 s1 : State) (r : Related X (stand.pass X inits apart proper) V Inv n s2 s1) → Below X (stand.pass X inits apart proper) r.core.lent s2.top.dest s1.top.dest s2.top.frame s1.top.frame s2.callers s1.callers s2.memory s1.memory → stand.Own X inits apart proper n r.core.lent s2.top s1.top s2.memory s1.memory → (x : Next) → step X.source s1 ≡ Some x → Answers X P n s2 x
+  step_answers others calls n s2 s1 r be o x e =
+      let O = o s2 in
+      let s = come_to s2 n r.core.lent s1.top s1.memory O in
+      answers_after X P n O.count s2 s x O.comes refl (there s (comes_there n s2 s1 r be O) O.ready)
     where
       there : (s : State) (f : Follows n s s1) → stand.Ready X inits apart proper n s.top s1.top s.memory s1.memory → Answers X P n s x
-      there s f (inr (k, p, d, cur, inner, os, st, wn, calm, w)) =
+      there s f (inr (inr h)) = calls n s s1 f h x e
+      there s f (inr (inl (k, p, d, cur, inner, os, st, wn, calm, w))) =
           steps.drop_answers X inits apart proper proper_locals S at2 V Inv frames n s s1 f.related f.below f.frame k p calm
           (ends.ends X inits apart proper proper_locals S edges at2 V Inv frames n s s1 f.related f.below f.frame k p calm) d cur inner os x st w wn e
       there s f (inl (wn, st)) = pick (at_end s1)

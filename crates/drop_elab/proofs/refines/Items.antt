@@ -10,23 +10,26 @@ use Rattle.mir_rules.proofs.Lists.{or_false-left, or_false-right}
 use Rattle.mir_semantics.specs.Values.{Addr}
 use Rattle.mir_semantics.specs.Memory.{further}
 use Rattle.mir_semantics.specs.Step.{Visit, field_visits}
+use Rattle.drop_elab.specs.Tupled as tuples
 use Rattle.drop_elab.specs.Plan.{Plan, done, arm, part, glue_from, arms_of, chosen, glue_inside, glue_of, glue_def, glue}
 use Rattle.drop_elab.proofs.refines.Places.{Armed, arm_at, with_arm}
 use Rattle.drop_elab.proofs.refines.Glue.{of_def, glue_named}
 
 -- the tail of a tuple is one, everywhere in the type
 abbrev pub IsTuple : Tree → Type 0
-IsTuple empty = Unit {0}
-IsTuple (more t ts) = Unit {0}
-IsTuple _ = ⊥
+IsTuple = tuples.IsTuple
 
 abbrev pub Proper : Tree → Type 0
-Proper (more t ts) = Proper t × IsTuple ts × Proper ts
-Proper _ = Unit {0}
+Proper = tuples.Tupled
 
 -- so in all definitions
 abbrev pub ProperShapes : List Shape → Type 0
 ProperShapes D = (d : ℕ) (s : Shape) → slice_get D d ≡ Some s → (k : ℕ) (t : Tree) → slice_get s.variants k ≡ Some t → IsTuple t × Proper t
+
+-- so of the first variant
+pub first_proper : (ts : List Tree) → ((k : ℕ) (t : Tree) → slice_get ts k ≡ Some t → IsTuple t × Proper t) → IsTuple (first_variant ts) × Proper (first_variant ts)
+first_proper [] h = (tt, tt)
+first_proper (t ∷ ts) h = h 0 t refl
 
 -- the place of a frame's own local that an address without a dereference is
 abbrev pub place_of : Addr → Place

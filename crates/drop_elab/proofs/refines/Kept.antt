@@ -206,8 +206,8 @@ module _ (D : List Shape) (apart : (d : ℕ) → holds D (length D) d d ≡ fals
   whole_solid hole h = absurd (grind arith)
 
   -- of a whole value over a full one, or of a type that needs no drop
-  pub kept_by_write : (G : TypeMap) (u ps : List Proj) (lt t : Tree) (o old w : Value) → Proper lt → Has (units D lt) u → path_ty D lt ps ≡ Some t → HasTy D G t w → at_path ps o ≡ Some old → (needs_drop D t ≡ true → (full D t old ≡ true) × (whole w ≡ true) × HasTy D G t old) → hole_at u (put ps w o) ≡ hole_at u o
-  kept_by_write G u ps lt t o old w pr h pt tw e ok = go (above_or_not ps u (units_fields u lt pr h))
+  pub kept_by_typed : (G0 G : TypeMap) (u ps : List Proj) (lt t : Tree) (o old w : Value) → Proper lt → Has (units D lt) u → path_ty D lt ps ≡ Some t → HasTy D G t w → at_path ps o ≡ Some old → (needs_drop D t ≡ true → (full D t old ≡ true) × (whole w ≡ true) × HasTy D G0 t old) → hole_at u (put ps w o) ≡ hole_at u o
+  kept_by_typed G0 G u ps lt t o old w pr h pt tw e ok = go (above_or_not ps u (units_fields u lt pr h))
     where
       go : Above ps u ⊎ (Above ps u → ⊥) → hole_at u (put ps w o) ≡ hole_at u o
       go (inr n) = put_beside ps u w o (units_fields u lt pr h) n
@@ -216,7 +216,7 @@ module _ (D : List Shape) (apart : (d : ℕ) → holds D (length D) d d ≡ fals
           let prt = there_proper D proper ps lt t o old pr pt e in
           let (f, wh, to) = ok (unit_needs t rest h') in
           let (x, ex) = unit_there G rest t w prt h' tw in
-          let (y, ey) = unit_there G rest t old prt h' to in
+          let (y, ey) = unit_there G0 rest t old prt h' to in
           let new : hole_at u (put ps w o) ≡ Some false = ap (λ u. hole_at u (put ps w o)) eu ∙ ap (option_map is_hole) (put_under ps rest w o old e ∙ ex) ∙ ap (λ b. Some b) (whole_solid x (whole_at rest w x wh ex)) in
           let was : hole_at u o ≡ Some false = ap (λ u. hole_at u o) eu ∙ ap (option_map is_hole) (joined ps rest o old e ∙ ey) ∙ ap (λ b. Some b) (full_at_unit rest t old y prt h' f ey) in
           new ∙ sym was
@@ -224,6 +224,9 @@ module _ (D : List Shape) (apart : (d : ℕ) → holds D (length D) d d ≡ fals
           joined : (ps rest : List Proj) (o old : Value) → at_path ps o ≡ Some old → at_path (ps ++ rest) o ≡ at_path rest old
           joined [] rest o old e = ap (at_path rest) (let z : o ≡ old = grind arith in z)
           joined (p ∷ ps) rest o old e = let (x, e1, e2) = bind_some e in some_bind _ e1 (joined ps rest x old e2)
+
+  pub kept_by_write : (G : TypeMap) (u ps : List Proj) (lt t : Tree) (o old w : Value) → Proper lt → Has (units D lt) u → path_ty D lt ps ≡ Some t → HasTy D G t w → at_path ps o ≡ Some old → (needs_drop D t ≡ true → (full D t old ≡ true) × (whole w ≡ true) × HasTy D G t old) → hole_at u (put ps w o) ≡ hole_at u o
+  kept_by_write G = kept_by_typed G G
 
   joined_path : (ps rest : List Proj) (o old : Value) → at_path ps o ≡ Some old → at_path (ps ++ rest) o ≡ at_path rest old
   joined_path [] rest o old e = ap (at_path rest) (let z : o ≡ old = grind arith in z)

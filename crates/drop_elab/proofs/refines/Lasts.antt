@@ -130,6 +130,7 @@ module _ (X : Change) (inits : Inits) (apart : (d : ℕ) → holds X.source.shap
           term = w.term;
           dests = dests_up j j' lv.up d1 d2 w.dests;
           goal = w.goal;
+          aims = w.aims;
           stands1 = w.stands1;
           stands2 = w.stands2;
           sets = w.sets;

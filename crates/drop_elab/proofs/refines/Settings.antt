@@ -55,6 +55,16 @@ sets_past f change k fs m m' di none s = record { kept = λ g y n. s.kept g y (�
         s.kept f x (λ p g h r. di.0 g x h qk r) ∙ subst (λ o. local_at m f x ≡ set_value o (local_at m f x)) (sym (none x qk) ∙ ap (λ (k : Flagged). change k.unit) z) refl
     set k' x (suc i, e) q = s.set k' x (i, e) q
 
+-- where there is nothing to set
+pub no_sets : (f : ℕ) (change : Place → Option Bool) (fs : List Flagged) (m : Memory) → Distinct fs → settings change fs ≡ [] → Sets f change fs m m
+no_sets f change [] m di e = sets_none f change m
+no_sets f change (k ∷ fs) m di e = go k.flag (change k.unit) refl refl e (no_sets f change fs m di.1)
+  where
+    go : (o : Option ℕ) (b : Option Bool) → k.flag ≡ o → change k.unit ≡ b → set_to o b ++ settings change fs ≡ [] → (settings change fs ≡ [] → Sets f change fs m m) → Sets f change (k ∷ fs) m m
+    go None b qo qb e ih = sets_past f change k fs m m di (λ x q. absurd (let z : None ≡ Some x = sym qo ∙ q in grind arith)) (ih e)
+    go (Some x) None qo qb e ih = sets_past f change k fs m m di (λ x q. qb) (ih e)
+    go (Some x) (Some b) qo qb e ih = absurd (grind arith)
+
 module _ (C : Code) (body : TypedBody) (s : State) (c : Control) (is : slice_get C.bodies c.function ≡ Some body) (change : Place → Option Bool) (i : ℕ) (block : TypedBlock) (at : slice_get body.blocks i ≡ Some block) where
   -- flags are locals of the frame
   abbrev pub FlagsThere : List Flagged → Memory → Type 0

@@ -7,7 +7,7 @@ use Rattle.mir_syntax.specs.declared.body.Callee.{Callee}
 use Rattle.mir_syntax.specs.declared.body.Term.{Term}
 use Rattle.mir_syntax.specs.declared.body.Term.TheVariants.{Goto, Drop, Call}
 use Rattle.mir_syntax.specs.Tree.{Tree, empty}
-use Rattle.mir_syntax.specs.Shapes.{Shape, place_ty}
+use Rattle.mir_syntax.specs.Shapes.{Shape, place_ty, path_ty, needs_drop}
 use Rattle.mir_syntax.specs.Crate.{TypedBlock, TypedBody}
 use Rattle.mir_num.specs.Numbers.{flag}
 use Rattle.mir_rules.specs.DefinitionRules.{holds}
@@ -19,7 +19,8 @@ use Rattle.mir_syntax.specs.Parts.{has_deref}
 use Rattle.mir_renaming.specs.Renaming.{Renaming}
 use Rattle.mir_renaming.proofs.Types.{TypeMap, MemTy}
 use Rattle.mir_relate.specs.Simulation.{moves}
-use Rattle.move_paths.specs.Effects.{units_of_body, is_under, begun}
+use Rattle.move_paths.specs.Effects.{units_of_body, is_under, moved, begun}
+use Rattle.move_paths.specs.Inits.{after_effect}
 use Rattle.drop_elab.specs.Elab.{Inits, statuses_at, Flagged, settings, with_settings, only_if, elab_by}
 use Rattle.drop_elab.specs.Plan.{Laid}
 use Rattle.mir_relate.specs.Frames.{Change, target, DestsRel, Pass}
@@ -196,8 +197,29 @@ module _ (X : Change) (inits : Inits) (apart : (d : ℕ) → holds X.source.shap
     pub others : (g x : ℕ) → (g ≡ f → slice_get X.body1.locals x ≡ None → ⊥) → local_at m' g x ≡ local_at m g x
     pub there : (x : ℕ) (v : Value) → local_at m f x ≡ Some v → (w : Value) × (local_at m' f x ≡ Some w)
 
+  -- the target has cleared the flags of what a call moves, and stands at the call
+  pub record Handing (c2 c1 : Control) (m2 m1 : Memory) : Type 0 where
+    pub calm : c1.dropping ≡ None
+    pub calm2 : c2.dropping ≡ None
+    pub block1 : TypedBlock
+    pub is1 : slice_get X.body1.blocks c1.block ≡ Some block1
+    pub ends1 : slice_get block1.stmts c1.at ≡ None
+    pub place : Place
+    pub callee : Callee
+    pub args : List Operand
+    pub next : ℕ
+    pub term1 : block1.term ≡ Call place callee args next
+    pub block2 : TypedBlock
+    pub is2 : slice_get (elab_by X.source.shapes X.body1 inits).blocks c2.block ≡ Some block2
+    pub ends2 : slice_get block2.stmts c2.at ≡ None
+    pub next2 : ℕ
+    pub term2 : block2.term ≡ Call place callee args next2
+    pub sets : ((settings (λ u. only_if (begun u block1.term) true) fs ≡ []) × (next2 ≡ next)) ⊎ (slice_get (elab_by X.source.shapes X.body1 inits).blocks next2 ≡ Some (record { stmts = settings (λ u. only_if (begun u block1.term) true) fs; term = Goto next }))
+    pub says : (u : Place) (x : ℕ) → Has us u → flag_of u ≡ Some x → Says m2 c2.frame x (after_effect (only_if (moved u block1.term) false) (held m1 c1.frame u))
+    pub sound : SoundBefore X.source.shapes X.body1 c1.block block1 [] (held m1 c1.frame)
+
   abbrev pub Ready : ℕ → Control → Control → Memory → Memory → Type 0
-  Ready n c2 c1 m2 m1 = ((n ≡ number_of c1.block) × Stated c2 c1 m2 m1) ⊎ Dropping2 n c2 c1 m2 m1
+  Ready n c2 c1 m2 m1 = ((n ≡ number_of c1.block) × Stated c2 c1 m2 m1) ⊎ (Dropping2 n c2 c1 m2 m1 ⊎ Handing c2 c1 m2 m1)
 
   -- from a state with this control and memory the target comes in some moves to a place where it can follow; only locals that the source
   -- hasn't change
@@ -244,15 +266,17 @@ module _ (X : Change) (inits : Inits) (apart : (d : ℕ) → holds X.source.shap
     pub term : block.term ≡ Call place callee args next
     pub dests : DestsRel j d1 d2
     pub goal : (d : Dest) → d1 ≡ Some d → (has_deref place.proj ≡ false) → d.addr ≡ addr_at c1.frame place
+    -- where it goes through a reference to the frame's own local
+    pub aims : (d : Dest) (lt : Tree) → d1 ≡ Some d → has_deref place.proj ≡ true → d.addr.frame ≡ c1.frame → slice_get X.body1.locals d.addr.local ≡ Some lt → (t : Tree) × (path_ty X.source.shapes lt d.addr.path ≡ Some t) × (needs_drop X.source.shapes t ≡ true → d.guard ≡ Some t)
     pub stands1 : (c1.block ≡ next) × (c1.at ≡ 0) × (c1.dropping ≡ None)
     pub stands2 : (c2.at ≡ 0) × (c2.dropping ≡ None)
     pub sets : ((settings (λ u. only_if (begun u block.term) true) fs ≡ []) × (c2.block ≡ next)) ⊎ (slice_get (elab_by X.source.shapes X.body1 inits).blocks c2.block ≡ Some (record { stmts = settings (λ u. only_if (begun u block.term) true) fs; term = Goto next }))
     pub says : (u : Place) (x : ℕ) → Has us u → begun u block.term ≡ false → flag_of u ≡ Some x → Says m2 c2.frame x (held m1 c1.frame u)
     pub sound : SoundAt X.source.shapes X.body1 next (λ u. begun u block.term || held m1 c1.frame u)
 
-  -- where the source's memory and this frame's locals have types
+  -- where the source's memory and the locals of this frame have types
   abbrev pub IfTyped : Control → Memory → Type 0 → Type 0
-  IfTyped c1 m1 A = (G : TypeMap) → MemTy X.source.shapes G m1 → ((x : ℕ) (t : Tree) → slice_get X.body1.locals x ≡ Some t → G c1.frame x ≡ Some t) → A
+  IfTyped c1 m1 A = (G : TypeMap) → MemTy X.source.shapes G m1 → ((b : TypedBody) → slice_get X.source.bodies c1.function ≡ Some b → (x : ℕ) (t : Tree) → slice_get b.locals x ≡ Some t → G c1.frame x ≡ Some t) → A
 
   -- one frame for one; each local of the source is lent
   abbrev pub pass : Pass

@@ -153,7 +153,7 @@ module _ (X : Change) (inits : Inits) (apart : (d : ℕ) → holds X.source.shap
               same = (refl, refl);
               past = past_refl s2.top.frame m;
               frame = frame_past j s2.top (place_in s2.top i a) s1.top (with_items s1.top d (inner ++ os)) s2.memory m s1.memory refl refl refl refl ps fr;
-              ready = inr (k, p, record d { items = inner ++ os }, cur, inner, os, st, refl, refl, w);
+              ready = inr (inl (k, p, record d { items = inner ++ os }, cur, inner, os, st, refl, refl, w));
             },
           )
 
