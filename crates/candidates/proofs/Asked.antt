@@ -95,7 +95,7 @@ module _ {B : Type 0} (P : Pipeline B) (is : IsSource P) (f : ℕ) where
       go c w.0 w.1 more all (P.below f g.0) refl
     where
       go : Cand g.0 → IsWalk P.functions v → g.0 < P.functions → comes_in P f a.walk ≡ g.0 ∷ comes_after P f g.0 v → all_of P f ≡ i.done ++ g.0 ∷ comes_after P f g.0 v → (b : Bool) → P.below f g.0 ≡ b
-        → Asks P f (record { part = if b then part.Qualif g else part.Reach g; walk = v; large = a.large; lent = a.lent }) (left_with P f (comes_in P f a.walk))
+          → Asks P f (record { part = if b then part.Qualif g else part.Reach g; walk = v; large = a.large; lent = a.lent }) (left_with P f (comes_in P f a.walk))
       go c w l more all true e = record {
         is = record { done = i.done; all = all; stays = record { walk = w; part = l }; known = (i.large, (let k = asks_is g.0 c in grind arith)); lent = i.lent };
         needs = sym (ap (left_with P f) more ∙ ap (λ (xs : List ℕ). (xs ++ asked_of P f (comes_after P f g.0 v)) ++ query P.functions kind.Elab f ∷ []) (asked_is g.0 c true e));
@@ -103,7 +103,7 @@ module _ {B : Type 0} (P : Pipeline B) (is : IsSource P) (f : ℕ) where
       go c w l more all false e = record {
         is = record { done = i.done; all = all; stays = record { walk = w; part = l }; known = (i.large, e); lent = i.lent };
         needs = sym (ap (left_with P f) more ∙ ap (λ (xs : List ℕ). (xs ++ asked_of P f (comes_after P f g.0 v)) ++ query P.functions kind.Elab f ∷ []) (asked_other g.0 c e)
-          ∙ ap (λ (xs : List ℕ). query P.functions kind.Reach g.0 ∷ xs) (append_assoc (unless (back g.0) g.0) (asked_of P f (comes_after P f g.0 v)) (query P.functions kind.Elab f ∷ [])));
+            ∙ ap (λ (xs : List ℕ). query P.functions kind.Reach g.0 ∷ xs) (append_assoc (unless (back g.0) g.0) (asked_of P f (comes_after P f g.0 v)) (query P.functions kind.Elab f ∷ [])));
       }
 
   -- ---- a candidate is done

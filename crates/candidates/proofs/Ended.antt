@@ -79,6 +79,7 @@ module _ {B : Type 0} (P : Pipeline B) where
           both true false = refl
           both false true = refl
           both false false = refl
+
       go : (b : Bool) → may_take P f x ≡ b → stands g (lent_of P f xs) ≡ (stands g xs && may_take P f g) → (g ≡ x) ⊎ (g ≢ x) → stands g ((if b then x ∷ [] else []) ++ lent_of P f xs) ≡ (stands g (x ∷ xs) && may_take P f g)
       go true k r (inl s) =
           let here : (g == x) ≡ true = grind (arith, nat_tests) in

@@ -77,7 +77,7 @@ new_is never n known seen (x ∷ xs) a l =
     go (stands x seen) refl (never x) (a.bits x lt) (λ (h : stands x seen ≡ true). new_is never n (set known x true) seen xs (agrees_again n (set known x true) seen x h b) later) (new_is never n (set known x true) (x ∷ seen) xs b later)
   where
     go : (s : Bool) → stands x seen ≡ s → (nev : Bool) → get_or known x false ≡ stands x seen → (stands x seen ≡ true → new_by never (set known x true) xs ≡ wanted never (once_after seen xs)) → new_by never (set known x true) xs ≡ wanted never (once_after (x ∷ seen) xs)
-      → ◌≡◌ {A = List ℕ} ((if get_or known x false || never x then [] else x ∷ []) ++ new_by never (set known x true) xs) (wanted never (if s then once_after seen xs else x ∷ once_after (x ∷ seen) xs))
+        → ◌≡◌ {A = List ℕ} ((if get_or known x false || never x then [] else x ∷ []) ++ new_by never (set known x true) xs) (wanted never (if s then once_after seen xs else x ∷ once_after (x ∷ seen) xs))
     go true e nev k r t = ap (λ (b : Bool). let ys : List ℕ = if b || never x then [] else x ∷ [] in ys ++ new_by never (set known x true) xs) (k ∙ e) ∙ r e
     go false e nev k r t = ap (λ (b : Bool). let ys : List ℕ = if b || never x then [] else x ∷ [] in ys ++ new_by never (set known x true) xs) (k ∙ e) ∙ own (never x)
       where
@@ -93,15 +93,16 @@ pub agrees_after : (n : ℕ) (known : List Bool) (seen xs : List ℕ) → Agrees
 agrees_after n known seen xs a = record {
   long = length-marked known xs ∙ a.long;
   bits = λ y l.
-    let long = a.long in
-    let m = marked-at known xs y (omega (arith, l, long)) in
-    let b = a.bits y l in
-    let j = has_join y seen (once_after seen xs) in
-    m ∙ ap (λ (p : Bool). p || stands y xs) b ∙ same (stands y seen) (stands y xs) (stands y (once_after seen xs)) (all_listed seen xs y) (inner y) ∙ sym j;
+      let long = a.long in
+      let m = marked-at known xs y (omega (arith, l, long)) in
+      let b = a.bits y l in
+      let j = has_join y seen (once_after seen xs) in
+      m ∙ ap (λ (p : Bool). p || stands y xs) b ∙ same (stands y seen) (stands y xs) (stands y (once_after seen xs)) (all_listed seen xs y) (inner y) ∙ sym j;
 }
   where
     inner : (y : ℕ) → stands y (once_after seen xs) ≡ true → stands y xs ≡ true
     inner y h = in_once_after seen xs y h
+
     same : (s x m : Bool) → (x ≡ true → (s || m) ≡ true) → (m ≡ true → x ≡ true) → (s || x) ≡ (s || m)
     same true x m h k = refl
     same false true m h k = sym (h refl)
@@ -142,7 +143,7 @@ module _ {B : Type 0} (P : Pipeline B) (is : IsSource P) (f : ℕ) (lt : f < P.f
       go : (t : Bool) → never g ≡ t → ((k : List Bool) (fr : List ℕ) → layer_from never b after k fr (wanted never gs) ≡ wanted never gs ++ after (marked k (bring gs)) (fr ++ new_by never k (bring gs))) → layer_from never b after known fresh (if t then wanted never gs else g ∷ wanted never gs) ≡ (if t then wanted never gs else g ∷ wanted never gs) ++ after (marked known (b g ++ bring gs)) (fresh ++ new_by never known (b g ++ bring gs))
       go true e r = r known fresh ∙ ap (λ (xs : List ℕ). wanted never gs ++ after (marked known xs) (fresh ++ new_by never known xs)) (ap (λ (ys : List ℕ). ys ++ bring gs) (sym (never_brings g e)))
       go false e r = ap (λ (xs : List ℕ). g ∷ xs) (r (marked known (b g)) (fresh ++ new_by never known (b g))
-        ∙ ap₂ (λ (k : List Bool) (fr : List ℕ). wanted never gs ++ after k fr) (sym (marked-append known (b g) (bring gs))) (append_assoc fresh (new_by never known (b g)) (new_by never (marked known (b g)) (bring gs)) ∙ ap (λ (xs : List ℕ). fresh ++ xs) (sym (new_join never known (b g) (bring gs)))))
+          ∙ ap₂ (λ (k : List Bool) (fr : List ℕ). wanted never gs ++ after k fr) (sym (marked-append known (b g) (bring gs))) (append_assoc fresh (new_by never known (b g)) (new_by never (marked known (b g)) (bring gs)) ∙ ap (λ (xs : List ℕ). fresh ++ xs) (sym (new_join never known (b g) (bring gs)))))
 
   bring_low : (gs : List ℕ) → AllBelow n gs → AllBelow n (bring gs)
   bring_low [] l x h = absurd (cc)

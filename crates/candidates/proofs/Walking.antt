@@ -87,16 +87,19 @@ took_none w v s at l = record {
 pub took_some : (w v u : Walk) (g d : ℕ) → IsSettled w v → v.at < length v.layer → g ≡ get_or v.layer v.at d
     → (u.layers ≡ v.layers) → (u.layer ≡ v.layer) → (u.at ≡ v.at + 1) → (u.fresh ≡ v.fresh) → (u.known ≡ v.known) → Took w u (Some g)
 took_some w v u g d s l is el ey ea ef ek = record {
-  walk = λ n i. let j = settled_walk n w v s i in (record {
-    size = subst (λ rs. HasSize rs 1 n) (sym ek) j.size;
-    at = (let e = ap (λ (xs : List ℕ). length xs) ey in omega (arith, e, ea, l));
-    layer = subst (AllBelow n) (sym ey) j.layer;
-    fresh = subst (AllBelow n) (sym ef) j.fresh;
-  }, j.layer g (subst (λ (x : ℕ). stands x v.layer ≡ true) (sym is) (stands_at v.layer v.at d l)));
+  walk = λ n i. let j = settled_walk n w v s i in (
+    record {
+      size = subst (λ rs. HasSize rs 1 n) (sym ek) j.size;
+      at = (let e = ap (λ (xs : List ℕ). length xs) ey in omega (arith, e, ea, l));
+      layer = subst (AllBelow n) (sym ey) j.layer;
+      fresh = subst (AllBelow n) (sym ef) j.fresh;
+    },
+    j.layer g (subst (λ (x : ℕ). stands x v.layer ≡ true) (sym is) (stands_at v.layer v.at d l)),
+  );
   next = λ never b. settled_same never b w v s
-    ∙ ap (λ (r : List ℕ). coming_from never b v.layers (row_at v.known 0) v.fresh r) (drop_at v.layer v.at d l ∙ ap₂ (λ (x : ℕ) (xs : List ℕ). x ∷ xs) (sym is) (let fa = sym ea in let fy = sym ey in λ i. drop (fa i) (fy i)))
-    ∙ goes_on never b v.layers (row_at v.known 0) v.fresh g (drop u.at u.layer)
-    ∙ (let fl = sym el in let fk = sym ek in let ff = sym ef in λ i. g ∷ coming_from never b (fl i) (marked (row_at (fk i) 0) (b g)) (ff i ++ new_by never (row_at (fk i) 0) (b g)) (drop u.at u.layer));
+      ∙ ap (λ (r : List ℕ). coming_from never b v.layers (row_at v.known 0) v.fresh r) (drop_at v.layer v.at d l ∙ ap₂ (λ (x : ℕ) (xs : List ℕ). x ∷ xs) (sym is) (let fa = sym ea in let fy = sym ey in λ i. drop (fa i) (fy i)))
+      ∙ goes_on never b v.layers (row_at v.known 0) v.fresh g (drop u.at u.layer)
+      ∙ (let fl = sym el in let fk = sym ek in let ff = sym ef in λ i. g ∷ coming_from never b (fl i) (marked (row_at (fk i) 0) (b g)) (ff i ++ new_by never (row_at (fk i) 0) (b g)) (drop u.at u.layer));
 }
 
 -- ---- the last one brings others
@@ -114,7 +117,6 @@ new_below never known (y ∷ ys) n h x k = go (get_or known y false || never y) 
     go : (b : Bool) → stands x ((if b then [] else y ∷ []) ++ new_by never (set known y true) ys) ≡ true → (stands x (new_by never (set known y true) ys) ≡ true → x < n) → x < n
     go true m r = r m
     go false m r = elim (stands_cases x y (new_by never (set known y true) ys) m) [ inl e ↦ subst (λ (z : ℕ). z < n) (sym e) (h y (stands_first y ys)) | inr l ↦ r l ]
-
 
 -- one more after these
 pub brings_more : (never : ℕ → Bool) (n : ℕ) (w v u : Walk) (xs ys zs : List ℕ) → Brings never n w v xs → Brings never n v u ys → zs ≡ xs ++ ys → Brings never n w u zs
@@ -141,12 +143,14 @@ brings_none never n w i = record { layers = refl; layer = refl; at = refl; fresh
 pub brings_one : (never : ℕ → Bool) (n c : ℕ) (w v : Walk) (new : Bool) → IsWalk n w → c < n → new ≡ (not (flag w.known 0 c) && not (never c))
     → (v.layers ≡ w.layers) → (v.layer ≡ w.layer) → (v.at ≡ w.at) → (v.fresh ≡ (if new then w.fresh ++ c ∷ [] else w.fresh)) → (v.known ≡ set w.known 0 (set (row_at w.known 0) c true)) → Brings never n w v (c ∷ [])
 brings_one never n c w v new i l is el ey ea ef ek = record {
-    layers = el; layer = ey; at = ea;
-    fresh = ef ∙ freshly new (flag w.known 0 c) (never c) is;
-    known = known_is;
-    below = subst (AllBelow n) (sym ef) (both_below new);
-    size = record { count_is = ap length known_is; bits_is = λ r lt. ap (λ rs. length (row_at rs r)) known_is ∙ row_long r lt };
-  }
+  layers = el;
+  layer = ey;
+  at = ea;
+  fresh = ef ∙ freshly new (flag w.known 0 c) (never c) is;
+  known = known_is;
+  below = subst (AllBelow n) (sym ef) (both_below new);
+  size = record { count_is = ap length known_is; bits_is = λ r lt. ap (λ rs. length (row_at rs r)) known_is ∙ row_long r lt };
+}
   where
     freshly : (new known nev : Bool) → new ≡ (not known && not nev) → ◌≡◌ {A = List ℕ} (if new then w.fresh ++ c ∷ [] else w.fresh) (w.fresh ++ ((if known || nev then [] else c ∷ []) ++ []))
     freshly true true nev e = absurd (cc)
@@ -155,6 +159,7 @@ brings_one never n c w v new i l is el ey ea ef ek = record {
     freshly false true nev e = sym (append-nil w.fresh)
     freshly false false true e = sym (append-nil w.fresh)
     freshly false false false e = absurd (cc)
+
     known_is : v.known ≡ set (row_at w.known 0) c true ∷ []
     known_is = ek ∙ go w.known i.size.count_is
       where
@@ -162,9 +167,11 @@ brings_one never n c w v new i l is el ey ea ef ek = record {
         go [] e = absurd (omega arith)
         go (a ∷ []) e = refl
         go (a ∷ b ∷ rows) e = absurd (omega arith)
+
     row_long : (r : ℕ) → r < 1 → length (row_at (set (row_at w.known 0) c true ∷ []) r) ≡ n
     row_long zero lt = length-set (row_at w.known 0) c true ∙ i.size.bits_is 0 (omega arith)
     row_long (suc r) lt = absurd (omega arith)
+
     both_below : (new : Bool) → AllBelow n (if new then w.fresh ++ c ∷ [] else w.fresh)
     both_below false x h = i.fresh x h
     both_below true x h = elim (stands_append x w.fresh (c ∷ []) h) [ inl a ↦ i.fresh x a | inr b ↦ elim (stands_cases x c [] b) [ inl e ↦ subst (λ (z : ℕ). z < n) (sym e) l | inr k ↦ absurd (cc) ] ]
