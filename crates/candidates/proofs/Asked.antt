@@ -1,5 +1,5 @@
 -- The work of an optimised body goes on by one answer.
-use Rattle.std.proofs.Common.{◌≡◌, ◌≢◌, refl, sym, ap, ap₂, ◌∙◌, subst, ℕ, suc, ◌<◌, Bool, true, false, not, ◌&&◌, ◌||◌, List, [], ◌∷◌, ◌++◌, append_assoc, append-nil, length, map, drop, ◌⊎◌, inl, inr, arith}
+use Rattle.std.proofs.Common.{◌≡◌, refl, sym, ap, ap₂, ◌∙◌, subst, ℕ, ◌<◌, Bool, true, false, not, ◌&&◌, ◌||◌, List, [], ◌∷◌, ◌++◌, append_assoc, append-nil, length, map, drop, arith}
 use Rattle.std.specs.Prelude.{Option, Some, None, if◌then◌else◌, nat_lt, option_map, MatchOption, IfSome}
 use Rattle.std.proofs.lemmas.List.{map-append}
 use Rattle.bit_rows.specs.Rows.{row_at, stands}
@@ -9,7 +9,7 @@ use Rattle.mir_syntax.specs.declared.program.Program.{Program}
 use Rattle.call_graph.specs.Graph.{reach, asks}
 use Rattle.call_graph.proofs.Once.{stands_first, stands_right}
 use Rattle.query_plan.specs.declared.kind.Kind.TheVariants as kind
-use Rattle.query_plan.specs.Queries.{Pipeline, is_never, is_large, large_above, qualifies, graph, prom, may_take, takes, cands, opt}
+use Rattle.query_plan.specs.Queries.{Pipeline, is_never, is_large, qualifies, graph, prom, may_take, takes, cands, opt}
 use Rattle.query_plan.specs.Needs.{query, asked, asked_of}
 use Rattle.query_plan.specs.Source.{IsSource}
 use Rattle.query_plan.proofs.Calls.{asks_of_cand}
@@ -19,7 +19,7 @@ use Rattle.candidates.specs.declared.asking.Part.{Part}
 use Rattle.candidates.specs.declared.asking.Part.TheVariants as part
 use Rattle.candidates.specs.Walk.{IsWalk, coming_from, coming_with, Took, Brings, never_in}
 use Rattle.candidates.specs.Comes.{never_of, brings_of, all_of, comes_in, comes_after}
-use Rattle.candidates.specs.Asking.{IsOf, PartBelow, StaysBelow, lent_of, left_with, next_of, then_of, ahead, Known, IsBetween, IsAsking, Asks, GoesOn, entered}
+use Rattle.candidates.specs.Asking.{IsOf, PartBelow, lent_of, left_with, next_of, then_of, ahead, Known, IsBetween, IsAsking, Asks, GoesOn, entered}
 use Rattle.candidates.proofs.Walking.{brings_walk, brings_coming}
 use Rattle.candidates.proofs.Layers.{in_wanted}
 

@@ -1,8 +1,8 @@
 -- The work of an optimised body begins with the callees, and in the end it has what it may take.
-use Rattle.std.proofs.Common.{◌≡◌, ◌≢◌, refl, sym, ap, ◌∙◌, subst, ℕ, ◌<◌, Bool, true, false, ◌==◌, ◌&&◌, ◌||◌, List, [], ◌∷◌, ◌++◌, append-nil, length, map, drop, ◌⊎◌, inl, inr, arith}
+use Rattle.std.proofs.Common.{◌≡◌, ◌≢◌, refl, sym, ap, ◌∙◌, subst, ℕ, ◌<◌, Bool, true, false, ◌==◌, ◌&&◌, ◌||◌, List, [], ◌∷◌, ◌++◌, append-nil, map, drop, ◌⊎◌, inl, inr, arith}
 use Rattle.std.specs.Prelude.{if◌then◌else◌}
 use Rattle.std.proofs.lemmas.Bool.Decides.{nat_tests}
-use Rattle.bit_rows.specs.Rows.{row_at, marked, stands}
+use Rattle.bit_rows.specs.Rows.{marked, stands}
 use Rattle.mir_syntax.specs.Drops.{fn_number}
 use Rattle.mir_syntax.specs.declared.types.FnId.{FnId}
 use Rattle.call_graph.specs.Graph.{asks}

@@ -1,19 +1,18 @@
 -- The candidates of a function are those that come in three layers.
-use Rattle.std.proofs.Common.{◌≡◌, ◌≢◌, refl, sym, ap, ap₂, ◌∙◌, subst, ℕ, zero, suc, ◌<◌, ◌≤◌, Bool, true, false, not, ◌==◌, ◌&&◌, ◌||◌, List, [], ◌∷◌, ◌++◌, append_assoc, append-nil, length, get_or, set, drop, replicate, ◌⊎◌, inl, inr, arith}
+use Rattle.std.proofs.Common.{◌≡◌, ◌≢◌, refl, sym, ap, ap₂, ◌∙◌, subst, ℕ, ◌<◌, Bool, true, false, ◌||◌, List, [], ◌∷◌, ◌++◌, append_assoc, append-nil, length, get_or, set, replicate, ◌⊎◌, inl, inr, arith}
 use Rattle.std.specs.Prelude.{if◌then◌else◌}
 use Rattle.std.proofs.lemmas.Bool.Decides.{nat_tests}
 use Rattle.std.proofs.lemmas.List.{length-set, length-replicate, get_or-replicate, get_or-set_same, get_or-set_other}
-use Rattle.bit_rows.specs.Rows.{row_at, marked, stands}
+use Rattle.bit_rows.specs.Rows.{marked, stands}
 use Rattle.bit_rows.proofs.Marks.{length-marked, marked-at, marked-append}
 use Rattle.call_graph.specs.Callees.{once_after}
 use Rattle.call_graph.proofs.Once.{IsOnce, both, stands_cases, stands_first, stands_later, stands_append}
-use Rattle.query_plan.specs.Queries.{Pipeline, graph, callees_of, brought, cands, opt, takes}
+use Rattle.query_plan.specs.Queries.{Pipeline, callees_of, brought, opt, takes}
 use Rattle.query_plan.specs.Source.{IsSource}
 use Rattle.query_plan.proofs.Calls.{in_once_after, calls_below}
 use Rattle.query_plan.proofs.Members.{is_once}
-use Rattle.candidates.specs.declared.walk.Walk.{Walk}
-use Rattle.candidates.specs.Walk.{AllBelow, new_by, layer_from, coming_from, coming}
-use Rattle.candidates.specs.Comes.{never_of, wanted, brings_of, all_of, comes_in}
+use Rattle.candidates.specs.Walk.{AllBelow, new_by, layer_from, coming_from}
+use Rattle.candidates.specs.Comes.{never_of, wanted, brings_of, all_of}
 use Rattle.candidates.proofs.Walking.{new_join}
 
 pub wanted_join : (never : ℕ → Bool) (xs ys : List ℕ) → wanted never (xs ++ ys) ≡ wanted never xs ++ wanted never ys

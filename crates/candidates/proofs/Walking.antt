@@ -1,13 +1,12 @@
 -- A walk over candidates goes on by one.
-use Rattle.std.proofs.Common.{◌≡◌, ◌≢◌, refl, sym, ap, ap₂, ◌∙◌, subst, ℕ, zero, suc, ◌+◌, ◌-◌, ◌<◌, ◌≤◌, Bool, true, false, not, ◌==◌, ◌&&◌, ◌||◌, List, [], ◌∷◌, ◌++◌, append_assoc, append-nil, length, get_or, set, take, drop, map, ◌⊎◌, inl, inr, arith}
-use Rattle.std.specs.Prelude.{Option, Some, None, if◌then◌else◌, MatchOption}
-use Rattle.std.proofs.lemmas.Bool.Decides.{nat_tests}
+use Rattle.std.proofs.Common.{◌≡◌, refl, sym, ap, ap₂, ◌∙◌, subst, ℕ, zero, suc, ◌+◌, ◌<◌, ◌≤◌, Bool, true, false, not, ◌&&◌, ◌||◌, List, [], ◌∷◌, ◌++◌, append_assoc, append-nil, length, get_or, set, take, drop, map, inl, inr, arith}
+use Rattle.std.specs.Prelude.{Some, None, if◌then◌else◌}
 use Rattle.bit_rows.specs.Rows.{row_at, flag, marked, stands, HasSize}
-use Rattle.bit_rows.proofs.Marks.{marked-append, length-marked}
+use Rattle.bit_rows.proofs.Marks.{marked-append}
 use Rattle.std.proofs.lemmas.List.{length-set, map-append, take_more}
 use Rattle.call_graph.proofs.Once.{stands_cases, stands_first, stands_later, stands_append}
 use Rattle.candidates.specs.declared.walk.Walk.{Walk}
-use Rattle.candidates.specs.Walk.{new_by, layer_from, coming_from, coming, AllBelow, IsWalk, coming_with, IsNextLayer, IsSettled, Took, Brings}
+use Rattle.candidates.specs.Walk.{new_by, coming_from, coming, AllBelow, IsWalk, coming_with, IsSettled, Took, Brings}
 
 pub drop_at : (xs : List ℕ) (i d : ℕ) → i < length xs → drop i xs ≡ get_or xs i d ∷ drop (i + 1) xs
 drop_at [] i d l = absurd (omega arith)

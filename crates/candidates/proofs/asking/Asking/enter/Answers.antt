@@ -1,5 +1,5 @@
-use Rattle.std.proofs.Common.{◌≡◌, sym, subst, length}
-use Rattle.candidates.specs.Asking.{StaysBelow, PartBelow, Asks, left_with}
+use Rattle.std.proofs.Common.{sym, subst, length}
+use Rattle.candidates.specs.Asking.{Asks, left_with}
 use Rattle.candidates.specs.Comes.{comes_in}
 use Rattle.candidates.specs.declared.asking.Part.{Part}
 use Rattle.candidates.proofs.Asked.{entered_asks, taken_below}

@@ -1,9 +1,7 @@
-use Rattle.std.proofs.Common.{◌≡◌, sym, ap, ◌∙◌, subst, ℕ, Bool, List, length, map}
+use Rattle.std.proofs.Common.{subst, length, map}
 use Rattle.mir_syntax.specs.Drops.{fn_number}
-use Rattle.query_plan.specs.Queries.{Pipeline}
 use Rattle.candidates.specs.Walk.{Brings, never_in}
 use Rattle.candidates.specs.Comes.{never_of}
-use Rattle.candidates.specs.Asking.{IsOf}
 use Rattle.candidates.proofs.Asked.{brought_by, opt_comes, opt_came, after_opt}
 use Rattle.candidates.proofs.asking.Asking.given_opt.Goals as goal
 

@@ -1,5 +1,4 @@
-use Rattle.std.proofs.Common.{◌≡◌, sym, ap, ◌∙◌, subst, ℕ, length, map, arith}
-use Rattle.std.specs.Prelude.{◌%◌, ◌^◌}
+use Rattle.std.proofs.Common.{sym, ap, ◌∙◌, subst, ℕ, length, map}
 use Rattle.mir_syntax.specs.Drops.{fn_number}
 use Rattle.candidates.specs.Walk.{IsFresh, Brings, never_in}
 use Rattle.candidates.proofs.Asked.{brought_by}

@@ -1,4 +1,4 @@
-use Rattle.std.proofs.Common.{◌≡◌, ◌+◌, ◌++◌, ◌∷◌, [], ◌<◌, sym, ap, ◌∙◌, length, take, map, get_or, subst, ℕ, List, true, arith}
+use Rattle.std.proofs.Common.{◌≡◌, ◌+◌, ◌∷◌, [], ap, length, take, map, get_or, subst, ℕ, List, true, arith}
 use Rattle.std.proofs.lemmas.List.{take_all}
 use Rattle.bit_rows.specs.Rows.{stands}
 use Rattle.mir_syntax.specs.Drops.{fn_number}

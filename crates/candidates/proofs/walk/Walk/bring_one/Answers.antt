@@ -1,5 +1,4 @@
-use Rattle.std.proofs.Common.{◌≡◌, ◌+◌, ◌++◌, ◌∷◌, [], ◌<◌, refl, sym, ap, ◌∙◌, length, take, get_or, subst, ℕ, List, true, false, arith}
-use Rattle.std.specs.Prelude.{OnOk}
+use Rattle.std.proofs.Common.{refl, sym, ◌∙◌, length, true, false}
 use Rattle.candidates.specs.Walk.{never_in}
 use Rattle.candidates.proofs.Walking.{brings_one}
 use Rattle.candidates.proofs.walk.Walk.bring_one.Goals as goal

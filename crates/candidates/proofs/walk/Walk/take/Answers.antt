@@ -1,4 +1,4 @@
-use Rattle.std.proofs.Common.{◌≡◌, ◌+◌, ◌<◌, ◌≤◌, refl, sym, ap, ◌∙◌, length, subst, ℕ, List, arith}
+use Rattle.std.proofs.Common.{refl, ap, ℕ, List, arith}
 use Rattle.std.specs.Prelude.{slice_index_or}
 use Rattle.candidates.proofs.Walking.{took_none, took_some}
 use Rattle.candidates.proofs.walk.Walk.take.Goals as goal
