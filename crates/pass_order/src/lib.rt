@@ -35,7 +35,7 @@ pub use all_bodies::optimised;
 pub use laws::{one_result, optimised_refines, staged_refines};
 pub use one_body::after_passes;
 pub use opt_laws::{
-    bodies_are_tupled, crate_is_a_source, elaboration_adds_no_callee, ids_come_back, lent_bodies_are_taken,
-    opt_crate_refines,
+    bodies_are_tupled, crate_is_a_source, elaboration_adds_no_callee, ids_come_back,
+    lent_bodies_are_taken, opt_crate_refines,
 };
 pub use stages::{dumped, passes_behind};

@@ -1,9 +1,9 @@
 -- The bodies of a program are read through its table, so their types are as in a table.
-use Rattle.std.proofs.Common.{◌≡◌, refl, sym, ap, subst, ℕ, zero, suc, List, [], ◌∷◌, map, Some, slice_get, arith}
+use Rattle.std.proofs.Common.{◌≡◌, refl, subst, ℕ, zero, suc, List, [], ◌∷◌, map, Some, slice_get, arith}
 use Rattle.mir_syntax.specs.declared.body.Function.{Function}
 use Rattle.mir_syntax.specs.declared.program.Program.{Program}
 use Rattle.mir_syntax.specs.Tree.{trees_of}
-use Rattle.mir_syntax.specs.Crate.{TypedBody, TypedFunction, Crate, crate_of, function_of}
+use Rattle.mir_syntax.specs.Crate.{TypedFunction, crate_of, function_of}
 use Rattle.mir_syntax.specs.Shapes.{shapes_of}
 use Rattle.drop_elab.specs.Tupled.{TypesTupled}
 use Rattle.drop_elab.proofs.Types.{table_types}
