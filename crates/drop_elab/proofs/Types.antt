@@ -1,5 +1,5 @@
 -- The types of a table are tuples of tuples, and within the limits an enum has few variants.
-use Rattle.std.proofs.Common.{◌≡◌, refl, sym, ap, ◌∙◌, subst, ℕ, zero, suc, ◌+◌, ◌<◌, ◌≤◌, Bool, true, false, nat_lt, ◌||◌, List, [], ◌∷◌, ◌++◌, map, length, get_or, sum_by, Option, Some, None, slice_get, arith}
+use Rattle.std.proofs.Common.{◌≡◌, sym, ap, ◌∙◌, subst, ℕ, zero, suc, ◌+◌, ◌<◌, ◌≤◌, Bool, true, false, nat_lt, List, [], ◌∷◌, ◌++◌, map, length, get_or, sum_by, Option, Some, None, slice_get, arith}
 use Rattle.std.proofs.lemmas.Bool.{ltb-false}
 use Rattle.std.proofs.lemmas.List.Sums.{sum_by-cons}
 use Rattle.mir_syntax.specs.declared.types.Ty.{Ty}
@@ -11,10 +11,9 @@ use Rattle.mir_syntax.specs.declared.types.Field.{Field}
 use Rattle.mir_syntax.specs.declared.types.ScalarTy.TheVariants as scalar_ty
 use Rattle.mir_syntax.specs.declared.body.Body.{Body}
 use Rattle.mir_syntax.specs.declared.program.Program.{Program}
-use Rattle.mir_syntax.specs.Tree.{Tree, scalar, empty, more, named, at_id, at_ids, node, trees_from, trees_of}
-use Rattle.mir_syntax.specs.Crate.{TypedBody, TypedDef, TypedVariant, Crate, body_of, crate_of}
-use Rattle.mir_syntax.specs.Shapes.{Shape, first_variant, fields_tuple, shapes_of}
-use Rattle.mir_rules.specs.DefinitionRules.{holds}
+use Rattle.mir_syntax.specs.Tree.{Tree, scalar, empty, more, named, at_id, at_ids, node, trees_from, trees_of, tuple_of, ref_mut, ref}
+use Rattle.mir_syntax.specs.Crate.{TypedDef, Crate, body_of, crate_of, TypedFunction, variant_of, field_of, def_of}
+use Rattle.mir_syntax.specs.Shapes.{Shape, first_variant, fields_tuple, shapes_of, shapes_from, field_ty_of, shape_of}
 use Rattle.mir_rules.specs.Limits.{most_functions, most_statements, most_nodes, most_units, is_large_type, definition_passed, outside_passed, locals_passed, functions_passed, types_passed, bodies_passed, statements_passed, passed}
 use Rattle.mir_rules.specs.Broken.{definition, gather, if_broken, at_spot}
 use Rattle.mir_rules.specs.Valid.{Valid, Within}
@@ -67,18 +66,18 @@ map_all P f [] h i t e = absurd (grind arith)
 map_all P f (x ∷ xs) h zero t e = subst P (let z : f x ≡ t = grind arith in z) (h x)
 map_all P f (x ∷ xs) h (suc i) t e = map_all P f xs h i t e
 
-defs_at : (trees : List Tree) (ds : List Def) (d : ℕ) (def : TypedDef) → slice_get (map (Rattle.mir_syntax.specs.Crate.def_of trees) ds) d ≡ Some def → (x : Def) × (def ≡ Rattle.mir_syntax.specs.Crate.def_of trees x)
+defs_at : (trees : List Tree) (ds : List Def) (d : ℕ) (def : TypedDef) → slice_get (map (def_of trees) ds) d ≡ Some def → (x : Def) × (def ≡ def_of trees x)
 defs_at trees [] d def e = absurd (grind arith)
-defs_at trees (x ∷ ds) zero def e = (x, let z : def ≡ Rattle.mir_syntax.specs.Crate.def_of trees x = grind arith in z)
+defs_at trees (x ∷ ds) zero def e = (x, let z : def ≡ def_of trees x = grind arith in z)
 defs_at trees (x ∷ ds) (suc d) def e = defs_at trees ds d def e
 
-fields_are : (trees : List Tree) (fs : List Field) → AllTupled trees → IsTuple (Rattle.mir_syntax.specs.Tree.tuple_of (map Rattle.mir_syntax.specs.Shapes.field_ty_of (map (Rattle.mir_syntax.specs.Crate.field_of trees) fs))) × Tupled (Rattle.mir_syntax.specs.Tree.tuple_of (map Rattle.mir_syntax.specs.Shapes.field_ty_of (map (Rattle.mir_syntax.specs.Crate.field_of trees) fs)))
+fields_are : (trees : List Tree) (fs : List Field) → AllTupled trees → IsTuple (tuple_of (map field_ty_of (map (field_of trees) fs))) × Tupled (tuple_of (map field_ty_of (map (field_of trees) fs)))
 fields_are trees [] h = (tt, tt)
 fields_are trees (f ∷ fs) h = (let (a, b) = fields_are trees fs h in (tt, (tupled_at trees f.ty.0 h, a, b)))
 
-variants_are : (trees : List Tree) (vs : List Variant) → AllTupled trees → (k : ℕ) (t : Tree) → slice_get (map fields_tuple (map (Rattle.mir_syntax.specs.Crate.variant_of trees) vs)) k ≡ Some t → Tupled t
+variants_are : (trees : List Tree) (vs : List Variant) → AllTupled trees → (k : ℕ) (t : Tree) → slice_get (map fields_tuple (map (variant_of trees) vs)) k ≡ Some t → Tupled t
 variants_are trees [] h k t e = absurd (grind arith)
-variants_are trees (v ∷ vs) h zero t e = subst Tupled (let z : fields_tuple (Rattle.mir_syntax.specs.Crate.variant_of trees v) ≡ t = grind arith in z) (fields_are trees v.fields h).1
+variants_are trees (v ∷ vs) h zero t e = subst Tupled (let z : fields_tuple (variant_of trees v) ≡ t = grind arith in z) (fields_are trees v.fields h).1
 variants_are trees (v ∷ vs) h (suc k) t e = variants_are trees vs h k t e
 
 -- in each crate with the definitions of a program, and in each body that is read through the program's table
@@ -99,8 +98,8 @@ module _ (of_def : ℕ → ℕ) (some : (d : ℕ) → 0 < of_def d) where
   some_nodes (named d) = some d
   some_nodes (scalar s) = omega arith
   some_nodes empty = omega arith
-  some_nodes (Rattle.mir_syntax.specs.Tree.ref t) = omega arith
-  some_nodes (Rattle.mir_syntax.specs.Tree.ref_mut t) = omega arith
+  some_nodes (ref t) = omega arith
+  some_nodes (ref_mut t) = omega arith
 
   as_many : (ts : List Tree) → length ts ≤ sum_by (nodes_by of_def) ts
   as_many [] = omega arith
@@ -122,10 +121,10 @@ some_def : (D : List Shape) (n d : ℕ) → 0 < nodes_def D n d
 some_def D zero d = omega arith
 some_def D (suc n) d = some_shape (nodes_def D n) (some_def D n) (slice_get D d)
 
-shape_forth : (fs : List Rattle.mir_syntax.specs.Crate.TypedFunction) (n : ℕ) (defs : List TypedDef) (d : ℕ) (def : TypedDef) → slice_get defs d ≡ Some def → slice_get (Rattle.mir_syntax.specs.Shapes.shapes_from fs n defs) d ≡ Some (Rattle.mir_syntax.specs.Shapes.shape_of fs (d + n) def)
+shape_forth : (fs : List TypedFunction) (n : ℕ) (defs : List TypedDef) (d : ℕ) (def : TypedDef) → slice_get defs d ≡ Some def → slice_get (shapes_from fs n defs) d ≡ Some (shape_of fs (d + n) def)
 shape_forth fs n [] d def e = absurd (grind arith)
-shape_forth fs n (x ∷ defs) zero def e = (let z : n ≡ 0 + n = omega arith in ap (λ def. Some (Rattle.mir_syntax.specs.Shapes.shape_of fs n def)) (let z : x ≡ def = grind arith in z) ∙ ap (λ n. Some (Rattle.mir_syntax.specs.Shapes.shape_of fs n def)) z)
-shape_forth fs n (x ∷ defs) (suc d) def e = (let z : d + suc n ≡ suc d + n = omega arith in shape_forth fs (suc n) defs d def e ∙ ap (λ n. Some (Rattle.mir_syntax.specs.Shapes.shape_of fs n def)) z)
+shape_forth fs n (x ∷ defs) zero def e = (let z : n ≡ 0 + n = omega arith in ap (λ def. Some (shape_of fs n def)) (let z : x ≡ def = grind arith in z) ∙ ap (λ n. Some (shape_of fs n def)) z)
+shape_forth fs n (x ∷ defs) (suc d) def e = (let z : d + suc n ≡ suc d + n = omega arith in shape_forth fs (suc n) defs d def e ∙ ap (λ n. Some (shape_of fs n def)) z)
 
 module _ (C : Crate) (valid : Valid C) (within : Within C) where
   abbrev D : List Shape
@@ -146,9 +145,9 @@ module _ (C : Crate) (valid : Valid C) (within : Within C) where
   unfolding is_large_type
   nodes_few d def e = ltb-false most_nodes (nodes D (named d)) (or_false-left (nat_lt most_nodes (nodes D (named d))) (nat_lt most_units (length (units D (named d)))) (small d def e))
 
-  shape_here : (d : ℕ) (def : TypedDef) → slice_get C.defs d ≡ Some def → slice_get D d ≡ Some (Rattle.mir_syntax.specs.Shapes.shape_of C.functions d def)
+  shape_here : (d : ℕ) (def : TypedDef) → slice_get C.defs d ≡ Some def → slice_get D d ≡ Some (shape_of C.functions d def)
   unfolding shapes_of
-  shape_here d def e = (let z : d + 0 ≡ d = omega arith in shape_forth C.functions 0 C.defs d def e ∙ ap (λ n. Some (Rattle.mir_syntax.specs.Shapes.shape_of C.functions n def)) z)
+  shape_here d def e = (let z : d + 0 ≡ d = omega arith in shape_forth C.functions 0 C.defs d def e ∙ ap (λ n. Some (shape_of C.functions n def)) z)
 
   many : (d : ℕ) (s : Shape) → slice_get D d ≡ Some s → s.is_enum ≡ true → length s.variants ≤ nodes D (named d)
   unfolding nodes
@@ -165,7 +164,7 @@ module _ (C : Crate) (valid : Valid C) (within : Within C) where
       let (def, at, is) = shape_is C2 d s e in
       let there : slice_get C.defs d ≡ Some def = ap (λ ds. slice_get ds d) (sym same) ∙ at in
       let enum : def.is_enum ≡ true = ap (λ (s : Shape). s.is_enum) (sym is) ∙ q in
-      let l = many d (Rattle.mir_syntax.specs.Shapes.shape_of C.functions d def) (shape_here d def there) enum in
+      let l = many d (shape_of C.functions d def) (shape_here d def there) enum in
       let k = nodes_few d def there in
       let long : length s.variants ≡ length (map fields_tuple def.variants) = ap (λ (s : Shape). length s.variants) is in
       omega (arith, l, k, long)

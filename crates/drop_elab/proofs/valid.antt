@@ -5,3 +5,6 @@ pub mod GlueFine
 pub mod EndsFine
 pub mod Stays
 pub mod Calls
+pub mod Sizes
+pub mod UnitWeights
+pub mod Few

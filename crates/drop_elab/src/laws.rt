@@ -7,8 +7,8 @@ ghost use Rattle.mir_syntax.specs.Crate.{TypedBody, TypedFunction, Crate, body_o
 ghost use Rattle.mir_syntax.specs.Shapes.{Shape, shapes_of};
 ghost use Rattle.mir_semantics.specs.Refines.{Refines};
 ghost use Rattle.mir_rules.specs.Drops.{NoDrops};
-ghost use Rattle.mir_rules.specs.Limits.{most_in_body};
-ghost use Rattle.mir_rules.specs.Valid.{Valid, Within, at_function, ValidAt};
+ghost use Rattle.mir_rules.specs.Limits.{most_in_body, blocks_count, locals_count};
+ghost use Rattle.mir_rules.specs.Valid.{Valid, Within, at_function, ValidAt, Elaborable};
 ghost use Rattle.drop_elab.specs.Destructors.{AddsDestructors};
 ghost use Rattle.drop_elab.specs.Elab.{IsElab};
 ghost use Rattle.drop_elab.specs.Elaborated.{elaborated};
@@ -40,11 +40,19 @@ pub fn elab_refines()
 {}
 
 /// A valid crate in which one body is elaborated is valid. In the place of a valid body the elaborated body is valid where it has no more blocks
-/// and locals than a body may have. It calls only what the body calls, and destructors of what the body drops.
+/// and locals than a body may have, as where the body's drops are few enough. It calls only what the body calls, and destructors of what the
+/// body drops.
 pub fn elab_stays_valid()
     ensures of_a_crate { (C : Crate) → Valid C → (f : ℕ) (g : TypedFunction) → slice_get C.functions f ≡ Some g → TypesTupled (shapes_of C) g.body → FewVariants (shapes_of C) → (e : TypedBody) → IsElab (shapes_of C) g.body e → Valid (at_function C f g e) }
     ensures in_its_place { (C : Crate) (f : ℕ) (b : TypedBody) (valid : ValidAt C f b) → TypesTupled (shapes_of (at_function C f valid.function b)) b → FewVariants (shapes_of (at_function C f valid.function b)) → (e : TypedBody) → IsElab (shapes_of (at_function C f valid.function b)) b e → length e.blocks ≤ most_in_body → length e.locals ≤ most_in_body → ValidAt C f e }
+    ensures of_few_drops { (C : Crate) → Valid C → (f : ℕ) (g : TypedFunction) → slice_get C.functions f ≡ Some g → TypesTupled (shapes_of C) g.body → FewVariants (shapes_of C) → Elaborable C g.body → (e : TypedBody) → IsElab (shapes_of C) g.body e → ValidAt C f e }
     ensures calls { (C : Crate) (f : ℕ) (b : TypedBody) (valid : ValidAt C f b) → TypesTupled (shapes_of (at_function C f valid.function b)) b → (e : TypedBody) → IsElab (shapes_of (at_function C f valid.function b)) b e → AddsDestructors (shapes_of (at_function C f valid.function b)) e b }
+{}
+
+/// The elaborated body has no more blocks and locals than are counted of the body with the weights of its drops.
+pub fn elab_is_counted()
+    ensures blocks { (C : Crate) → Valid C → (f : ℕ) (g : TypedFunction) → slice_get C.functions f ≡ Some g → TypesTupled (shapes_of C) g.body → (e : TypedBody) → IsElab (shapes_of C) g.body e → length e.blocks ≤ blocks_count (shapes_of C) g.body }
+    ensures locals { (C : Crate) → Valid C → (f : ℕ) (g : TypedFunction) → slice_get C.functions f ≡ Some g → TypesTupled (shapes_of C) g.body → (e : TypedBody) → IsElab (shapes_of C) g.body e → length e.locals ≤ locals_count (shapes_of C) g.body }
 {}
 
 /// In a crate with the definitions of a program, and in a body that is read through the program's table of types, what is left of a tuple is one.

@@ -13,6 +13,6 @@
 mod laws;
 
 pub use laws::{
-    elab_is_one, elab_leaves_no_drop, elab_refines, elab_stays_valid, elaboration_is_decided,
-    enums_have_few_variants, types_are_tupled,
+    elab_is_counted, elab_is_one, elab_leaves_no_drop, elab_refines, elab_stays_valid,
+    elaboration_is_decided, enums_have_few_variants, types_are_tupled,
 };

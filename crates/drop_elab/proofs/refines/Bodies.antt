@@ -40,11 +40,11 @@ module _ (D : List Shape) (body : TypedBody) (us : List Place) (fs : List Flagge
       let (l', b', le, at, sl', sb') = laid_block all_locals all_blocks (suc i) ks (l + length (end_of i h l b).locals) (b + length (end_of i h l b).blocks) j k e (right_stands all_locals l (end_of i h l b).locals r.new_locals sl) (right_stands all_blocks b (end_of i h l b).blocks r.new_blocks sb) in
       (l', b', omega (arith, le), rw z at, rw z sl', rw z sb')
 
-stands_behind : {A : Type 0} (xs ys : List A) → StandsIn (xs ++ ys) (length xs) ys
+pub stands_behind : {A : Type 0} (xs ys : List A) → StandsIn (xs ++ ys) (length xs) ys
 stands_behind [] ys i x e = let z : 0 + i ≡ i = omega arith in rw z e
 stands_behind (h ∷ xs) ys i x e = let z : suc (length xs) + i ≡ suc (length xs + i) = omega arith in rw z (stands_behind xs ys i x e)
 
-front_stays : {A : Type 0} (xs ys : List A) (i : ℕ) (x : A) → slice_get xs i ≡ Some x → slice_get (xs ++ ys) i ≡ Some x
+pub front_stays : {A : Type 0} (xs ys : List A) (i : ℕ) (x : A) → slice_get xs i ≡ Some x → slice_get (xs ++ ys) i ≡ Some x
 front_stays [] ys i x e = absurd (grind arith)
 front_stays (h ∷ xs) ys zero x e = e
 front_stays (h ∷ xs) ys (suc i) x e = front_stays xs ys i x e

@@ -1,5 +1,6 @@
 -- A result comes to a place for a frame of the source: the units at or under the place begin, and all locals stay loose.
-use Rattle.std.proofs.Common.{◌≡◌, ◌⊎◌, inl, inr, refl, sym, ap, ap₂, ◌∙◌, subst, ℕ, ◌+◌, Bool, true, false, not, nat_eq, ◌&&◌, if◌then◌else◌, List, [], ◌∷◌, ◌++◌, length, Option, Some, None, slice_get, option_map, arith}
+use Rattle.std.proofs.Common.{◌≡◌, ◌⊎◌, inl, inr, refl, sym, ap, ap₂, ◌∙◌, subst, ℕ, ◌+◌, Bool, true, false, not, nat_eq, ◌&&◌, if◌then◌else◌, List, [], length, Some, None, slice_get, option_map, arith}
+use Rattle.std.proofs.lemmas.List.{append-nil}
 use Rattle.std.proofs.lemmas.Bool.{eqb-true}
 use Rattle.mir_syntax.specs.declared.body.Place.{Place}
 use Rattle.mir_syntax.specs.declared.body.Proj.{Proj}
@@ -8,7 +9,7 @@ use Rattle.mir_syntax.specs.Parts.{has_deref}
 use Rattle.mir_syntax.specs.Shapes.{Shape, path_ty, place_ty, needs_drop}
 use Rattle.mir_rules.specs.DefinitionRules.{holds}
 use Rattle.mir_rules.specs.Weights.{units}
-use Rattle.mir_semantics.specs.Values.{Addr, Value, put, at_path, whole, full}
+use Rattle.mir_semantics.specs.Values.{Addr, Value, put, at_path, whole}
 use Rattle.mir_semantics.specs.Memory.{Memory, local_at, value_at, write}
 use Rattle.mir_semantics.specs.Step.{Dest, allows, store}
 use Rattle.mir_renaming.specs.Renaming.{RootOf}
@@ -35,12 +36,8 @@ use Rattle.drop_elab.proofs.refines.Changes.{indirect_not, deref_indirect}
 use Rattle.drop_elab.proofs.refines.Stand as stand
 use Rattle.drop_elab.proofs.refines.Stand.{held_in, held}
 
-no_end : (ps : List Proj) → ps ++ [] ≡ ps
-no_end [] = refl
-no_end (p ∷ ps) = ap (λ qs. p ∷ qs) (no_end ps)
-
 put_there : (ps : List Proj) (w o old : Value) → at_path ps o ≡ Some old → at_path ps (put ps w o) ≡ Some w
-put_there ps w o old e = ap (λ qs. at_path qs (put ps w o)) (sym (no_end ps)) ∙ put_under ps [] w o old e
+put_there ps w o old e = ap (λ qs. at_path qs (put ps w o)) (sym (append-nil ps)) ∙ put_under ps [] w o old e
 
 module _ (X : Change) (inits : Inits) (apart : (d : ℕ) → holds X.source.shapes (length X.source.shapes) d d ≡ false) (proper : ProperShapes X.source.shapes) (proper_locals : (x : ℕ) (t : Tree) → slice_get X.body1.locals x ≡ Some t → Proper t) where
   abbrev D : List Shape
@@ -94,10 +91,6 @@ module _ (X : Change) (inits : Inits) (apart : (d : ℕ) → holds X.source.shap
     twice : (b : Bool) → not (not b) ≡ b
     twice true = refl
     twice false = refl
-
-    under_parts : (a b : Bool) → (a && b) ≡ true → (a ≡ true) × (b ≡ true)
-    under_parts true b e = (refl, e)
-    under_parts false b e = absurd (grind arith)
 
     no_and : (b : Bool) → (b && false) ≡ false
     no_and true = refl

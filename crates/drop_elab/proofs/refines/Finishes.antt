@@ -1,5 +1,5 @@
 -- The end of a block of the elaborated function that is no drop and no call: both do the same.
-use Rattle.std.proofs.Common.{◌≡◌, inl, refl, sym, ap, ap₂, ◌∙◌, subst, ℕ, suc, ◌<◌, Bool, true, false, ◌||◌, nat_eq, if◌then◌else◌, List, [], ◌∷◌, ◌++◌, map, length, drop, Option, Some, None, slice_get, arith}
+use Rattle.std.proofs.Common.{◌≡◌, inl, refl, sym, ap, ap₂, ◌∙◌, subst, ℕ, suc, ◌<◌, Bool, true, false, ◌||◌, nat_eq, if◌then◌else◌, List, [], ◌∷◌, ◌++◌, map, length, Some, None, slice_get, arith}
 use Rattle.mir_syntax.specs.declared.body.Arm.{Arm}
 use Rattle.mir_syntax.specs.declared.body.Place.{Place}
 use Rattle.mir_syntax.specs.declared.body.Operand.{Operand}
@@ -8,12 +8,12 @@ use Rattle.mir_syntax.specs.declared.body.Term.TheVariants.{Goto, Switch, Return
 use Rattle.mir_syntax.specs.Parts.{arm_block, term_operands, targets}
 use Rattle.mir_syntax.specs.Tree.{Tree}
 use Rattle.mir_syntax.specs.Shapes.{Shape}
-use Rattle.mir_syntax.specs.Crate.{TypedStmt, TypedBlock, TypedBody}
+use Rattle.mir_syntax.specs.Crate.{TypedBlock, TypedBody}
 use Rattle.mir_num.specs.Numbers.{flag}
 use Rattle.mir_rules.specs.DefinitionRules.{holds}
 use Rattle.mir_semantics.specs.Memory.{Memory, local_at}
 use Rattle.mir_semantics.specs.Values.{Value, number}
-use Rattle.mir_semantics.specs.Step.{Here, Control, State, Next, take_arm, to_block, finish, perform, step, read_number}
+use Rattle.mir_semantics.specs.Step.{Here, State, Next, take_arm, to_block, finish, perform, step, read_number}
 use Rattle.mir_renaming.specs.Renaming.{Renaming}
 use Rattle.mir_renaming.proofs.Ghosts.{Flat}
 use Rattle.mir_relate.specs.Alike.{Between, Sides, Reads, AllRead}
@@ -28,14 +28,12 @@ use Rattle.mir_relate.proofs.Numbered as numbered
 use Rattle.mir_relate.proofs.Own as own
 use Rattle.mir_relate.proofs.Rest.{drop_none}
 use Rattle.mir_relate.proofs.Running as running
-use Rattle.move_paths.specs.Effects.{term_effect, moved_by}
+use Rattle.move_paths.specs.Effects.{term_effect, moved_by, ended_if}
 use Rattle.move_paths.specs.Inits.{after_effect}
-use Rattle.drop_elab.specs.Plan.{Laid}
-use Rattle.drop_elab.specs.Elab.{Inits, Flagged, with_settings}
+use Rattle.drop_elab.specs.Elab.{Inits, Flagged}
 use Rattle.drop_elab.proofs.refines.Items.{Proper, ProperShapes}
 use Rattle.drop_elab.proofs.refines.Bodies.{block_of, elab_block}
 use Rattle.drop_elab.proofs.refines.Sound.{Has, SoundAt, SoundBefore, sound_start, sound_along}
-use Rattle.drop_elab.proofs.refines.Places.{none_left}
 use Rattle.drop_elab.proofs.refines.Stand as stand
 use Rattle.drop_elab.proofs.refines.Stand.{held}
 use Rattle.drop_elab.proofs.refines.Stages as stages
@@ -178,10 +176,10 @@ module _ (X : Change) (inits : Inits) (apart : (d : ℕ) → holds X.source.shap
     edge_read : (o : Operand) → IsScalar D X.body1.locals o → changes.Reading X o → ((u : Place) (h : Bool) → Has us u → after_effect (term_effect u k.term) h ≡ h) → (t : ℕ) → Has (targets k.term) t → (i : ℕ) (m2 m1 : Memory) → Q m2 m1 → read_number H1 s1.memory o ≡ Some (i, m1) → To m2 m1 t t
     edge_read o sc (th, ne) calm t ht i m2 m1 q e =
         let (l, tu) = changes.number_turns X inits apart proper proper_locals V.needs r.typed1.types (V.valid1.blank_ok r.typed1.types) f1 lok s1.memory o (i, m1) th ne e now in
-        edge_to m2 m1 q l (λ u hu. tu u hu ∙ ap (λ b. after_effect (Rattle.move_paths.specs.Effects.ended_if (b || false)) (held s1.memory f1 u)) (scalar_moves X inits apart proper proper_locals o u sc hu)) calm t ht
+        edge_to m2 m1 q l (λ u hu. tu u hu ∙ ap (λ b. after_effect (ended_if (b || false)) (held s1.memory f1 u)) (scalar_moves X inits apart proper proper_locals o u sc hu)) calm t ht
 
-    calm_scalars : (os : List Operand) (u : Place) (h : Bool) → AllScalar D X.body1.locals os → Has us u → after_effect (Rattle.move_paths.specs.Effects.ended_if (moved_by os u)) h ≡ h
-    calm_scalars os u h sc hu = ap (λ b. after_effect (Rattle.move_paths.specs.Effects.ended_if b) h) (scalars_move X inits apart proper proper_locals os u sc hu)
+    calm_scalars : (os : List Operand) (u : Place) (h : Bool) → AllScalar D X.body1.locals os → Has us u → after_effect (ended_if (moved_by os u)) h ≡ h
+    calm_scalars os u h sc hu = ap (λ b. after_effect (ended_if b) h) (scalars_move X inits apart proper proper_locals os u sc hu)
 
     abbrev SameQ : Term → Term → Type 0
     SameQ = own.SameStepIf X P V Inv frames n s2 s1 r [] s1.callers refl (omega arith) be sides Q left refl start

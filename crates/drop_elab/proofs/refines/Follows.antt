@@ -1,5 +1,6 @@
 -- What the target does first comes first: it comes to where it can follow, and then a step of a drop of the source has its answer.
 use Rattle.std.proofs.Common.{◌≡◌, ◌⊎◌, inl, inr, refl, sym, ap, ◌∙◌, subst, ℕ, zero, suc, false, List, [], length, Option, Some, None, slice_get, arith}
+use Rattle.mir_renaming.specs.Renaming.{Renaming}
 use Rattle.mir_syntax.specs.declared.body.Place.{Place}
 use Rattle.mir_syntax.specs.declared.body.Term.{Term}
 use Rattle.mir_syntax.specs.declared.body.Term.TheVariants.{Goto, Switch, Return, Unreachable, Drop, Call, Assert}
@@ -12,7 +13,7 @@ use Rattle.mir_semantics.specs.Step.{Code, Dropping, Control, State, Next, on, s
 use Rattle.mir_renaming.proofs.Typed.{Typed, step_typed}
 use Rattle.mir_relate.specs.Simulation.{moves, keep_on}
 use Rattle.drop_elab.specs.Elab.{Inits}
-use Rattle.mir_relate.specs.Frames.{Change, target, Pass, Below}
+use Rattle.mir_relate.specs.Frames.{Change, target, Pass, Below, Base}
 use Rattle.mir_relate.specs.Pass.{Valids, FrameLaws, Answers, Related}
 use Rattle.mir_relate.proofs.Mild.{gentle_none}
 use Rattle.mir_relate.proofs.Leaves.{some_val}
@@ -54,7 +55,7 @@ module _ (X : Change) (inits : Inits) (apart : (d : ℕ) → holds X.source.shap
     pub frame : stand.Frame X inits apart proper related.core.lent s2.top s1.top s2.memory s1.memory
 
   -- where the target comes
-  abbrev pub come_to : (s : State) (n : ℕ) (j : Rattle.mir_renaming.specs.Renaming.Renaming) (c1 : Rattle.mir_semantics.specs.Step.Control) (m1 : Memory) → stand.Comes X inits apart proper s n j s.top c1 s.memory m1 → State
+  abbrev pub come_to : (s : State) (n : ℕ) (j : Renaming) (c1 : Control) (m1 : Memory) → stand.Comes X inits apart proper s n j s.top c1 s.memory m1 → State
   come_to s n j c1 m1 O = record s { memory = O.memory; top = O.control }
 
   pub comes_there : (n : ℕ) (s2 s1 : State) (r : Related X (stand.pass X inits apart proper) V Inv n s2 s1) → Below X (stand.pass X inits apart proper) r.core.lent s2.top.dest s1.top.dest s2.top.frame s1.top.frame s2.callers s1.callers s2.memory s1.memory → (O : stand.Comes X inits apart proper s2 n r.core.lent s2.top s1.top s2.memory s1.memory) → Follows n (come_to s2 n r.core.lent s1.top s1.memory O) s1
@@ -71,7 +72,7 @@ module _ (X : Change) (inits : Inits) (apart : (d : ℕ) → holds X.source.shap
       at_control : (c : Control) (m : Memory) → c.frame ≡ s2.top.frame → c.dest ≡ s2.top.dest → Below X (stand.pass X inits apart proper) r.core.lent s2.top.dest s1.top.dest s2.top.frame s1.top.frame s2.callers s1.callers m s1.memory → Below X (stand.pass X inits apart proper) r.core.lent c.dest s1.top.dest c.frame s1.top.frame s2.callers s1.callers m s1.memory
       at_control c m f d b = subst (λ f. Below X (stand.pass X inits apart proper) r.core.lent c.dest s1.top.dest f s1.top.frame s2.callers s1.callers m s1.memory) (sym f) (subst (λ d. Below X (stand.pass X inits apart proper) r.core.lent d s1.top.dest s2.top.frame s1.top.frame s2.callers s1.callers m s1.memory) (sym d) b)
 
-      c_base : (c : Control) → c.frame ≡ s2.top.frame → (m : Memory) → Rattle.mir_relate.specs.Frames.Base r.core.lent (record s2 { memory = m; top = c }) s1
+      c_base : (c : Control) → c.frame ≡ s2.top.frame → (m : Memory) → Base r.core.lent (record s2 { memory = m; top = c }) s1
       c_base c f m = record { fresh1 = r.core.base.fresh1; fresh2 = r.core.base.fresh2; top1 = r.core.base.top1; top2 = (let t = r.core.base.top2 in omega (arith, f, t)); answers = r.core.base.answers; trace = r.core.base.trace }
 
       left : (m : Memory) (c : Control) → stand.Past X inits apart proper s2.top.frame s2.memory m → stand.Frame X inits apart proper r.core.lent c s1.top m s1.memory → c.frame ≡ s2.top.frame → own.Left X (stand.pass X inits apart proper) V Inv frames n s2 s1 r [] s1.callers refl (omega arith) be m s1.memory

@@ -1,15 +1,16 @@
 -- Frames of the elaborated function open, wait and go on: the layer's laws of them.
-use Rattle.std.proofs.Common.{◌≡◌, ◌⊎◌, inl, inr, refl, sym, ap, ap₂, ◌∙◌, subst, ℕ, ◌<◌, Bool, true, false, List, [], ◌∷◌, ◌++◌, length, Option, Some, None, slice_get, arith}
+use Rattle.std.proofs.Common.{◌≡◌, ◌⊎◌, inl, inr, refl, sym, ap, ap₂, ◌∙◌, subst, ℕ, ◌<◌, true, false, List, [], ◌∷◌, ◌++◌, length, Option, Some, None, slice_get, arith}
+use Rattle.mir_syntax.specs.declared.body.Callee.{Callee}
+use Rattle.mir_syntax.specs.declared.body.Operand.{Operand}
 use Rattle.mir_syntax.specs.declared.body.Place.{Place}
-use Rattle.mir_syntax.specs.declared.body.Term.{Term}
 use Rattle.mir_syntax.specs.declared.body.Term.TheVariants.{Call}
 use Rattle.mir_syntax.specs.Tree.{Tree}
-use Rattle.mir_syntax.specs.Crate.{TypedBlock, TypedBody}
+use Rattle.mir_syntax.specs.Crate.{TypedBlock}
 use Rattle.mir_syntax.specs.Shapes.{Shape, place_ty}
 use Rattle.mir_rules.specs.DefinitionRules.{holds}
 use Rattle.mir_semantics.specs.Values.{Value, whole}
 use Rattle.mir_semantics.specs.Memory.{Memory, local_at, close_frame}
-use Rattle.mir_semantics.specs.Step.{Here, Dest, Dropping, Control, State, Next, type_of, store, go_on, destroyed, return_to}
+use Rattle.mir_semantics.specs.Step.{Dest, Dropping, Control, State, Next, type_of, store, go_on, destroyed, return_to}
 use Rattle.mir_syntax.proofs.Binds.{bind_some, some_bind}
 use Rattle.mir_renaming.specs.Renaming.{Renaming}
 use Rattle.mir_renaming.proofs.Memory.{write_other}
@@ -19,9 +20,8 @@ use Rattle.mir_renaming.proofs.Types.{TypeMap, MemTy, AddrTy}
 use Rattle.mir_renaming.proofs.Typed.{FramesTy, TermTy}
 use Rattle.drop_elab.specs.Elab.{Inits}
 use Rattle.mir_relate.specs.Alike.{Same}
-use Rattle.mir_relate.specs.Leaves.{Leaves}
-use Rattle.mir_relate.specs.Frames.{Change, target, DestsRel, Pass, Below}
-use Rattle.mir_relate.specs.Pass.{GentleTo, Valids, FrameLaws, Goes, Related}
+use Rattle.mir_relate.specs.Frames.{Change, DestsRel, Pass, Below, lowest}
+use Rattle.mir_relate.specs.Pass.{GentleTo, Valids, FrameLaws, Goes, Related, KeptLaw}
 use Rattle.mir_relate.proofs.Leaves.{some_val, leaves_none, leaves_less}
 use Rattle.mir_relate.proofs.Mild.{gentle_on}
 use Rattle.mir_relate.proofs.Near as near
@@ -46,7 +46,7 @@ module _ (X : Change) (inits : Inits) (apart : (d : ℕ) → holds X.source.shap
   abbrev pub at2 : slice_get X.bodies X.f ≡ Some (stand.E X inits apart proper)
   at2 = X.at2 ∙ ap (λ b. Some b) is2
 
-  abbrev kept : Rattle.mir_relate.specs.Pass.KeptLaw X (stand.pass X inits apart proper)
+  abbrev kept : KeptLaw X (stand.pass X inits apart proper)
   kept = kept_law X inits apart proper proper_locals S V.needs
 
   -- a result leaves the locals that the source hasn't
@@ -59,7 +59,7 @@ module _ (X : Change) (inits : Inits) (apart : (d : ℕ) → holds X.source.shap
       grind arith))
 
   -- the place of a call of the source has a type
-  pub called_ty : (i : ℕ) (k : TypedBlock) (p : Place) (g : Rattle.mir_syntax.specs.declared.body.Callee.Callee) (os : List Rattle.mir_syntax.specs.declared.body.Operand.Operand) (u : ℕ) → slice_get X.body1.blocks i ≡ Some k → k.term ≡ Call p g os u → (t : Tree) × (place_ty X.source.shapes X.body1.locals p ≡ Some t)
+  pub called_ty : (i : ℕ) (k : TypedBlock) (p : Place) (g : Callee) (os : List Operand) (u : ℕ) → slice_get X.body1.blocks i ≡ Some k → k.term ≡ Call p g os u → (t : Tree) × (place_ty X.source.shapes X.body1.locals p ≡ Some t)
   unfolding type_of
   called_ty i k p g os u ek term =
       let (t, pt, ct) = subst (TermTy X.source (record { shapes = X.source.shapes; locals = X.body1.locals; frame = 0 })) term (V.valid1.terms 0 X.f X.body1 i k X.at1 ek) in
@@ -104,7 +104,7 @@ module _ (X : Change) (inits : Inits) (apart : (d : ℕ) → holds X.source.shap
     resumes = λ n s2 s1 r m2 m1 c2 c1 gs ds cs2 v w x q q2 p2 p1 l wt be l1 l2 lo dt hv res k ge. resumes n s2 s1 r m2 m1 c2 c1 gs ds cs2 v w x q p1 l wt be l1 l2 dt hv res.no_hole k ge;
   }
     where
-      resumes : (n : ℕ) (s2 s1 : State) (r : Related X (stand.pass X inits apart proper) V Inv n s2 s1) (m2 m1 : Memory) (c2 c1 : Control) (gs ds cs2 : List Control) (v w : Value) (x : Next) → s1.callers ≡ c1 ∷ (gs ++ ds) → m1 ≡ close_frame s1.memory s1.top.frame → Linked r.core.lent r.core.lent m2 m1 → (stand.pass X inits apart proper).waits r.core.lent s2.top.dest s1.top.dest c2 c1 gs m2 m1 → Below X (stand.pass X inits apart proper) r.core.lent c2.dest (Rattle.mir_relate.specs.Frames.lowest c1 gs).dest c2.frame (Rattle.mir_relate.specs.Frames.lowest c1 gs).frame cs2 ds m2 m1 → c1.frame < s1.top.frame → c2.frame < s2.top.frame → ((d : Dest) → s1.top.dest ≡ Some d → (t : Tree) × AddrTy X.source.shapes r.typed1.types d.addr t) → Same r.core.lent v w → whole v ≡ true → return_to X.source.shapes s1 m1 s1.top.dest (c1 ∷ (gs ++ ds)) v ≡ Some x → GentleTo X r.typed1.types c1.frame m1 x → Goes X P (return_to X.source.shapes s2 m2 s2.top.dest (c2 ∷ cs2) w) x
+      resumes : (n : ℕ) (s2 s1 : State) (r : Related X (stand.pass X inits apart proper) V Inv n s2 s1) (m2 m1 : Memory) (c2 c1 : Control) (gs ds cs2 : List Control) (v w : Value) (x : Next) → s1.callers ≡ c1 ∷ (gs ++ ds) → m1 ≡ close_frame s1.memory s1.top.frame → Linked r.core.lent r.core.lent m2 m1 → (stand.pass X inits apart proper).waits r.core.lent s2.top.dest s1.top.dest c2 c1 gs m2 m1 → Below X (stand.pass X inits apart proper) r.core.lent c2.dest (lowest c1 gs).dest c2.frame (lowest c1 gs).frame cs2 ds m2 m1 → c1.frame < s1.top.frame → c2.frame < s2.top.frame → ((d : Dest) → s1.top.dest ≡ Some d → (t : Tree) × AddrTy X.source.shapes r.typed1.types d.addr t) → Same r.core.lent v w → whole v ≡ true → return_to X.source.shapes s1 m1 s1.top.dest (c1 ∷ (gs ++ ds)) v ≡ Some x → GentleTo X r.typed1.types c1.frame m1 x → Goes X P (return_to X.source.shapes s2 m2 s2.top.dest (c2 ∷ cs2) w) x
       resumes n s2 s1 r m2 m1 c2 c1 [] ds cs2 v w x q p1 l (e, fr, h) be l1 l2 dt hv wh k ge = pick h
         where
           pick : ((s1.top.dest ≡ None) × stand.Waits X inits apart proper s2.top.dest c2 c1 m2 m1) ⊎ stand.Called X inits apart proper r.core.lent s2.top.dest s1.top.dest c2 c1 m2 m1 → Goes X P (return_to X.source.shapes s2 m2 s2.top.dest (c2 ∷ cs2) w) x

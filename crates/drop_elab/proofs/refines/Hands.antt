@@ -1,25 +1,22 @@
 -- A call of the elaborated function: the target clears the flags of what it moves, and then both call.
-use Rattle.std.proofs.Common.{◌≡◌, ◌⊎◌, inl, inr, refl, sym, ap, ap₂, ◌∙◌, subst, ℕ, ◌<◌, Bool, true, false, ◌&&◌, ◌||◌, if◌then◌else◌, List, [], ◌∷◌, ◌++◌, length, drop, Option, Some, None, slice_get, arith}
+use Rattle.std.proofs.Common.{◌≡◌, inr, refl, sym, ap, ap₂, ◌∙◌, subst, ℕ, ◌<◌, Bool, true, false, ◌&&◌, ◌||◌, if◌then◌else◌, List, [], length, Some, None, slice_get, arith}
 use Rattle.mir_syntax.specs.declared.body.Place.{Place}
-use Rattle.mir_syntax.specs.declared.body.Operand.{Operand}
-use Rattle.mir_syntax.specs.declared.body.Callee.{Callee}
 use Rattle.mir_syntax.specs.declared.body.Term.{Term}
-use Rattle.mir_syntax.specs.declared.body.Term.TheVariants.{Goto, Call}
+use Rattle.mir_syntax.specs.declared.body.Term.TheVariants.{Call}
 use Rattle.mir_syntax.specs.Parts.{has_deref, term_operands, targets}
 use Rattle.mir_syntax.specs.Tree.{Tree}
-use Rattle.mir_syntax.specs.Shapes.{Shape, path_ty, place_ty, needs_drop}
-use Rattle.mir_syntax.specs.Crate.{TypedStmt, TypedBlock, TypedBody}
+use Rattle.mir_syntax.specs.Shapes.{Shape, path_ty, needs_drop}
+use Rattle.mir_syntax.specs.Crate.{TypedBlock, TypedBody}
 use Rattle.mir_num.specs.Numbers.{flag}
 use Rattle.mir_rules.specs.DefinitionRules.{holds}
 use Rattle.mir_semantics.specs.Memory.{Memory, local_at}
-use Rattle.mir_semantics.specs.Values.{Addr, Value, number, whole}
-use Rattle.mir_semantics.specs.Step.{Here, Dest, Control, State, Next, type_of, resolve, guard_of, dest_of, store, read_all, to_block, finish, perform, step}
+use Rattle.mir_semantics.specs.Values.{Value, number, whole, blank}
+use Rattle.mir_semantics.specs.Step.{Here, Dest, Control, State, Next, type_of, guard_of, dest_of, store, read_all, to_block, finish, perform, step}
 use Rattle.mir_syntax.proofs.Binds.{bind_some}
 use Rattle.mir_renaming.specs.Renaming.{Renaming}
 use Rattle.mir_renaming.proofs.Ghosts.{Flat}
 use Rattle.mir_renaming.proofs.Statements.{DestRel}
 use Rattle.mir_renaming.proofs.Types.{TypeMap, HasTy, AddrTy, some_eq, dest_ty}
-use Rattle.mir_relate.specs.Simulation.{moves}
 use Rattle.mir_relate.specs.Alike.{Same, Between}
 use Rattle.mir_relate.specs.Renumbered.{TermSame}
 use Rattle.mir_relate.specs.Frames.{Change, target, Pass, Below}
@@ -33,9 +30,9 @@ use Rattle.mir_relate.proofs.Numbered as numbered
 use Rattle.mir_relate.proofs.Own as own
 use Rattle.mir_relate.proofs.Running as running
 use Rattle.mir_relate.proofs.Single.{dest_plain}
-use Rattle.move_paths.specs.Effects.{is_under, moved, begun, begun_or_ended, ended_if, term_effect, moved_by}
+use Rattle.move_paths.specs.Effects.{moved, begun, begun_or_ended, ended_if, moved_by}
 use Rattle.move_paths.specs.Inits.{after_effect}
-use Rattle.drop_elab.specs.Elab.{Inits, Flagged, only_if}
+use Rattle.drop_elab.specs.Elab.{Inits, only_if}
 use Rattle.drop_elab.proofs.refines.Items.{Proper, ProperShapes}
 use Rattle.drop_elab.proofs.refines.Sound.{Has, SoundAt, sound_along}
 use Rattle.drop_elab.proofs.refines.Stand as stand
@@ -87,7 +84,7 @@ module _ (X : Change) (inits : Inits) (apart : (d : ℕ) → holds X.source.shap
   abbrev H1 : Here
   H1 = record { shapes = X.source.shapes; locals = X.body1.locals; frame = s1.top.frame }
 
-  abbrev bok : (t : Tree) → HasTy X.source.shapes r.typed1.types t (Rattle.mir_semantics.specs.Values.blank X.source.shapes t)
+  abbrev bok : (t : Tree) → HasTy X.source.shapes r.typed1.types t (blank X.source.shapes t)
   bok = V.valid1.blank_ok r.typed1.types
 
   abbrev lok : (x : ℕ) (t : Tree) → slice_get X.body1.locals x ≡ Some t → r.typed1.types s1.top.frame x ≡ Some t

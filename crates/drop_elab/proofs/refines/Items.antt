@@ -26,6 +26,11 @@ Proper = tuples.Tupled
 abbrev pub ProperShapes : List Shape → Type 0
 ProperShapes D = (d : ℕ) (s : Shape) → slice_get D d ≡ Some s → (k : ℕ) (t : Tree) → slice_get s.variants k ≡ Some t → IsTuple t × Proper t
 
+-- so of the first variant
+pub first_proper : (ts : List Tree) → ((k : ℕ) (t : Tree) → slice_get ts k ≡ Some t → IsTuple t × Proper t) → IsTuple (first_variant ts) × Proper (first_variant ts)
+first_proper [] h = (tt, tt)
+first_proper (t ∷ ts) h = h 0 t refl
+
 -- the place of a frame's own local that an address without a dereference is
 abbrev pub place_of : Addr → Place
 place_of a = record { local = a.local; proj = a.path }

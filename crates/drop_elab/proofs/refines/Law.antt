@@ -1,33 +1,31 @@
 -- The laws of the elaborated function, from the rules of the source's body.
-use Rattle.std.proofs.Common.{◌≡◌, ◌⊎◌, inl, inr, refl, sym, ap, ap₂, ◌∙◌, subst, ℕ, zero, suc, Bool, true, false, List, [], ◌∷◌, ◌++◌, length, drop, Option, Some, None, slice_get, arith}
+use Rattle.std.proofs.Common.{◌≡◌, ◌⊎◌, inl, inr, refl, sym, ap, ◌∙◌, subst, ℕ, Bool, true, false, List, [], ◌∷◌, ◌++◌, length, drop, Option, Some, None, slice_get, arith}
+use Rattle.std.proofs.lemmas.List.{append-nil}
 use Rattle.mir_syntax.specs.declared.body.Place.{Place}
 use Rattle.mir_syntax.specs.declared.body.Operand.{Operand}
 use Rattle.mir_syntax.specs.declared.body.Callee.{Callee}
 use Rattle.mir_syntax.specs.declared.body.Term.{Term}
 use Rattle.mir_syntax.specs.declared.body.Term.TheVariants.{Goto, Switch, Return, Unreachable, Drop, Call, Assert}
-use Rattle.mir_syntax.specs.Parts.{is_direct, rvalue_operands, targets}
 use Rattle.mir_syntax.specs.Tree.{Tree}
-use Rattle.mir_syntax.specs.Shapes.{Shape, path_through}
-use Rattle.mir_syntax.specs.Crate.{TypedStmt, assign, TypedBlock, TypedBody}
+use Rattle.mir_syntax.specs.Shapes.{Shape}
+use Rattle.mir_syntax.specs.Crate.{TypedStmt, TypedBlock, TypedBody}
 use Rattle.mir_rules.specs.DefinitionRules.{holds}
-use Rattle.mir_semantics.specs.Memory.{Memory, local_at}
+use Rattle.mir_semantics.specs.Memory.{local_at}
 use Rattle.mir_semantics.specs.Values.{Value}
 use Rattle.mir_semantics.specs.Step.{Dropping, State, Next, step}
-use Rattle.mir_renaming.proofs.Ghosts.{Flat}
 use Rattle.mir_renaming.proofs.Typed.{Typed}
 use Rattle.mir_relate.specs.Simulation.{moves}
-use Rattle.mir_relate.specs.Frames.{Change, target, Pass, Below}
-use Rattle.mir_relate.specs.Pass.{Valids, FrameLaws, Laws, Answers, Related}
-use Rattle.mir_relate.proofs.Leaves.{some_val}
+use Rattle.mir_relate.specs.Frames.{Change, target, Pass}
+use Rattle.mir_relate.specs.Pass.{Valids, FrameLaws, Laws, Answers}
 use Rattle.mir_relate.proofs.OneForOne.{own_laws, KeepsRuns}
 use Rattle.mir_relate.proofs.Rest.{drop_none}
 use Rattle.mir_relate.proofs.Running as running
 use Rattle.move_paths.specs.Effects.{moved, begun}
 use Rattle.move_paths.specs.Inits.{after_effect}
 use Rattle.drop_elab.specs.Plan.{Laid}
-use Rattle.drop_elab.specs.Elab.{Inits, IsInits, Status, Flagged, settings, with_settings, only_if, call_end, lay_end, statuses_at, want_flags}
+use Rattle.drop_elab.specs.Elab.{Inits, Status, Flagged, settings, with_settings, only_if, call_end, lay_end, statuses_at, want_flags}
 use Rattle.drop_elab.proofs.refines.Items.{Proper, ProperShapes}
-use Rattle.drop_elab.proofs.refines.Bodies.{block_of, elab_block, end_of}
+use Rattle.drop_elab.proofs.refines.Bodies.{block_of, elab_block}
 use Rattle.drop_elab.proofs.refines.Places.{Stands, head_stands, none_left}
 use Rattle.drop_elab.proofs.refines.Sound.{Has, SoundBefore}
 use Rattle.drop_elab.proofs.refines.Flags.{flag_local}
@@ -35,9 +33,6 @@ use Rattle.drop_elab.proofs.refines.Machine.{on_at, place_in}
 use Rattle.drop_elab.proofs.refines.Settings.{flags_distinct, run_settings}
 use Rattle.drop_elab.proofs.refines.Stand as stand
 use Rattle.drop_elab.proofs.refines.Stand.{held}
-use Rattle.drop_elab.proofs.refines.Sorts.{sorted}
-use Rattle.drop_elab.proofs.refines.Edging.{rows_long}
-use Rattle.drop_elab.proofs.refines.Edging as edging
 use Rattle.drop_elab.proofs.refines.Stages as stages
 use Rattle.drop_elab.proofs.refines.Ended as ended
 use Rattle.drop_elab.proofs.refines.Starts.{says_after, past_sets}
@@ -73,10 +68,6 @@ is_call (Assert o c words ps u) = inr (λ p g os v e. grind arith)
 call_parts : (body : TypedBody) (clears sets : List TypedStmt) (p : Place) (g : Callee) (os : List Operand) (next l b : ℕ) → Stands body l b (call_end clears (Call p g os next) (Call p g os b) next sets) → (next2 : ℕ) × ((call_end clears (Call p g os next) (Call p g os b) next sets).stmts ≡ clears) × ((call_end clears (Call p g os next) (Call p g os b) next sets).term ≡ Call p g os next2) × (((sets ≡ []) × (next2 ≡ next)) ⊎ (slice_get body.blocks next2 ≡ Some (record { stmts = sets; term = Goto next })))
 call_parts body clears [] p g os next l b st = (next, refl, refl, inl (refl, refl))
 call_parts body clears (x ∷ xs) p g os next l b st = (b, refl, refl, inr (head_stands body.blocks b (record { stmts = x ∷ xs; term = Goto next }) [] st.blocks))
-
-no_more : (ss : List TypedStmt) → ss ++ [] ≡ ss
-no_more [] = refl
-no_more (x ∷ ss) = ap (λ ss. x ∷ ss) (no_more ss)
 
 module _ (X : Change) (inits : Inits) (apart : (d : ℕ) → holds X.source.shapes (length X.source.shapes) d d ≡ false) (proper : ProperShapes X.source.shapes) (proper_locals : (x : ℕ) (t : Tree) → slice_get X.body1.locals x ≡ Some t → Proper t) (S : stages.Sorted X inits apart proper) (edges : ended.Edges X inits apart proper proper_locals S) (is2 : X.body2 ≡ stand.E X inits apart proper) (V : Valids X) (Inv : State → Type 0) (inv_begun : (s : State) (d : Dropping) → Inv s → Typed X.source V.valid1 (begun_state s d) → Inv (begun_state s d)) (rules : Rules X) (runs : KeepsRuns X Inv) where
   abbrev D : List Shape
@@ -126,7 +117,7 @@ module _ (X : Change) (inits : Inits) (apart : (d : ℕ) → holds X.source.shap
         let (next2, es, et, back) = call_parts E outs sets p g os u l b (subst (λ (e : Laid). Stands E l b e) is_end sn) in
         let change : Place → Option Bool = λ w. only_if (moved w k.term) false in
         let outs_is : outs ≡ settings change fs = ap (λ t. settings (λ w. only_if (moved w t) false) fs) (sym term) in
-        let dr' : drop s2.top.at k2.stmts ≡ settings change fs ++ [] = dr ∙ ap (λ ss. with_settings fs ss ++ end.stmts) (drop_none k.stmts s1.top.at none) ∙ ap (λ (e : Laid). e.stmts) is_end ∙ es ∙ outs_is ∙ sym (no_more (settings change fs)) in
+        let dr' : drop s2.top.at k2.stmts ≡ settings change fs ++ [] = dr ∙ ap (λ ss. with_settings fs ss ++ end.stmts) (drop_none k.stmts s1.top.at none) ∙ ap (λ (e : Laid). e.stmts) is_end ∙ es ∙ outs_is ∙ sym (append-nil (settings change fs)) in
         let e2' : slice_get E.blocks s2.top.block ≡ Some k2 = ap (slice_get E.blocks) st.block ∙ e2 in
         let (cn, a', m', mv, dn, se) = run_settings (target X) E s2 s2.top (ap (slice_get X.bodies) f.frame.function2 ∙ at2) change s2.top.block k2 e2' fs [] s2.memory s2.top.at (flags_distinct (length X.body1.locals) us (want_flags us inits 0 X.body1.blocks)) there dr' in
         let here : on_at s2 s2.top s2.memory s2.top.block s2.top.at ≡ s2 = ap (λ o. record s2 { top = record s2.top { dropping = o } }) (sym st.calm2) in

@@ -121,7 +121,7 @@ module _ (Y : Type 0) (D : List Shape) (each : Place → Y → Y) where
     enum_outer s d a rest e none en needs = one_outer a (named d) rest (units_named D apart d ∙ ap (units_of (units_def D (length D)) (needs_drop D (named d))) e ∙ ap (λ o. units_of_shape (units_def D (length D)) (needs_drop D (named d)) (is_some o) s) none ∙ ap (λ b. units_of_parts (units_def D (length D)) (needs_drop D (named d)) b s.variants) en ∙ ap one_unit needs)
 
     -- what needs no drop has no unit, whatever the depth
-    none_from : (of_def : ℕ → List (List Proj)) → ((d : ℕ) → needs_drop D (named d) ≡ false → of_def d ≡ []) → (n : ℕ) (t : Tree) → needs_drop D t ≡ false → units_from of_def n t ≡ []
+    pub none_from : (of_def : ℕ → List (List Proj)) → ((d : ℕ) → needs_drop D (named d) ≡ false → of_def d ≡ []) → (n : ℕ) (t : Tree) → needs_drop D t ≡ false → units_from of_def n t ≡ []
     unfolding needs_drop
     none_from of_def ih n (more t ts) e = ap₂ (λ us vs. map (under n) us ++ vs) (none_from of_def ih 0 t (or_false-left (needs_drop D t) (needs_drop D ts) e)) (none_from of_def ih (suc n) ts (or_false-right (needs_drop D t) (needs_drop D ts) e))
     none_from of_def ih n (named d) e = ih d e
@@ -130,7 +130,7 @@ module _ (Y : Type 0) (D : List Shape) (each : Place → Y → Y) where
     none_from of_def ih n (tree.ref t) e = refl
     none_from of_def ih n (tree.ref_mut t) e = refl
 
-    none_def : (m d : ℕ) → needs_drop D (named d) ≡ false → units_def D m d ≡ []
+    pub none_def : (m d : ℕ) → needs_drop D (named d) ≡ false → units_def D m d ≡ []
     unfolding needs_drop
     none_def zero d e = refl
     none_def (suc m) d e = ap (λ b. units_of (units_def D m) b (slice_get D d)) e ∙ go (slice_get D d) (sym (needs_drop_named D apart d) ∙ e) (λ k f. none_def m k f)

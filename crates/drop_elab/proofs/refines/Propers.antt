@@ -10,6 +10,15 @@ use Rattle.mir_semantics.specs.Values.{Value, at_path}
 use Rattle.mir_syntax.proofs.Binds.{bind_some}
 use Rattle.drop_elab.proofs.refines.Items.{IsTuple, Proper, ProperShapes}
 
+-- a tuple is the tuple of its own fields
+pub tuple_fields : (D : List Shape) (us : Tree) → IsTuple us → fields_of D us ≡ Some us
+tuple_fields D empty h = refl
+tuple_fields D (more t ts) h = refl
+tuple_fields D (scalar s) h = absurd h
+tuple_fields D (tree.ref t) h = absurd h
+tuple_fields D (tree.ref_mut t) h = absurd h
+tuple_fields D (named d) h = absurd h
+
 module _ (D : List Shape) (proper : ProperShapes D) where
   field_proper : (i : ℕ) (us u : Tree) → Proper us → field_ty us i ≡ Some u → Proper u
   field_proper zero (more t ts) u pr e = subst Proper (let z : t ≡ u = grind arith in z) pr.0

@@ -1,14 +1,14 @@
 -- A valid crate with an elaborated body, where that is valid too, refines the crate.
-use Rattle.std.proofs.Common.{◌≡◌, refl, sym, ap, ◌∙◌, subst, ℕ, zero, suc, true, false, List, [], ◌∷◌, length, Option, Some, None, slice_get, arith}
+use Rattle.std.proofs.Common.{◌≡◌, refl, sym, ap, ◌∙◌, subst, ℕ, suc, true, false, List, [], ◌∷◌, Option, Some, None, slice_get}
 use Rattle.mir_syntax.specs.declared.body.Place.{Place}
 use Rattle.mir_syntax.specs.declared.body.Operand.{Operand}
 use Rattle.mir_syntax.specs.declared.body.Term.{Term}
 use Rattle.mir_syntax.specs.declared.body.Term.TheVariants.{Goto, Switch, Return, Unreachable, Drop, Call, Assert}
 use Rattle.mir_syntax.specs.declared.types.ScalarTy.TheVariants as scalar_ty
 use Rattle.mir_syntax.specs.Parts.{is_direct, targets}
-use Rattle.mir_syntax.specs.Tree.{Tree}
+use Rattle.mir_syntax.specs.Tree.{Tree, empty, more}
 use Rattle.mir_syntax.specs.Shapes.{Shape, shapes_of, path_through}
-use Rattle.mir_syntax.specs.Crate.{TypedBlock, TypedBody, TypedFunction, Crate}
+use Rattle.mir_syntax.specs.Crate.{TypedBlock, TypedBody, TypedFunction, Crate, assign}
 use Rattle.mir_rules.specs.Valid.{Valid, with_body, at_function}
 use Rattle.mir_rules.proofs.Bodies.{Alike}
 use Rattle.mir_rules.proofs.Fixed.{apart_in}
@@ -21,7 +21,7 @@ use Rattle.mir_renaming.proofs.Types.{TypeMap}
 use Rattle.valid_runs.proofs.Blanks.{Tupled, shapes_tupled}
 use Rattle.valid_runs.proofs.Codes.{valid_code}
 use Rattle.valid_runs.proofs.Shown.{Free, bottom, step_flat, step_known}
-use Rattle.drop_elab.specs.Elab.{IsElab, elab_by}
+use Rattle.drop_elab.specs.Elab.{IsElab}
 use Rattle.drop_elab.specs.Tupled.{TypesTupled}
 use Rattle.mir_relate.specs.Frames.{Change}
 use Rattle.mir_relate.specs.Pass.{Valids}
@@ -41,8 +41,8 @@ pub proper_shapes : (C : Crate) (b : TypedBody) → TypesTupled (shapes_of C) b 
 proper_shapes C b tu d s e k t q = (tuple t (shapes_tupled C d s e k t q), tu.fields d s e k t q)
   where
     tuple : (t : Tree) → Tupled t → IsTuple t
-    tuple Rattle.mir_syntax.specs.Tree.empty h = tt
-    tuple (Rattle.mir_syntax.specs.Tree.more u us) h = tt
+    tuple empty h = tt
+    tuple (more u us) h = tt
     tuple t h = absurd h
 
 -- operands of messages are scalar
@@ -103,7 +103,7 @@ module _ (C : Crate) (valid : Valid C) (f : ℕ) (g : TypedFunction) (there : sl
     first = first_block C g.body (body_formed_at C valid f g there);
     stmts = λ i n k s ek es. stmt_self C g.body s (stmt_formed_at C g.body (body_formed_at C valid f g there) i n k s ek es);
     terms = λ i k ek. term_self C g.body k.term (term_formed_at C g.body (body_formed_at C valid f g there) i k ek);
-    assigns = λ i n k p r ek es. (stmt_at C valid f i n g k (Rattle.mir_syntax.specs.Crate.assign p r) there ek es).moves;
+    assigns = λ i n k p r ek es. (stmt_at C valid f i n g k (assign p r) there ek es).moves;
     moves = λ i k ek. (term_at C valid f i g k there ek).moves;
     scalars = λ i k ek. scalar_term C (shapes_of C) g.body.locals k.term (term_at C valid f i g k there ek).own;
   }

@@ -1,18 +1,17 @@
 -- A call's result has come to a frame of the elaborated function: the target sets the flags of what it initialises, and follows again.
-use Rattle.std.proofs.Common.{◌≡◌, ◌⊎◌, inl, inr, refl, sym, ap, ap₂, ◌∙◌, subst, ℕ, zero, suc, ◌+◌, Bool, true, false, ◌||◌, if◌then◌else◌, List, [], ◌∷◌, ◌++◌, length, drop, Option, Some, None, slice_get, arith}
+use Rattle.std.proofs.Common.{◌≡◌, ◌⊎◌, inl, inr, refl, sym, ap, ap₂, ◌∙◌, subst, ℕ, ◌+◌, Bool, true, false, ◌||◌, if◌then◌else◌, List, [], ◌++◌, length, drop, Option, Some, None, slice_get, arith}
+use Rattle.std.proofs.lemmas.List.{append-nil}
 use Rattle.mir_syntax.specs.declared.body.Place.{Place}
-use Rattle.mir_syntax.specs.declared.body.Operand.{Operand}
-use Rattle.mir_syntax.specs.declared.body.Callee.{Callee}
 use Rattle.mir_syntax.specs.declared.body.Term.{Term}
-use Rattle.mir_syntax.specs.declared.body.Term.TheVariants.{Goto, Call}
+use Rattle.mir_syntax.specs.declared.body.Term.TheVariants.{Goto}
 use Rattle.mir_syntax.specs.Tree.{Tree}
 use Rattle.mir_syntax.specs.Parts.{targets}
-use Rattle.mir_syntax.specs.Crate.{TypedStmt, TypedBlock, TypedBody}
+use Rattle.mir_syntax.specs.Crate.{TypedBlock, TypedBody}
 use Rattle.mir_syntax.specs.Shapes.{Shape, place_ty}
 use Rattle.mir_rules.specs.DefinitionRules.{holds}
 use Rattle.mir_semantics.specs.Values.{Value, whole}
 use Rattle.mir_semantics.specs.Memory.{Memory, local_at}
-use Rattle.mir_semantics.specs.Step.{Dest, Control, State, on, store, go_on, to_block, finish, step}
+use Rattle.mir_semantics.specs.Step.{Dest, Control, State, on, store, finish, step}
 use Rattle.mir_renaming.specs.Renaming.{Renaming}
 use Rattle.mir_renaming.proofs.Memory.{write_back}
 use Rattle.mir_renaming.proofs.Stores.{store_split}
@@ -23,9 +22,8 @@ use Rattle.move_paths.specs.Inits.{after_effect}
 use Rattle.drop_elab.specs.Plan.{Laid}
 use Rattle.drop_elab.specs.Elab.{Inits, Flagged, settings, with_settings, only_if, want_flags}
 use Rattle.mir_relate.specs.Frames.{Change, target}
-use Rattle.mir_relate.proofs.Leaves.{some_val}
 use Rattle.drop_elab.proofs.refines.Items.{Proper, ProperShapes}
-use Rattle.drop_elab.proofs.refines.Sound.{Has, SoundAt, sound_start, sound_at_same}
+use Rattle.drop_elab.proofs.refines.Sound.{Has, SoundAt, sound_start, sound_at_same, SoundBefore}
 use Rattle.drop_elab.proofs.refines.Flags.{flag_found, flag_local}
 use Rattle.drop_elab.proofs.refines.Machine.{on_at, place_in, term_step}
 use Rattle.drop_elab.proofs.refines.Runs.{one_move, moves_then}
@@ -116,7 +114,7 @@ module _ (X : Change) (inits : Inits) (apart : (d : ℕ) → holds X.source.shap
                   es ∙ ap (λ a. with_settings fs (drop a k1.stmts) ++ end.stmts) (sym W.stands1.1),
                   (
                     subst (λ i. stand.Ending X inits apart proper i k1 k2 end) (sym W.stands1.0) en,
-                    subst (λ ss. Rattle.drop_elab.proofs.refines.Sound.SoundBefore D X.body1 c1.block k1 ss (held m1' c1.frame)) (ap (λ a. drop a k1.stmts) (sym W.stands1.1)) (sound_start D X.body1 c1.block k1 (held m1' c1.frame) (subst (λ i. SoundAt D X.body1 i (held m1' c1.frame)) (sym W.stands1.0) so)),
+                    subst (λ ss. SoundBefore D X.body1 c1.block k1 ss (held m1' c1.frame)) (ap (λ a. drop a k1.stmts) (sym W.stands1.1)) (sound_start D X.body1 c1.block k1 (held m1' c1.frame) (subst (λ i. SoundAt D X.body1 i (held m1' c1.frame)) (sym W.stands1.0) so)),
                   ),
                 )
                 );
@@ -160,12 +158,8 @@ module _ (X : Change) (inits : Inits) (apart : (d : ℕ) → holds X.source.shap
               here = ap (λ (b : ℕ). Some (record s { memory = m2'; top = record c2 { block = b } })) q ∙ ap₂ (λ a o. Some (record s { memory = m2'; top = record c2 { block = W.next; at = a; dropping = o } })) W.stands2.0 W.stands2.1
           pick (inr eb) =
               let block : TypedBlock = record { stmts = settings (λ u. only_if (begun u W.block.term) true) fs; term = Goto W.next } in
-              let (n, a', m', mv, dr, se) = run_settings (target X) E s c2 (ap (slice_get X.bodies) fr.function2 ∙ X.at2 ∙ ap (λ b. Some b) is2) change c2.block block eb fs [] m2' 0 (flags_distinct (length X.body1.locals) us (want_flags us inits 0 X.body1.blocks)) there (sym (no_more (settings change fs))) in
+              let (n, a', m', mv, dr, se) = run_settings (target X) E s c2 (ap (slice_get X.bodies) fr.function2 ∙ X.at2 ∙ ap (λ b. Some b) is2) change c2.block block eb fs [] m2' 0 (flags_distinct (length X.body1.locals) us (want_flags us inits 0 X.body1.blocks)) there (sym (append-nil (settings change fs))) in
               at_next s G mt lk (n + 1) m' (moves_then (target X) n 1 (record s { memory = m2'; top = c2 }) (on_at s c2 m' c2.block a') (Some (on_at s c2 m' W.next 0)) (subst (λ z. moves (target X) n z ≡ Some (on_at s c2 m' c2.block a')) here mv) (one_move (target X) (on_at s c2 m' c2.block a') (on_at s c2 m' W.next 0) (goto_step s m' c2.block a' block eb dr refl))) se
             where
               here : on_at s c2 m2' c2.block 0 ≡ record s { memory = m2'; top = c2 }
               here = ap₂ (λ a o. record s { memory = m2'; top = record c2 { at = a; dropping = o } }) (sym W.stands2.0) (sym W.stands2.1)
-
-              no_more : (ss : List TypedStmt) → ss ++ [] ≡ ss
-              no_more [] = refl
-              no_more (x ∷ ss) = ap (λ ss. x ∷ ss) (no_more ss)

@@ -1,5 +1,5 @@
 -- What the rules say of a body that is elaborated; a terminator that reads scalars moves no unit.
-use Rattle.std.proofs.Common.{◌≡◌, refl, sym, ap, ◌∙◌, subst, ℕ, ◌<◌, Bool, true, false, nat_eq, ◌&&◌, ◌||◌, List, [], ◌∷◌, length, Some, slice_get, arith}
+use Rattle.std.proofs.Common.{◌≡◌, refl, sym, ap, ◌∙◌, subst, ℕ, ◌<◌, Bool, true, false, nat_eq, ◌||◌, List, [], ◌∷◌, length, Some, slice_get, arith}
 use Rattle.std.proofs.lemmas.Bool.{eqb-true}
 use Rattle.mir_syntax.specs.declared.types.ScalarTy.{ScalarTy}
 use Rattle.mir_syntax.specs.declared.body.Place.{Place}
@@ -25,7 +25,7 @@ use Rattle.drop_elab.proofs.refines.Items.{Proper, ProperShapes}
 use Rattle.drop_elab.proofs.refines.Sound.{Has}
 use Rattle.drop_elab.proofs.refines.UnitPaths.{unit_under}
 use Rattle.drop_elab.proofs.refines.Kept.{unit_needs}
-use Rattle.drop_elab.proofs.refines.Ended.{goes_parts}
+use Rattle.drop_elab.proofs.refines.Ended.{goes_parts, and_both}
 use Rattle.drop_elab.proofs.refines.Delivers.{of_unit}
 use Rattle.drop_elab.proofs.refines.Stand as stand
 use Rattle.drop_elab.proofs.refines.Texts.{Itself}
@@ -60,10 +60,6 @@ module _ (X : Change) (inits : Inits) (apart : (d : ℕ) → holds X.source.shap
   abbrev us : List Place
   us = stand.us X inits apart proper
 
-  parts : (a b : Bool) → (a && b) ≡ true → (a ≡ true) × (b ≡ true)
-  parts true b e = (refl, e)
-  parts false b e = absurd (grind arith)
-
   scalar_needs : (s : ScalarTy) → needs_drop D (scalar s) ≡ false
   unfolding needs_drop
   scalar_needs s = refl
@@ -75,7 +71,7 @@ module _ (X : Change) (inits : Inits) (apart : (d : ℕ) → holds X.source.shap
   none_under p s u e hu true q =
       absurd (
       let (lt, el, pr, hp) = of_unit X inits apart proper proper_locals u hu in
-      let (a, b) = parts (nat_eq p.local u.local) (goes_on p.proj u.proj) q in
+      let (a, b) = and_both (nat_eq p.local u.local) (goes_on p.proj u.proj) q in
       let (rest, eu) = goes_parts p.proj u.proj b in
       let (l, e1, e2) = bind_some e in
       let same : l ≡ lt = some_val (sym e1 ∙ ap (slice_get X.body1.locals) (eqb-true p.local u.local a) ∙ el) in

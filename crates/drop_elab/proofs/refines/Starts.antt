@@ -1,5 +1,6 @@
 -- A call of the elaborated function: its new frames stand for each other, once the flags were set.
 use Rattle.std.proofs.Common.{◌≡◌, inl, refl, sym, ap, ◌∙◌, subst, ℕ, suc, ◌+◌, ◌<◌, ◌≤◌, Bool, true, false, not, nat_le, ◌&&◌, List, [], ◌++◌, length, drop, Option, Some, None, slice_get, option_map, arith}
+use Rattle.std.proofs.lemmas.Option.{slice_get_within}
 use Rattle.mir_syntax.specs.declared.body.Place.{Place}
 use Rattle.mir_syntax.specs.declared.body.Proj.{Proj}
 use Rattle.mir_syntax.specs.Tree.{Tree}
@@ -119,7 +120,7 @@ module _ (X : Change) (inits : Inits) (apart : (d : ℕ) → holds X.source.shap
       slot_at = slots_there D Slot X.body1.locals vs (λ t. blank_slot 0 t refl) (λ k t v e1 e2. whole_slot (suc k) t v (low k v e2) (whole_in vs k v ar.whole e2)) (λ k t l. blank_slot (suc k) t (high k l))
         where
           low : (k : ℕ) (v : Value) → slice_get vs k ≡ Some v → (not (nat_le (suc k) 0) && nat_le (suc k) X.body1.args) ≡ true
-          low k v e = (let l = Rattle.std.proofs.lemmas.Option.slice_get_within vs k v e in let a = ar.all in grind (arith, l, a))
+          low k v e = (let l = slice_get_within vs k v e in let a = ar.all in grind (arith, l, a))
 
           high : (k : ℕ) → length vs ≤ k → (not (nat_le (suc k) 0) && nat_le (suc k) X.body1.args) ≡ false
           high k l = (let a = ar.all in grind (arith, l, a))

@@ -1,5 +1,6 @@
 -- A statement of the elaborated function: the target does the same, and then sets the flags of the units that it changes.
-use Rattle.std.proofs.Common.{◌≡◌, inl, refl, sym, ap, ap₂, ◌∙◌, subst, ℕ, zero, suc, false, List, [], ◌∷◌, ◌++◌, length, drop, Option, Some, None, slice_get, append_assoc, arith}
+use Rattle.std.proofs.Common.{◌≡◌, inl, refl, sym, ap, ap₂, ◌∙◌, subst, ℕ, suc, false, List, [], ◌∷◌, ◌++◌, length, drop, Option, Some, None, slice_get, append_assoc, arith}
+use Rattle.drop_elab.proofs.refines.Bodies.{front_stays}
 use Rattle.mir_syntax.specs.declared.body.Place.{Place}
 use Rattle.mir_syntax.specs.declared.body.Term.{Term}
 use Rattle.mir_syntax.specs.Tree.{Tree}
@@ -47,11 +48,6 @@ use Rattle.drop_elab.proofs.refines.Stand.{held}
 use Rattle.drop_elab.proofs.refines.Starts.{says_after, past_sets}
 use Rattle.drop_elab.proofs.refines.Texts.{Itself}
 use Rattle.drop_elab.proofs.refines.Changes as changes
-
-front_get : {A : Type 0} (xs ys : List A) (i : ℕ) (x : A) → slice_get xs i ≡ Some x → slice_get (xs ++ ys) i ≡ Some x
-front_get [] ys i x e = absurd (grind arith)
-front_get (z ∷ xs) ys zero x e = e
-front_get (z ∷ xs) ys (suc i) x e = front_get xs ys i x e
 
 performs : (X : Change) (s1 : State) (t : Term) (s : TypedStmt) (b : TypedBody) (x : Next) → perform X.source (record { shapes = X.source.shapes; locals = b.locals; frame = s1.top.frame }) s1 t (Some s) ≡ Some x → (m1' : Memory) × (exec (record { shapes = X.source.shapes; locals = b.locals; frame = s1.top.frame }) s1.memory s ≡ Some m1') × (Some (on (record s1 { memory = m1'; top = next_stmt s1.top })) ≡ Some x)
 unfolding perform
@@ -115,7 +111,7 @@ module _ (X : Change) (inits : Inits) (apart : (d : ℕ) → holds X.source.shap
   types x y (l, z) =
       let (t, e) = slice_get_there X.body1.locals x l in
       let (others, q) = more_locals D X.body1 inits in
-      e ∙ sym (ap (λ (b : TypedBody). slice_get b.locals y) is2 ∙ ap (λ ts. slice_get ts y) q ∙ ap (slice_get (X.body1.locals ++ others)) (sym z) ∙ front_get X.body1.locals others x t e)
+      e ∙ sym (ap (λ (b : TypedBody). slice_get b.locals y) is2 ∙ ap (λ ts. slice_get ts y) q ∙ ap (slice_get (X.body1.locals ++ others)) (sym z) ∙ front_stays X.body1.locals others x t e)
 
   pub nears : Nears r.core.lent r.core.lent s2.top.frame s1.top.frame
   nears h x g y e = inl e

@@ -1,5 +1,5 @@
 -- An elaborated body calls what the body calls, and destructors of what it drops.
-use Rattle.std.proofs.Common.{◌≡◌, ◌⊎◌, inl, inr, refl, sym, ap, ap₂, ◌∙◌, subst, ℕ, zero, suc, ◌+◌, Bool, true, false, nat_eq, ◌&&◌, if◌then◌else◌, List, [], ◌∷◌, ◌++◌, length, Option, Some, None, slice_get, append_assoc, arith}
+use Rattle.std.proofs.Common.{◌≡◌, ◌⊎◌, inl, inr, refl, sym, ap, ap₂, ◌∙◌, subst, ℕ, zero, suc, ◌+◌, Bool, true, false, nat_eq, if◌then◌else◌, List, [], ◌∷◌, ◌++◌, length, Option, Some, None, slice_get, append_assoc, arith}
 use Rattle.std.proofs.lemmas.Bool.{eqb-true}
 use Rattle.mir_syntax.specs.declared.body.Place.{Place}
 use Rattle.mir_syntax.specs.declared.body.Proj.{Proj}
@@ -13,23 +13,22 @@ use Rattle.mir_syntax.specs.Tree.{Tree, scalar, empty, more, named}
 use Rattle.mir_syntax.specs.Tree as tree
 use Rattle.mir_syntax.specs.Parts.{has_deref}
 use Rattle.mir_syntax.specs.Crate.{TypedStmt, TypedBlock, TypedBody}
-use Rattle.mir_syntax.specs.Shapes.{Shape, first_variant, struct_fields, fields_of, field_ty, variant_ty, proj_ty, path_ty, place_ty, needs_drop}
+use Rattle.mir_syntax.specs.Shapes.{Shape, struct_fields, fields_of, field_ty, proj_ty, path_ty, place_ty, needs_drop}
 use Rattle.mir_syntax.proofs.Binds.{bind_some, some_bind}
 use Rattle.mir_rules.specs.Calls.{Calls}
 use Rattle.mir_rules.specs.DefinitionRules.{holds}
 use Rattle.move_paths.specs.Effects.{units_of_body, goes_on, is_under, moved, begun}
 use Rattle.drop_elab.specs.Plan.{Plan, done, destroy, choose, arm, guarded, clear, part, glue_from, arms_of, chosen, glue_inside, glue_shape, glue_of, glue_def, glue, Laid, code, arms_from, lay}
-use Rattle.drop_elab.specs.Elab.{Inits, IsElab, Status, dead, static, conditional, Flagged, with_flags, flag_locals, want_flags, statuses_at, settings, only_if, cleared, typed_glue, guarded_by, plan_unit, plan_drop, call_end, lay_end, LaidBlocks, lay_blocks, elab_by}
+use Rattle.drop_elab.specs.Elab.{Inits, IsElab, Status, dead, static, conditional, Flagged, want_flags, statuses_at, settings, only_if, cleared, typed_glue, guarded_by, plan_unit, plan_drop, call_end, lay_end, LaidBlocks, lay_blocks, elab_by}
 use Rattle.drop_elab.specs.Destructors.{Holds, Destroys, AddsDestructors}
-use Rattle.drop_elab.specs.Tupled.{TypesTupled}
 use Rattle.mir_relate.proofs.Leaves.{some_val}
-use Rattle.drop_elab.proofs.refines.Items.{IsTuple, Proper, ProperShapes}
+use Rattle.drop_elab.proofs.refines.Items.{IsTuple, Proper, ProperShapes, first_proper}
 use Rattle.drop_elab.proofs.refines.Propers.{direct_proper}
 use Rattle.drop_elab.proofs.refines.Sound.{Has}
 use Rattle.drop_elab.proofs.refines.Puts.{Fields}
 use Rattle.drop_elab.proofs.refines.Kept.{units_fields}
 use Rattle.drop_elab.proofs.refines.Solid.{unit_of_local}
-use Rattle.drop_elab.proofs.refines.Ended.{goes_parts}
+use Rattle.drop_elab.proofs.refines.Ended.{goes_parts, and_both}
 use Rattle.drop_elab.proofs.refines.Bodies.{flags_of, first_new}
 use Rattle.drop_elab.proofs.valid.Fine.{Each, each_append, each_at, each_from}
 use Rattle.drop_elab.proofs.valid.GlueFine.{path_end}
@@ -78,14 +77,6 @@ module _ (D : List Shape) (proper : ProperShapes D) (b : TypedBody) (p : Place) 
   row : (q : Place) (t us : Tree) → Part q t → fields_of D t ≡ Some us → Row q 0 us
   row q t us h f j u k = (let z : 0 + j ≡ j = omega arith in subst (λ n. Part (part q (Field n)) u) (sym z) (further q (Field j) t u h refl (some_bind _ f k)))
 
-  self : (us : Tree) → IsTuple us → fields_of D us ≡ Some us
-  self empty h = refl
-  self (more t ts) h = refl
-  self (scalar s) h = absurd h
-  self (tree.ref t) h = absurd h
-  self (tree.ref_mut t) h = absurd h
-  self (named d) h = absurd h
-
   abbrev OfDef : (ℕ → Place → Plan → Plan) → Type 0
   OfDef of_def = (d : ℕ) (q : Place) (rest : Plan) → Part q (named d) → PlanGood Good rest → PlanGood Good (of_def d q rest)
 
@@ -132,10 +123,6 @@ module _ (D : List Shape) (proper : ProperShapes D) (b : TypedBody) (p : Place) 
   chosen_good q (guarded x p as') rest h r = (h, r)
   chosen_good q (clear x as') rest h r = (h, r)
 
-  first_proper : (ts : List Tree) → ((k : ℕ) (t : Tree) → slice_get ts k ≡ Some t → IsTuple t × Proper t) → IsTuple (first_variant ts) × Proper (first_variant ts)
-  first_proper [] h = (tt, tt)
-  first_proper (t ∷ ts) h = h 0 t refl
-
   inside_good : (of_def : ℕ → Place → Plan → Plan) → OfDef of_def → (d : ℕ) (s : Shape) (q : Place) (rest : Plan) → slice_get D d ≡ Some s → Part q (named d) → PlanGood Good rest → PlanGood Good (glue_inside D of_def s q rest)
   inside_good of_def ok d s q rest es h r = go s.is_enum refl
     where
@@ -175,10 +162,6 @@ module _ (D : List Shape) (proper : ProperShapes D) (b : TypedBody) (p : Place) 
     behind (Downcast k ∷ xs) ys h = absurd h
     behind (Deref ∷ xs) ys h = absurd h
 
-    both : (x y : Bool) → (x && y) ≡ true → (x ≡ true) × (y ≡ true)
-    both true y e = (refl, e)
-    both false y e = absurd (grind arith)
-
     unit_part : (u : Place) (t : Tree) → Has (units_of_body D b) u → is_under p u ≡ true → place_ty D b.locals u ≡ Some t → Part u t × Proper t
     unfolding place_ty
     unit_part u t hu un q =
@@ -189,7 +172,7 @@ module _ (D : List Shape) (proper : ProperShapes D) (b : TypedBody) (p : Place) 
         let same : l ≡ lt = some_val (sym e1 ∙ el') in
         let pr = proper_locals u.local lt el' in
         let fs = units_fields D apart proper u.proj lt pr hp in
-        let (a, c) = both (nat_eq p.local u.local) (goes_on p.proj u.proj) un in
+        let (a, c) = and_both (nat_eq p.local u.local) (goes_on p.proj u.proj) un in
         let (rest, eu) = goes_parts p.proj u.proj c in (
           record { path = rest; inside = fields_plain rest (behind p.proj rest (subst Fields eu fs)); is = ap₂ (λ x ps. let v : Place = record { local = x; proj = ps } in v) (sym (eqb-true p.local u.local a)) eu; ty = q },
           direct_proper D proper u.proj lt t pr (fields_formed u.proj fs).1 (subst (λ l. path_ty D l u.proj ≡ Some t) same e2),

@@ -1,6 +1,8 @@
 -- The text of the source's body keeps the rules in the elaborated one, and so do the settings of flags and the ends of blocks.
-use Rattle.std.proofs.Common.{◌≡◌, refl, sym, ap, ap₂, ◌∙◌, subst, ℕ, zero, suc, ◌+◌, ◌<◌, ◌≤◌, Bool, true, false, nat_lt, ◌&&◌, ◌||◌, ◌==◌, if◌then◌else◌, List, [], ◌∷◌, ◌++◌, length, Option, Some, None, slice_get, arith, ltb-true, lt-ltb}
-use Rattle.std.specs.List.{list_all, list_any}
+use Rattle.std.proofs.Common.{◌≡◌, refl, sym, ap, ◌∙◌, subst, ℕ, zero, suc, ◌+◌, ◌<◌, ◌≤◌, Bool, true, false, ◌&&◌, ◌||◌, if◌then◌else◌, List, [], ◌∷◌, ◌++◌, length, Option, Some, None, slice_get, arith, ltb-true, lt-ltb}
+use Rattle.move_paths.specs.Inits.{is_argument}
+use Rattle.drop_elab.proofs.refines.Bodies.{front_stays}
+use Rattle.std.specs.List.{list_all}
 use Rattle.std.proofs.lemmas.Bool.{and_from}
 use Rattle.std.proofs.lemmas.Option.{slice_get_within}
 use Rattle.mir_syntax.specs.declared.body.Place.{Place}
@@ -20,9 +22,9 @@ use Rattle.mir_rules.specs.Formed.{place_formed, operand_formed, stmt_formed, ca
 use Rattle.mir_rules.specs.Typing.{bool_ty}
 use Rattle.mir_rules.proofs.Lists.{and_true-left, and_true-right, list_all_true, list_all_true-at}
 use Rattle.mir_rules.proofs.Statements.{StmtTyped}
-use Rattle.mir_rules.proofs.Terminators.{TermTyped, not_to_start}
+use Rattle.mir_rules.proofs.Terminators.{TermTyped, not_to_start, slice_get_there}
 use Rattle.move_paths.specs.Effects.{units_of_body, is_under, effect, moved, begun}
-use Rattle.drop_elab.specs.Plan.{Plan, done, clear, guarded, Laid, lay}
+use Rattle.drop_elab.specs.Plan.{Plan, done, clear}
 use Rattle.drop_elab.specs.Elab.{Status, dead, static, conditional, Flagged, set_to, settings, with_settings, first_settings, only_if, cleared, typed_glue, guarded_by, plan_unit, plan_drop, call_end, lay_end}
 use Rattle.mir_relate.specs.Renumbered.{StmtSame}
 use Rattle.mir_relate.proofs.Leaves.{some_val}
@@ -39,16 +41,6 @@ use Rattle.drop_elab.proofs.valid.Fine.{Each, each_append}
 use Rattle.drop_elab.proofs.valid.Fine as fine
 use Rattle.drop_elab.proofs.valid.LaidFine as laid
 use Rattle.drop_elab.proofs.valid.GlueFine as glued
-
-front : {A : Type 0} (xs ys : List A) (i : ℕ) (x : A) → slice_get xs i ≡ Some x → slice_get (xs ++ ys) i ≡ Some x
-front [] ys i x e = absurd (grind arith)
-front (z ∷ xs) ys zero x e = e
-front (z ∷ xs) ys (suc i) x e = front xs ys i x e
-
-there_at : {A : Type 0} (xs : List A) (i : ℕ) → i < length xs → (x : A) × (slice_get xs i ≡ Some x)
-there_at [] i l = absurd (omega (arith, l))
-there_at (x ∷ xs) zero l = (x, refl)
-there_at (x ∷ xs) (suc i) l = there_at xs i (omega (arith, l))
 
 pub fields_formed : (ps : List Proj) → Fields ps → (path_formed ps ≡ true) × (is_direct ps ≡ true)
 fields_formed [] h = (refl, refl)
@@ -69,10 +61,10 @@ module _ (C : Crate) (D : List Shape) (apart : (d : ℕ) → holds D (length D) 
   R = Itself body
 
   lifted : (x : ℕ) (t : Tree) → slice_get body.locals x ≡ Some t → slice_get e.locals x ≡ Some t
-  lifted x t q = ap (λ ts. slice_get ts x) more ∙ front body.locals others x t q
+  lifted x t q = ap (λ ts. slice_get ts x) more ∙ front_stays body.locals others x t q
 
   types : (x y : ℕ) → R x y → slice_get body.locals x ≡ slice_get e.locals y
-  types x y (l, z) = (let (t, q) = there_at body.locals x l in q ∙ sym (lifted x t q) ∙ ap (slice_get e.locals) z)
+  types x y (l, z) = (let (t, q) = slice_get_there body.locals x l in q ∙ sym (lifted x t q) ∙ ap (slice_get e.locals) z)
 
   -- the body with the other's blocks
   abbrev B : TypedBody
@@ -170,7 +162,7 @@ module _ (C : Crate) (D : List Shape) (apart : (d : ℕ) → holds D (length D) 
   with_settings_fine ks (x ∷ ss) h s = (s.0, each_append StmtFine (settings (λ u. effect u x) ks) (with_settings ks ss) (settings_fine (λ u. effect u x) ks h) (with_settings_fine ks ss h s.1))
 
   pub first_fine : (n i : ℕ) (ks : List Flagged) → Each FlagFine ks → Each (fine.StmtFine C D e) (first_settings n i ks)
-  first_fine n zero ks h = settings_fine (λ u. Some (Rattle.move_paths.specs.Inits.is_argument n u)) ks h
+  first_fine n zero ks h = settings_fine (λ u. Some (is_argument n u)) ks h
   first_fine n (suc i) ks h = tt
 
   -- ---- the plan of a drop

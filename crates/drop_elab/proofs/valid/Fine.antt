@@ -1,23 +1,23 @@
 -- Statements and terminators of a body that are formed and keep the rules, and those that elaboration makes.
-use Rattle.std.proofs.Common.{◌≡◌, refl, sym, ap, ap₂, ◌∙◌, subst, ℕ, zero, suc, ◌<◌, Bool, true, false, nat_lt, ◌==◌, ◌&&◌, ◌||◌, List, [], ◌∷◌, ◌++◌, length, map, Option, Some, slice_get, arith, ltb-true, lt-ltb}
+use Rattle.std.proofs.Common.{◌≡◌, refl, ap, ap₂, subst, ℕ, zero, suc, ◌<◌, Bool, true, false, ◌==◌, ◌||◌, List, [], ◌∷◌, ◌++◌, length, map, Some, slice_get, arith, lt-ltb}
+use Rattle.mir_syntax.specs.declared.types.IntTy.TheVariants.{Isize}
 use Rattle.std.specs.List.{list_all, list_any}
 use Rattle.std.proofs.lemmas.Bool.{and_from}
 use Rattle.std.proofs.lemmas.Option.{slice_get_within}
 use Rattle.mir_syntax.specs.declared.types.ScalarTy.TheVariants as scalar_ty
 use Rattle.mir_syntax.specs.declared.body.Place.{Place}
-use Rattle.mir_syntax.specs.declared.body.Const.TheVariants as constant
 use Rattle.mir_syntax.specs.declared.body.Operand.TheVariants as operand
 use Rattle.mir_syntax.specs.declared.body.Callee.TheVariants as callee
 use Rattle.mir_syntax.specs.declared.body.Arm.{Arm}
 use Rattle.mir_syntax.specs.declared.body.Term.{Term}
 use Rattle.mir_syntax.specs.declared.body.Term.TheVariants.{Goto, Switch, Call}
-use Rattle.mir_syntax.specs.Tree.{Tree, scalar, empty, more, ref_mut}
+use Rattle.mir_syntax.specs.Tree.{Tree, empty, more, ref_mut}
 use Rattle.mir_syntax.specs.Crate.{«use», discriminant, TypedStmt, assign, TypedBlock, TypedBody, Crate}
 use Rattle.mir_syntax.specs.Crate as rvalue
-use Rattle.mir_syntax.specs.Parts.{arm_block, targets}
+use Rattle.mir_syntax.specs.Parts.{arm_block}
 use Rattle.mir_syntax.specs.Shapes.{Shape, place_ty}
 use Rattle.mir_syntax.proofs.Binds.{some_bind}
-use Rattle.mir_rules.specs.BodyRules.{breaks_v05, arm_value, has_twice, has_too_wide}
+use Rattle.mir_rules.specs.BodyRules.{arm_value, has_twice, has_too_wide}
 use Rattle.mir_rules.specs.Formed.{type_formed, place_formed, callee_formed, block_there, stmt_formed, term_formed}
 use Rattle.mir_rules.specs.Typing.{bool_ty, isize_ty, enum_of, operand_ty, operands_ty, rvalue_ty, callee_args_ty, callee_result_ty}
 use Rattle.mir_rules.proofs.Statements.{StmtTyped}
@@ -133,7 +133,7 @@ module _ (C : Crate) (D : List Shape) (e : TypedBody) where
       }
 
   -- arms that lead to targets, for numbers that stand once and fit
-  pub choose_fine : (l b : ℕ) (arms : List Arm) → slice_get e.locals l ≡ Some isize_ty → Each (λ a. Target a.block) arms → Target b → has_twice (map arm_value arms) ≡ false → has_too_wide (Some (scalar_ty.Int Rattle.mir_syntax.specs.declared.types.IntTy.TheVariants.Isize)) (map arm_value arms) ≡ false → TermFine (Switch (operand.Move (local_place l)) arms b)
+  pub choose_fine : (l b : ℕ) (arms : List Arm) → slice_get e.locals l ≡ Some isize_ty → Each (λ a. Target a.block) arms → Target b → has_twice (map arm_value arms) ≡ false → has_too_wide (Some (scalar_ty.Int Isize)) (map arm_value arms) ≡ false → TermFine (Switch (operand.Move (local_place l)) arms b)
   unfolding term_formed operand_ty
   choose_fine l b arms el ha hb once fits =
       let p = local_fine l isize_ty el in
@@ -141,7 +141,7 @@ module _ (C : Crate) (D : List Shape) (e : TypedBody) where
         formed = and_from _ _ refl (and_from _ _ refl (and_from _ _ (and_from _ _ p.formed refl) (all_there arms ha)));
         typed = record {
           targets = none_first arms ha;
-          own = record { ty = scalar_ty.Int Rattle.mir_syntax.specs.declared.types.IntTy.TheVariants.Isize; operand = p.typed; once = once; fits = fits };
+          own = record { ty = scalar_ty.Int Isize; operand = p.typed; once = once; fits = fits };
           moves = record { through = refl; indirect = refl };
         };
       }

@@ -1,25 +1,25 @@
 -- The glue of a place that has the type keeps the rules.
-use Rattle.std.proofs.Common.{◌≡◌, ◌⊎◌, inl, inr, refl, sym, ap, ap₂, ◌∙◌, subst, ℕ, zero, suc, ◌+◌, ◌<◌, ◌≤◌, Bool, true, false, nat_lt, ◌&&◌, ◌^◌, if◌then◌else◌, List, [], ◌∷◌, ◌++◌, length, Option, Some, None, slice_get, arith, lt-ltb}
+use Rattle.std.proofs.Common.{◌≡◌, ◌⊎◌, inl, inr, refl, sym, ap, ◌∙◌, subst, ℕ, zero, suc, ◌+◌, ◌<◌, ◌≤◌, Bool, true, false, nat_lt, ◌^◌, if◌then◌else◌, List, [], ◌∷◌, ◌++◌, length, Option, Some, None, slice_get, arith, lt-ltb}
 use Rattle.std.specs.Bool.{then_some}
 use Rattle.std.proofs.lemmas.Bool.{and_from}
-use Rattle.std.proofs.lemmas.Option.{slice_get_within}
 use Rattle.mir_syntax.specs.declared.body.Place.{Place}
 use Rattle.mir_syntax.specs.declared.body.Proj.{Proj}
 use Rattle.mir_syntax.specs.declared.body.Proj.TheVariants.{Field, Downcast, Deref}
 use Rattle.mir_syntax.specs.Tree.{Tree, scalar, empty, more, named}
 use Rattle.mir_syntax.specs.Tree as tree
-use Rattle.mir_syntax.specs.Parts.{begins_with_field, path_formed}
+use Rattle.mir_syntax.specs.Parts.{path_formed}
 use Rattle.mir_syntax.specs.Crate.{TypedBody, Crate}
-use Rattle.mir_syntax.specs.Shapes.{◌>>=◌, Shape, first_variant, struct_fields, fields_of, field_ty, variant_ty, proj_ty, path_ty, place_ty, needs_drop, destructor_of}
+use Rattle.mir_syntax.specs.Shapes.{Shape, struct_fields, fields_of, field_ty, variant_ty, proj_ty, path_ty, place_ty, needs_drop}
 use Rattle.mir_syntax.proofs.Binds.{bind_some, some_bind}
-use Rattle.mir_rules.specs.Formed.{type_formed, place_formed}
+use Rattle.mir_rules.specs.Formed.{type_formed}
 use Rattle.mir_rules.specs.Limits.{most_nodes}
 use Rattle.mir_rules.specs.Typing.{enum_of}
 use Rattle.mir_rules.proofs.Lists.{and_true-left, and_true-right}
 use Rattle.drop_elab.specs.Plan.{Plan, done, destroy, choose, arm, guarded, clear, part, glue_from, arms_of, chosen, glue_inside, glue_shape, glue_of, glue_def, glue}
 use Rattle.drop_elab.specs.Tupled.{FewVariants}
 use Rattle.drop_elab.proofs.refines.Places.{Armed}
-use Rattle.drop_elab.proofs.refines.Items.{IsTuple, Proper, ProperShapes}
+use Rattle.drop_elab.proofs.refines.Items.{IsTuple, Proper, ProperShapes, first_proper}
+use Rattle.drop_elab.proofs.refines.Propers.{tuple_fields}
 use Rattle.drop_elab.proofs.valid.Fine as fine
 use Rattle.drop_elab.proofs.valid.LaidFine.{Rising, rising_less}
 use Rattle.drop_elab.proofs.valid.LaidFine as laid
@@ -74,17 +74,9 @@ module _ (C : Crate) (D : List Shape) (e : TypedBody) where
   variant_row : (p : Place) (t us : Tree) (k : ℕ) → fine.PlaceFine C D e p t → variant_ty D t k ≡ Some us → IsTuple us → Row (part p (Downcast k)) 0 us
   variant_row p t us k h f tu j u q =
       let a = typed_part p (Downcast k) t us (placed p t h) f in
-      let b = typed_part (part p (Downcast k)) (Field j) us u a (some_bind _ (self us tu) q) in
+      let b = typed_part (part p (Downcast k)) (Field j) us u a (some_bind _ (tuple_fields D us tu) q) in
       let z : 0 + j ≡ j = omega arith in
       subst (λ n. fine.PlaceFine C D e (part (part p (Downcast k)) (Field n)) u) (sym z) (record { formed = and_from _ _ b.local (path_variant p.proj k j (and_true-right (nat_lt p.local (length e.locals)) (path_formed p.proj) h.formed)); typed = b.ty })
-    where
-      self : (us : Tree) → IsTuple us → fields_of D us ≡ Some us
-      self empty h = refl
-      self (more t ts) h = refl
-      self (scalar s) h = absurd h
-      self (tree.ref t) h = absurd h
-      self (tree.ref_mut t) h = absurd h
-      self (named d) h = absurd h
 
   -- what is asked of a function that makes the glue of definitions
   abbrev OfDef : (ℕ → Place → Plan → Plan) → Type 0
@@ -152,10 +144,6 @@ module _ (C : Crate) (D : List Shape) (e : TypedBody) where
     pub destroys : (d : ℕ) (s : Shape) (g : ℕ) → slice_get D d ≡ Some s → s.destructor ≡ Some g → fine.Destroys C D e (named d) g
 
   module _ (defs : DefsFine) where
-    first_variant_proper : (ts : List Tree) → ((k : ℕ) (t : Tree) → slice_get ts k ≡ Some t → IsTuple t × Proper t) → IsTuple (first_variant ts) × Proper (first_variant ts)
-    first_variant_proper [] h = (tt, tt)
-    first_variant_proper (t ∷ ts) h = h 0 t refl
-
     inside_fine : (of_def : ℕ → Place → Plan → Plan) → OfDef of_def → (d : ℕ) (s : Shape) (p : Place) (rest : Plan) → slice_get D d ≡ Some s → fine.PlaceFine C D e p (named d) → laid.PlanFine C D e rest → laid.PlanFine C D e (glue_inside D of_def s p rest)
     inside_fine of_def ok d s p rest es h r = go s.is_enum refl
       where
@@ -164,7 +152,7 @@ module _ (C : Crate) (D : List Shape) (e : TypedBody) where
             let (a, b, c) = arms_fine of_def ok p 0 s.variants (λ j us k. (let (tu, pr) = defs.proper d s es j us k in let z : 0 + j ≡ j = omega arith in (tu, pr, subst (λ n. Row (part p (Downcast n)) 0 us) (sym z) (variant_row p (named d) us j h (some_bind _ es (ap (λ b. if b then slice_get s.variants j else None) q ∙ k)) tu)))) (let f = defs.few d s es q in omega (arith, f)) in
             chosen_fine p (named d) s (arms_of D of_def p 0 s.variants) rest h (some_bind _ es (ap (λ b. then_some b s) q)) a b c r
         go false q =
-            let (tu, pr) = first_variant_proper s.variants (defs.proper d s es) in
+            let (tu, pr) = first_proper s.variants (defs.proper d s es) in
             from_fine of_def ok (struct_fields s) p 0 rest pr (inr (tu, type_row p (named d) (struct_fields s) h (some_bind _ es (ap (λ b. if b then None else Some (struct_fields s)) q)))) r
 
     def_fine : (n : ℕ) → OfDef (glue_def D n)

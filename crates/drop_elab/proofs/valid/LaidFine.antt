@@ -1,12 +1,11 @@
 -- The code of a plan keeps the rules, where its places and flags do.
-use Rattle.std.proofs.Common.{◌≡◌, refl, sym, ap, ap₂, ◌∙◌, subst, ℕ, zero, suc, ◌+◌, ◌<◌, ◌≤◌, Bool, true, false, not, nat_lt, ◌==◌, ◌||◌, ◌^◌, List, [], ◌∷◌, ◌++◌, length, map, Some, slice_get, arith, lt-ltb}
+use Rattle.std.proofs.Common.{◌≡◌, refl, ap, ap₂, subst, ℕ, suc, ◌+◌, ◌<◌, ◌≤◌, true, false, not, nat_lt, ◌==◌, ◌||◌, ◌^◌, List, ◌∷◌, ◌++◌, length, map, Some, slice_get, arith}
 use Rattle.std.specs.List.{list_any}
 use Rattle.mir_syntax.specs.declared.types.ScalarTy.TheVariants as scalar_ty
 use Rattle.mir_syntax.specs.declared.types.IntTy.TheVariants as int_ty
-use Rattle.mir_syntax.specs.declared.body.Place.{Place}
 use Rattle.mir_syntax.specs.declared.body.Arm.{Arm}
 use Rattle.mir_syntax.specs.Tree.{Tree, empty, ref_mut}
-use Rattle.mir_syntax.specs.Crate.{TypedBlock, TypedBody, Crate}
+use Rattle.mir_syntax.specs.Crate.{TypedBody, Crate}
 use Rattle.mir_syntax.specs.Shapes.{Shape}
 use Rattle.mir_rules.specs.BodyRules.{arm_value, has_twice, has_too_wide}
 use Rattle.mir_rules.specs.Typing.{bool_ty, isize_ty, enum_of}

@@ -1,32 +1,31 @@
 -- A crate with an elaborated body is valid.
-use Rattle.std.proofs.Common.{◌≡◌, refl, sym, ap, ap₂, ◌∙◌, subst, ℕ, zero, suc, ◌+◌, ◌<◌, ◌≤◌, Bool, true, false, nat_lt, ◌&&◌, List, [], ◌∷◌, ◌++◌, length, take, Option, Some, None, slice_get, arith, ltb-true, lt-ltb}
+use Rattle.std.proofs.Common.{◌≡◌, refl, sym, ap, ap₂, ◌∙◌, subst, ℕ, zero, suc, ◌+◌, ◌<◌, ◌≤◌, Bool, true, false, List, [], ◌∷◌, ◌++◌, length, take, Some, None, slice_get, arith, lt-ltb}
 use Rattle.std.specs.List.{list_all}
 use Rattle.std.proofs.lemmas.Bool.{and_from}
 use Rattle.std.proofs.lemmas.Option.{slice_get_within}
 use Rattle.mir_syntax.specs.declared.body.Place.{Place}
-use Rattle.mir_syntax.specs.Tree.{Tree, named}
-use Rattle.mir_syntax.specs.Crate.{TypedStmt, TypedBlock, TypedBody, TypedFunction, Crate}
+use Rattle.mir_syntax.specs.Tree.{Tree, named, tuple_of}
+use Rattle.mir_syntax.specs.Crate.{TypedBlock, TypedBody, TypedFunction, Crate}
 use Rattle.mir_syntax.specs.Shapes.{Shape, shapes_of}
 use Rattle.mir_syntax.proofs.Binds.{some_bind}
 use Rattle.mir_rules.specs.DefinitionRules.{holds}
-use Rattle.mir_rules.specs.Formed.{type_formed, stmt_formed, term_formed, block_formed, has_start, body_formed}
-use Rattle.mir_rules.specs.Typing.{bool_ty}
+use Rattle.mir_rules.specs.Formed.{type_formed, stmt_formed, term_formed, block_formed, body_formed}
+use Rattle.mir_rules.specs.Typing.{bool_ty, result_of, args_of}
 use Rattle.mir_rules.specs.Valid.{Valid, with_body, at_function}
 use Rattle.mir_rules.proofs.Bodies.{Alike}
 use Rattle.mir_rules.proofs.Destructors.{IsDestructor, shape_is, destructor_found}
 use Rattle.mir_rules.proofs.Fixed.{apart_in}
 use Rattle.mir_rules.proofs.Keeps.{BodyKeeps}
-use Rattle.mir_rules.proofs.Lists.{list_all_true, list_all_true-at}
+use Rattle.mir_rules.proofs.Lists.{list_all_true}
 use Rattle.mir_rules.proofs.Statements.{typed_stmt}
 use Rattle.mir_rules.proofs.Terminators.{TermTyped, typed_term}
 use Rattle.mir_rules.proofs.ValidCrates.{body_formed_at, first_block, args_below, local_formed_at, stmt_formed_at, term_formed_at, stmt_at, term_at, valid_put}
 use Rattle.move_paths.specs.Effects.{units_of_body}
 use Rattle.drop_elab.specs.Plan.{Laid}
-use Rattle.drop_elab.specs.Elab.{Inits, IsElab, Flagged, with_flags, flag_locals, want_flags, statuses_at, with_settings, first_settings, lay_end, LaidBlocks, lay_blocks, elab_by}
+use Rattle.drop_elab.specs.Elab.{Inits, Flagged, with_flags, flag_locals, want_flags, statuses_at, with_settings, first_settings, lay_end, LaidBlocks, lay_blocks, elab_by}
 use Rattle.drop_elab.specs.Tupled.{TypesTupled, FewVariants}
 use Rattle.drop_elab.proofs.refines.Items.{Proper}
-use Rattle.drop_elab.proofs.refines.Sound.{Has}
-use Rattle.drop_elab.proofs.refines.Bodies.{flags_of, first_new, blocks_long}
+use Rattle.drop_elab.proofs.refines.Bodies.{flags_of, first_new, blocks_long, stands_behind}
 use Rattle.drop_elab.proofs.refines.Flags.{flags_range}
 use Rattle.drop_elab.proofs.refines.Places.{StandsIn, left_stands, right_stands}
 use Rattle.drop_elab.proofs.refines.Refined.{proper_shapes}
@@ -39,10 +38,6 @@ use Rattle.drop_elab.proofs.valid.EndsFine as ends
 
 each_all : {A : Type 0} (p : A → Bool) (xs : List A) → Each (λ x. p x ≡ true) xs → list_all p xs ≡ true
 each_all p xs h = list_all_true p xs (λ i x e. each_at (λ x. p x ≡ true) xs i x h e)
-
-stands_behind : {A : Type 0} (xs ys : List A) → StandsIn (xs ++ ys) (length xs) ys
-stands_behind [] ys i x e = let z : 0 + i ≡ i = omega arith in rw z e
-stands_behind (h ∷ xs) ys i x e = let z : suc (length xs) + i ≡ suc (length xs + i) = omega arith in rw z (stands_behind xs ys i x e)
 
 take_front : {A : Type 0} (n : ℕ) (xs ys : List A) → n ≤ length xs → take n (xs ++ ys) ≡ take n xs
 take_front zero xs ys l = refl
@@ -81,8 +76,8 @@ module _ (C : Crate) (e : TypedBody) where
   destroys : (d g : ℕ) → (fn : TypedFunction) × (slice_get C.functions g ≡ Some fn) × IsDestructor d fn → fine.Destroys C (shapes_of C) e (named d) g
   destroys d g (fn, at, is) = record {
     formed = lt-ltb g (length C.functions) (slice_get_within C.functions g fn at);
-    args = some_bind _ at (ap₂ (λ n ts. Some (Rattle.mir_syntax.specs.Tree.tuple_of (Rattle.mir_rules.specs.Typing.args_of (record { args = n; locals = ts; blocks = [] })))) is.args is.locals);
-    result = some_bind _ at (ap (λ ts. Some (Rattle.mir_rules.specs.Typing.result_of (record { args = 0; locals = ts; blocks = [] }))) is.locals);
+    args = some_bind _ at (ap₂ (λ n ts. Some (tuple_of (args_of (record { args = n; locals = ts; blocks = [] })))) is.args is.locals);
+    result = some_bind _ at (ap (λ ts. Some (result_of (record { args = 0; locals = ts; blocks = [] }))) is.locals);
   }
 
   defs_fine : (b : TypedBody) → TypesTupled (shapes_of C) b → FewVariants (shapes_of C) → glued.DefsFine C (shapes_of C) e
