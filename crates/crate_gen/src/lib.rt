@@ -13,7 +13,7 @@ mod lines;
 mod random;
 
 pub use generated::{Generated, generate};
-pub use laws::made_crates_are_valid;
+pub use laws::{made_crates_are_read_back, made_crates_are_valid, made_lines_fit};
 pub use random::schedule;
 
 #[cfg(test)]
