@@ -102,7 +102,7 @@ fn add_arms(
     requires knows { KnowsDrops program.now }
     requires below { IsTrue (list_all (variant_below (length program.now.types)) variants.now) }
     ensures arms { IfOk result (λ arms. arms ≡ arms_at (shapes_of (crate_of program.now)) (length cursor.old.blocks) 0 (map (variant_tree (trees_of program.now.types)) variants.now)) }
-    ensures blocks { IfOk result (λ arms. cursor.new ≡ record cursor.old { blocks = cursor.old.blocks ++ replicate (length arms) empty_block }) }
+    ensures made { IfOk result (λ arms. cursor.new ≡ record cursor.old { blocks = cursor.old.blocks ++ replicate (length arms) empty_block }) }
 {
     let mut arms = List::new(alloc);
     for (number, variant) in variants.iter().enumerate() {

@@ -1,6 +1,6 @@
 -- Arms of the variants that need drop, one after another.
 use Rattle.std.proofs.Common.{◌≡◌, refl, ap, ap₂, ◌∙◌, sym, subst, ℕ, suc, ◌+◌, ◌<◌, ◌≤◌, Bool, true, false, if◌then◌else◌, List, [], ◌∷◌, ◌++◌, map, drop, length, set, replicate, get_or, arith}
-use Rattle.std.proofs.lemmas.List.{append_assoc, append-nil, length-append, length-map, length-replicate, at_drop_more, get_or-map, replicate_more}
+use Rattle.std.proofs.lemmas.List.{append_assoc, append-nil, length-append, length-set, length-map, length-replicate, at_drop_more, get_or-map, replicate_more}
 use Rattle.mir_syntax.specs.declared.types.TyId.{TyId}
 use Rattle.mir_syntax.specs.declared.types.Variant.{Variant}
 use Rattle.mir_syntax.specs.declared.body.Arm.{Arm}
@@ -123,6 +123,18 @@ at_arms_is : (c m n d : Cursor) (iz : TyId) (arms : List Arm) (join : ℕ) → m
 at_arms_is c m n d iz arms join e f g =
     g ∙ ap (λ (n : Cursor). let z : Cursor = record n { locals = n.locals ++ iz ∷ []; blocks = set n.blocks n.at (bare_chosen n.stmts (length n.locals) n.place arms join); stmts = [] } in z)
     (f ∙ ap (λ (m : Cursor). let z : Cursor = record m { blocks = m.blocks ++ empty_block ∷ [] } in z) e)
+
+-- the arms have their blocks before the one behind the choice
+pub choice_room : (p : Program) (D : List Shape) (c m : Cursor) (arms : List Arm) (ts : List Tree) → arms ≡ arms_at D (length c.blocks) 0 ts → m ≡ record c { blocks = c.blocks ++ replicate (length arms) empty_block }
+    → (n d : Cursor) (iz : TyId) (join : ℕ) → n ≡ record m { blocks = m.blocks ++ empty_block ∷ [] } → join ≡ length m.blocks
+    → d ≡ record n { locals = n.locals ++ iz ∷ []; blocks = set n.blocks n.at (bare_chosen n.stmts (length n.locals) n.place arms join); stmts = [] }
+    → (length c.blocks + length (arms_at D 0 0 ts) ≤ join) × ((join < length d.blocks) × (d.stmts ≡ []))
+choice_room p D c m arms ts arms_is made n d iz join n_is join_is d_is =
+    let long : length arms ≡ length (arms_at D 0 0 ts) = ap length arms_is ∙ at_long D ts (length c.blocks) 0 0 in
+    let m_long : length m.blocks ≡ length c.blocks + length arms = ap (λ (c : Cursor). length c.blocks) made ∙ length-append c.blocks (replicate (length arms) empty_block) ∙ ap (λ n. length c.blocks + n) (length-replicate (length arms) empty_block) in
+    let n_long : length n.blocks ≡ length m.blocks + 1 = ap (λ (c : Cursor). length c.blocks) n_is ∙ length-append m.blocks (empty_block ∷ []) in
+    let d_long : length d.blocks ≡ length n.blocks = ap (λ (c : Cursor). length c.blocks) d_is ∙ length-set n.blocks n.at (bare_chosen n.stmts (length n.locals) n.place arms join) in
+    (omega (arith, long, m_long, join_is), (omega (arith, m_long, n_long, d_long, join_is), ap (λ (c : Cursor). c.stmts) d_is))
 
 module _ (p : Program) (D : List Shape) (f : ℕ → Place → Plan → Plan) (c m : Cursor) (arms : List Arm) (ts : List Tree) (within : c.at < length c.blocks)
          (arms_is : arms ≡ arms_at D (length c.blocks) 0 ts) (made : m ≡ record c { blocks = c.blocks ++ replicate (length arms) empty_block }) where

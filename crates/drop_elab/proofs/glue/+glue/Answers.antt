@@ -14,11 +14,11 @@ use Rattle.mir_syntax.specs.Shapes.{shapes_of, fields_tree, needs_drop, destruct
 use Rattle.mir_syntax.proofs.Lists.{id_below}
 use Rattle.mir_syntax.proofs.InTable.{all-at}
 use Rattle.drop_elab.specs.declared.cursor.Cursor.{Cursor}
-use Rattle.drop_elab.specs.Plan.{destroy, chosen, part, arms_of, glue_from, glue_inside, glue_def}
+use Rattle.drop_elab.specs.Plan.{done, destroy, chosen, part, arms_of, glue_from, glue_inside, glue_def}
 use Rattle.drop_elab.specs.Code.{variant_tree, Laying, Arming, nothing_left}
 use Rattle.drop_elab.proofs.equal.Definitions.{needs_some, destructor_is, glue_with, glue_without, inside_struct, inside_enum, def_there}
 use Rattle.drop_elab.proofs.equal.Steps.{laying_as, some_id, some_field}
-use Rattle.drop_elab.proofs.equal.Arms.{room_one, room_none, variant_lays, variant_skips, choice_none, choice_some}
+use Rattle.drop_elab.proofs.equal.Arms.{choice_room, room_one, room_none, variant_lays, variant_skips, choice_none, choice_some}
 use Rattle.drop_elab.proofs.glue.+glue.Goals.{lay_arms-then-any_needs_drop+in_ok-lay_variant, lay_arms-else-any_needs_drop}
 use Rattle.drop_elab.proofs.glue.+glue.Goals as goal
 
@@ -50,7 +50,7 @@ lay_definition-returns-in_ok-lay_destructor-in-Some t c =
     let needs : needs_drop D (named d) ≡ true = ap (needs_drop D) (sym c.requires.is) ∙ sym c.needs_drop.ensures ∙ c.if-not-needs_drop.false in
     let (s, at) = needs_some D d needs in
     let has : s.destructor ≡ Some c.in-Some.destructor.0 = destructor_is D d s (Some c.in-Some.destructor.0) at (c.in-Some.ensures ∙ ap (destructor_of D) c.requires.is) in
-    let call : Laying p c.args.cursor.now c.lay_destructor.new.cursor nothing_left (destroy c.args.cursor.now.place (named d) c.in-Some.destructor.0) = subst (λ ty. Laying p c.args.cursor.now c.lay_destructor.new.cursor nothing_left (destroy c.args.cursor.now.place ty c.in-Some.destructor.0)) c.requires.is c.in_ok-lay_destructor.ensures in
+    let call : Laying p c.args.cursor.now c.lay_destructor.new.cursor nothing_left (destroy c.args.cursor.now.place (named d) c.in-Some.destructor.0) = subst (λ ty. Laying p c.args.cursor.now c.lay_destructor.new.cursor nothing_left (destroy c.args.cursor.now.place ty c.in-Some.destructor.0)) c.requires.is c.in_ok-lay_destructor-in-Some.ensures in
     on_ok_weaker c.lay_inside.result
     (λ h. subst (λ m. Laying p c.args.cursor.now c.lay_inside.new.cursor nothing_left (glue_def D m d c.args.cursor.now.place)) (sym depth)
     (glue_with p D n d c.args.cursor.now c.lay_inside.new.cursor s c.in-Some.destructor.0 c.lay_destructor.new.cursor needs at has call (h s at)))
@@ -122,10 +122,20 @@ lay_choice-returns-then-is_empty t c =
     let p = c.args.program.now in
     let D = shapes_of (crate_of p) in
     let none : length c.in_ok-arms.arms ≡ 0 = (let e = sym c.is_empty.ensures ∙ c.if-is_empty.true in grind arith) in
-    choice_none p D (glue_def D c.args.depth) c.args.cursor.now c.add_arms.new.cursor c.in_ok-arms.arms (map (variant_tree (trees_of p.types)) c.args.variants.now) c.requires.inside c.in_ok-arms.ensures.arms c.in_ok-arms.ensures.blocks none
+    choice_none p D (glue_def D c.args.depth) c.args.cursor.now c.add_arms.new.cursor c.in_ok-arms.arms (map (variant_tree (trees_of p.types)) c.args.variants.now) c.requires.inside c.in_ok-arms.ensures.arms c.in_ok-arms.ensures.made none
 
 pub lay_choice-lay_arms-requires : goal.lay_choice-lay_arms-requires
-lay_choice-lay_arms-requires t c = ?
+lay_choice-lay_arms-requires t c =
+    let p = c.args.program.now in
+    let D = shapes_of (crate_of p) in
+    let ts = map (variant_tree (trees_of p.types)) c.args.variants.now in
+    let old = c.args.cursor.now in
+    let m = c.add_arms.new.cursor in
+    let n = c.add_block.new.self in
+    let d = c.choose.new.cursor in
+    let more = choice_room p D old m c.in_ok-arms.arms ts c.in_ok-arms.ensures.arms c.in_ok-arms.ensures.made n d c.isize_id.result c.in_ok-join.join c.in_ok-join.ensures.added c.in_ok-join.ensures.number c.in_ok-choose.ensures in
+    let first : c.in-Ok.first ≡ length old.blocks = c.in-Ok.ensures.1 ∙ c.len.ensures in
+    (omega (arith, c.decreases), (c.requires.knows, (c.requires.ids, (c.requires.types, (c.requires.below, (omega (arith, first, more.0), (more.1.0, more.1.1)))))))
 
 pub lay_choice-returns : goal.lay_choice-returns
 lay_choice-returns t c =
@@ -135,9 +145,11 @@ lay_choice-returns t c =
     let ts = map (variant_tree (trees_of p.types)) c.args.variants.now in
     let old = c.args.cursor.now in
     let join = c.in_ok-join.join in
+    let first : c.in-Ok.first ≡ length old.blocks = c.in-Ok.ensures.1 ∙ c.len.ensures in
     let some : length c.in_ok-arms.arms ≡ 0 → ⊥ = (λ z. (let e = sym c.is_empty.ensures ∙ c.if-is_empty.false in absurd (grind arith))) in
-    choice_some p D f old c.add_arms.new.cursor c.in_ok-arms.arms ts c.requires.inside c.in_ok-arms.ensures.arms c.in_ok-arms.ensures.blocks c.add_block.new.self c.choose.new.cursor c.lay_arms.new.cursor c.isize_id.result join some
-        c.isize_id.ensures.stands c.isize_id.ensures.in_table c.in_ok-join.ensures.added c.in_ok-join.ensures.number c.in_ok-choose.ensures ?
+    choice_some p D f old c.add_arms.new.cursor c.in_ok-arms.arms ts c.requires.inside c.in_ok-arms.ensures.arms c.in_ok-arms.ensures.made c.add_block.new.self c.choose.new.cursor c.lay_arms.new.cursor c.isize_id.result join some
+        c.isize_id.ensures.stands c.isize_id.ensures.in_table c.in_ok-join.ensures.added c.in_ok-join.ensures.number c.in_ok-choose.ensures
+        (subst (λ n. Arming p c.choose.new.cursor c.lay_arms.new.cursor n join (arms_of D f c.choose.new.cursor.place 0 ts) join done) first c.in_ok-lay_arms.ensures)
 
 pub lay_fields-returns : goal.lay_fields-returns
 lay_fields-returns t c =
@@ -190,7 +202,7 @@ lay_inside-returns-in-None t c = λ s at. (let r = def_there c.args.program.now 
 pub lay_tuple-lay_glue-requires : goal.lay_tuple-lay_glue-requires
 lay_tuple-lay_glue-requires t c =
     let low = id_below c.args.bound c.args.ids.now c.loop-index.index (record { 0 = 0 }) c.requires.below c.loop-index-test.true in
-    (omega (arith, c.decreases, c.loop-index-test.true, low), (c.requires.knows, (c.requires.ids, (c.requires.types, (omega (arith, low, c.requires.in_table), ?)))))
+    (omega (arith, c.decreases, c.loop-index-test.true, low), (c.requires.knows, (c.requires.ids, (c.requires.types, (omega (arith, low, c.requires.in_table), subst (λ (d : Cursor). d.at < length d.blocks) (sym c.in_ok-enter_field.ensures) c.loop-index.invariant.inside)))))
 
 pub lay_tuple-returns : goal.lay_tuple-returns
 lay_tuple-returns t c =
