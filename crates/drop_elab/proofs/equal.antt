@@ -13,4 +13,5 @@ pub mod Flags
 pub mod Dropping
 pub mod Bodies
 pub mod Known
+pub mod On
 pub mod Arms

@@ -26,6 +26,11 @@ abbrev pub returning_to : Term → ℕ → Term
 returning_to (Call p g os next) b = Call p g os b
 returning_to t b = t
 
+-- the block at the cursor has its end, whatever that is, and no block went
+pub record IsEnded (old now : Cursor) : Type 0 where
+  pub fresh : now.stmts ≡ []
+  pub grows : length old.blocks ≤ length now.blocks
+
 -- the block at the cursor has its end
 pub record EndLaid (types : List Ty) (old now : Cursor) (e : Laid) : Type 0 where
   pub fresh : now.stmts ≡ []

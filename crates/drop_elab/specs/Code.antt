@@ -131,6 +131,11 @@ pub record Arming (p : Program) (old now : Cursor) (first join : ℕ) (whole : P
 abbrev pub LayingOn : Program → Cursor → Cursor → (Plan → Plan) → (Plan → Plan) → Type 0
 LayingOn p old now left whole = Laying p (record old { place = now.place }) now left whole
 
+-- the cursor still stands at a block, and no block went
+pub record GoesOn (old now : Cursor) : Type 0 where
+  pub inside : now.at < length now.blocks
+  pub grows : length old.blocks ≤ length now.blocks
+
 -- the cursor goes by a flag to two new blocks, and stands at the first of them
 abbrev pub bare_switched : Cursor → ℕ → Cursor
 bare_switched c x = record c {

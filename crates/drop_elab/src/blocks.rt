@@ -12,9 +12,9 @@ ghost use Rattle.move_paths.specs.Effects.{moved, begun};
 ghost use Rattle.drop_elab.specs.Plan.{done};
 ghost use Rattle.drop_elab.specs.Elab as definition;
 ghost use Rattle.drop_elab.specs.Types.{HasIsize};
-ghost use Rattle.drop_elab.specs.Code.{empty_block, LayingOn};
+ghost use Rattle.drop_elab.specs.Code.{empty_block, GoesOn, LayingOn};
 ghost use Rattle.drop_elab.specs.Changes.{flagged_of, IsTyped, end_statuses};
-ghost use Rattle.drop_elab.specs.Blocks.{returning_to, EndLaid, BlockLaid, BlocksLaid};
+ghost use Rattle.drop_elab.specs.Blocks.{returning_to, IsEnded, EndLaid, BlockLaid, BlocksLaid};
 
 use crate::cursor::Cursor;
 use crate::ends::Ends;
@@ -51,7 +51,8 @@ impl Ends {
         requires inside { cursor.old.at < length cursor.old.blocks }
         requires rows { (block < length self.now.maybe) × (block < length self.now.sure) }
         requires below { All (λ unit. IfSome unit.ty (λ id. id.0 < length program.now.types)) self.now.units }
-        ensures { OnOk result ((locals : List Tree) → All (λ unit. IsTyped program.now.types (shapes_of (crate_of program.now)) locals unit) self.now.units → LayingOn program.now cursor.old cursor.new (λ rest. done) (λ rest. definition.plan_drop (shapes_of (crate_of program.now)) locals place.now (map flagged_of self.now.units) (end_statuses (row_at self.now.maybe block) (row_at self.now.sure block)))) }
+        ensures on { OnOk result (GoesOn cursor.old cursor.new) }
+        ensures laid { OnOk result ((locals : List Tree) → All (λ unit. IsTyped program.now.types (shapes_of (crate_of program.now)) locals unit) self.now.units → LayingOn program.now cursor.old cursor.new (λ rest. done) (λ rest. definition.plan_drop (shapes_of (crate_of program.now)) locals place.now (map flagged_of self.now.units) (end_statuses (row_at self.now.maybe block) (row_at self.now.sure block)))) }
     {
         let Some(span) = self.spans.get(place.local as usize) else {
             return Ok(());
@@ -112,7 +113,8 @@ impl Ends {
         requires inside { cursor.old.at < length cursor.old.blocks }
         requires rows { (block < length self.now.maybe) × (block < length self.now.sure) }
         requires below { All (λ unit. IfSome unit.ty (λ id. id.0 < length program.now.types)) self.now.units }
-        ensures { OnOk result ((locals : List Tree) → All (λ unit. IsTyped program.now.types (shapes_of (crate_of program.now)) locals unit) self.now.units → EndLaid program.now.types cursor.old cursor.new
+        ensures on { OnOk result (IsEnded cursor.old cursor.new) }
+        ensures laid { OnOk result ((locals : List Tree) → All (λ unit. IsTyped program.now.types (shapes_of (crate_of program.now)) locals unit) self.now.units → EndLaid program.now.types cursor.old cursor.new
             (definition.lay_end (shapes_of (crate_of program.now)) locals (map flagged_of self.now.units) (end_statuses (row_at self.now.maybe block) (row_at self.now.sure block)) term (length cursor.old.locals) (length cursor.old.blocks))) }
     {
         match term {
@@ -177,7 +179,8 @@ impl Ends {
         requires fresh { cursor.old.stmts ≡ [] }
         requires rows { (at < length self.now.maybe) × (at < length self.now.sure) }
         requires below { All (λ unit. IfSome unit.ty (λ id. id.0 < length program.now.types)) self.now.units }
-        ensures { OnOk result ((locals : List Tree) → All (λ unit. IsTyped program.now.types (shapes_of (crate_of program.now)) locals unit) self.now.units → BlockLaid program.now.types (shapes_of (crate_of program.now)) locals (map flagged_of self.now.units) (end_statuses (row_at self.now.maybe at) (row_at self.now.sure at)) args at cursor.old cursor.new) }
+        ensures on { OnOk result (IsEnded cursor.old cursor.new) }
+        ensures laid { OnOk result ((locals : List Tree) → All (λ unit. IsTyped program.now.types (shapes_of (crate_of program.now)) locals unit) self.now.units → BlockLaid program.now.types (shapes_of (crate_of program.now)) locals (map flagged_of self.now.units) (end_statuses (row_at self.now.maybe at) (row_at self.now.sure at)) args at cursor.old cursor.new) }
     {
         let block = take_block(alloc, cursor.blocks.as_mut_slice(), at);
         cursor.at = at;

@@ -8,7 +8,7 @@ ghost use Rattle.mir_syntax.specs.Shapes.{shapes_of, place_ty};
 ghost use Rattle.drop_elab.specs.Plan.{done, guarded, clear};
 ghost use Rattle.drop_elab.specs.Elab.{status_of, typed_glue, cleared, plan_unit};
 ghost use Rattle.drop_elab.specs.Types.{HasIsize};
-ghost use Rattle.drop_elab.specs.Code.{LayingOn, nothing_left, bare_switched};
+ghost use Rattle.drop_elab.specs.Code.{GoesOn, LayingOn, nothing_left, bare_switched};
 ghost use Rattle.drop_elab.specs.Changes.{flagged_of, IsTyped};
 
 use crate::cursor::{Cursor, local_place, set_flag};
@@ -29,7 +29,8 @@ fn lay_unit(
     requires types { HasIsize program.now.types }
     requires inside { cursor.old.at < length cursor.old.blocks }
     requires below { IfSome unit.now.ty (λ id. id.0 < length program.now.types) }
-    ensures { OnOk result ((locals : List Tree) → IsTyped program.now.types (shapes_of (crate_of program.now)) locals unit.now → LayingOn program.now cursor.old cursor.new nothing_left (typed_glue (shapes_of (crate_of program.now)) unit.now.place (place_ty (shapes_of (crate_of program.now)) locals unit.now.place))) }
+    ensures on { OnOk result (GoesOn cursor.old cursor.new) }
+    ensures laid { OnOk result ((locals : List Tree) → IsTyped program.now.types (shapes_of (crate_of program.now)) locals unit.now → LayingOn program.now cursor.old cursor.new nothing_left (typed_glue (shapes_of (crate_of program.now)) unit.now.place (place_ty (shapes_of (crate_of program.now)) locals unit.now.place))) }
 {
     let Some(ty) = unit.ty else {
         return Ok(());
@@ -50,7 +51,8 @@ fn lay_static(
     requires types { HasIsize program.now.types }
     requires inside { cursor.old.at < length cursor.old.blocks }
     requires below { IfSome unit.now.ty (λ id. id.0 < length program.now.types) }
-    ensures { OnOk result ((locals : List Tree) → IsTyped program.now.types (shapes_of (crate_of program.now)) locals unit.now → LayingOn program.now cursor.old cursor.new nothing_left (λ rest. typed_glue (shapes_of (crate_of program.now)) unit.now.place (place_ty (shapes_of (crate_of program.now)) locals unit.now.place) (cleared unit.now.flag rest))) }
+    ensures on { OnOk result (GoesOn cursor.old cursor.new) }
+    ensures laid { OnOk result ((locals : List Tree) → IsTyped program.now.types (shapes_of (crate_of program.now)) locals unit.now → LayingOn program.now cursor.old cursor.new nothing_left (λ rest. typed_glue (shapes_of (crate_of program.now)) unit.now.place (place_ty (shapes_of (crate_of program.now)) locals unit.now.place) (cleared unit.now.flag rest))) }
 {
     lay_unit(cursor, alloc, program, unit)?;
     match unit.flag {
@@ -90,7 +92,8 @@ fn lay_guarded(
     requires types { HasIsize program.now.types }
     requires inside { cursor.old.at < length cursor.old.blocks }
     requires below { IfSome unit.now.ty (λ id. id.0 < length program.now.types) }
-    ensures { OnOk result ((locals : List Tree) → IsTyped program.now.types (shapes_of (crate_of program.now)) locals unit.now → LayingOn program.now cursor.old cursor.new nothing_left (guarded flag (typed_glue (shapes_of (crate_of program.now)) unit.now.place (place_ty (shapes_of (crate_of program.now)) locals unit.now.place) (clear flag done)))) }
+    ensures on { OnOk result (GoesOn cursor.old cursor.new) }
+    ensures laid { OnOk result ((locals : List Tree) → IsTyped program.now.types (shapes_of (crate_of program.now)) locals unit.now → LayingOn program.now cursor.old cursor.new nothing_left (guarded flag (typed_glue (shapes_of (crate_of program.now)) unit.now.place (place_ty (shapes_of (crate_of program.now)) locals unit.now.place) (clear flag done)))) }
 {
     let join = switch_on(cursor, alloc, flag)?;
     lay_unit(cursor, alloc, program, unit)?;
@@ -114,7 +117,8 @@ pub(crate) fn lay_one(
     requires types { HasIsize program.now.types }
     requires inside { cursor.old.at < length cursor.old.blocks }
     requires below { IfSome unit.now.ty (λ id. id.0 < length program.now.types) }
-    ensures { OnOk result ((locals : List Tree) → IsTyped program.now.types (shapes_of (crate_of program.now)) locals unit.now → LayingOn program.now cursor.old cursor.new nothing_left (plan_unit (shapes_of (crate_of program.now)) locals (flagged_of unit.now) (status_of maybe sure))) }
+    ensures on { OnOk result (GoesOn cursor.old cursor.new) }
+    ensures laid { OnOk result ((locals : List Tree) → IsTyped program.now.types (shapes_of (crate_of program.now)) locals unit.now → LayingOn program.now cursor.old cursor.new nothing_left (plan_unit (shapes_of (crate_of program.now)) locals (flagged_of unit.now) (status_of maybe sure))) }
 {
     if !maybe {
         return Ok(());
