@@ -14,4 +14,5 @@ pub mod Dropping
 pub mod Bodies
 pub mod Known
 pub mod On
+pub mod Drops
 pub mod Arms

@@ -1,4 +1,5 @@
-ghost use Rattle.std.specs.Prelude.{map};
+ghost use Rattle.std.specs.Prelude.{◌<◌, ◌^◌, map, length};
+ghost use Rattle.bit_rows.specs.Rows.{HasSize};
 ghost use Rattle.move_paths.specs.Rows.{IsSpanned};
 ghost use Rattle.drop_elab.specs.Changes.{unit_place};
 
@@ -16,4 +17,7 @@ pub(crate) struct Ends {
     pub maybe: BitRows,
     pub sure: BitRows,
     pub ghost spanned: { IsSpanned (map unit_place units) spans },
+    pub ghost few: { length units < 2 ^ 32 },
+    pub ghost maybe_size: { HasSize maybe (length maybe) (length units) },
+    pub ghost sure_size: { HasSize sure (length sure) (length units) },
 }

@@ -11,6 +11,12 @@ all_joined test (x ∷ xs) ys h k =
     let rest : IsTrue (list_all test (xs ++ ys)) = all_joined test xs ys two.1 k in
     rw two.0 rest
 
+pub all_first : {X : Type 0} (test : X → Bool) (x : X) (xs : List X) → IsTrue (list_all test (x ∷ xs)) → IsTrue (test x) × IsTrue (list_all test xs)
+all_first test x xs h = search rules
+
+pub one_all : {X : Type 0} (test : X → Bool) (x : X) → IsTrue (test x) → IsTrue (list_all test (x ∷ []))
+one_all test x h = rw h refl
+
 pub all_set : {X : Type 0} (test : X → Bool) (xs : List X) (i : ℕ) (y : X) → IsTrue (list_all test xs) → IsTrue (test y) → IsTrue (list_all test (set xs i y))
 all_set test [] i y h k = h
 all_set test (x ∷ xs) zero y h k =

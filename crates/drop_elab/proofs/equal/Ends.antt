@@ -6,14 +6,18 @@ use Rattle.mir_syntax.specs.declared.types.Ty.{Ty}
 use Rattle.mir_syntax.specs.declared.body.Block.{Block}
 use Rattle.mir_syntax.specs.declared.body.Stmt.{Stmt}
 use Rattle.mir_syntax.specs.declared.body.Term.{Term}
-use Rattle.mir_syntax.specs.declared.body.Term.TheVariants.{Goto}
+use Rattle.mir_syntax.specs.declared.body.Term.TheVariants.{Goto, Switch, Return, Unreachable, Drop, Call, Assert}
+use Rattle.mir_syntax.specs.declared.body.Operand.{Operand}
+use Rattle.mir_syntax.specs.declared.body.Callee.{Callee}
+use Rattle.mir_syntax.specs.declared.body.Place.{Place}
 use Rattle.mir_syntax.specs.declared.program.Program.{Program}
 use Rattle.mir_syntax.specs.Tree.{Tree, at_id, trees_of}
 use Rattle.mir_syntax.specs.Crate.{TypedStmt, TypedBlock, stmt_of, block_of}
 use Rattle.mir_syntax.specs.Ids.{stmt_below, block_below}
 use Rattle.drop_elab.specs.declared.cursor.Cursor.{Cursor}
 use Rattle.drop_elab.specs.Plan.{Plan, done, Laid, lay}
-use Rattle.drop_elab.specs.Elab.{call_end}
+use Rattle.mir_syntax.specs.Shapes.{Shape}
+use Rattle.drop_elab.specs.Elab.{Status, Flagged, call_end, lay_end}
 use Rattle.drop_elab.specs.Code.{empty_block, Seen, Built, seen, built, ended, all_built, InTable, Laying}
 use Rattle.drop_elab.specs.Blocks.{EndLaid}
 use Rattle.drop_elab.proofs.equal.Below.{all_joined, all_set}
@@ -88,3 +92,44 @@ back_ended types old more sets ss zs t next within e f low low2 =
         stmts = refl;
       };
     }
+
+-- ---- a call
+
+pub call_plain : (types : List Ty) (old new : Cursor) (more s : List Stmt) (ss zs : List TypedStmt) (t moved_on : Term) (next : ℕ) → s ≡ old.stmts ++ more → new ≡ record old { blocks = set old.blocks old.at (record { stmts = s; term = t }); stmts = [] }
+    → map (stmt_of (trees_of types)) more ≡ ss → IsTrue (list_all (stmt_below (length types)) more) → zs ≡ [] → EndLaid types old new (call_end ss t moved_on next zs)
+call_plain types old new more s ss zs t moved_on next joined is e low none =
+    let at : new ≡ after_end old more t = is ∙ ap (λ (s : List Stmt). let z : Cursor = record old { blocks = set old.blocks old.at (record { stmts = s; term = t }); stmts = [] } in z) joined in
+    subst (λ (c : Cursor). EndLaid types old c (call_end ss t moved_on next zs)) (sym at) (subst (λ (zs : List TypedStmt). EndLaid types old (after_end old more t) (call_end ss t moved_on next zs)) (sym none) (plain_ended types old more ss t e low))
+
+module _ (types : List Ty) (old n g new : Cursor) (more s sets : List Stmt) (ss zs : List TypedStmt) (same t : Term) (back next : ℕ) (within : old.at < length old.blocks) (joined : s ≡ old.stmts ++ more)
+         (added : n ≡ record old { stmts = s; blocks = old.blocks ++ empty_block ∷ [] }) (went : g ≡ record n { blocks = set n.blocks n.at (record { stmts = n.stmts; term = t }); stmts = []; at = back })
+         (is : new ≡ record g { blocks = set g.blocks g.at (record { stmts = sets; term = Goto next }); stmts = [] }) (back_is : back ≡ length old.blocks) where
+  back_at : new ≡ after_back old more t sets next
+  back_at =
+      is
+      ∙ ap (λ (g : Cursor). let z : Cursor = record g { blocks = set g.blocks g.at (record { stmts = sets; term = Goto next }); stmts = [] } in z)
+        (went ∙ ap (λ (n : Cursor). let z : Cursor = record n { blocks = set n.blocks n.at (record { stmts = n.stmts; term = t }); stmts = []; at = back } in z) added)
+      ∙ ap₂ (λ (s : List Stmt) (b : ℕ). let z : Cursor = record old { blocks = set (set (old.blocks ++ empty_block ∷ []) old.at (record { stmts = s; term = t })) b (record { stmts = sets; term = Goto next }); at = b; stmts = [] } in z) joined back_is
+
+  pub call_back : map (stmt_of (trees_of types)) more ≡ ss → map (stmt_of (trees_of types)) sets ≡ zs → IsTrue (list_all (stmt_below (length types)) more) → IsTrue (list_all (stmt_below (length types)) sets) → (length sets ≡ 0 → ⊥)
+      → EndLaid types old new (call_end ss same t next zs)
+  call_back e f low low2 some = subst (λ (c : Cursor). EndLaid types old c (call_end ss same t next zs)) (sym back_at) (go zs f)
+    where
+      go : (zs : List TypedStmt) → map (stmt_of (trees_of types)) sets ≡ zs → EndLaid types old (after_back old more t sets next) (call_end ss same t next zs)
+      go [] f = absurd (some (sym (length-map sets (stmt_of (trees_of types))) ∙ ap length f))
+      go (z ∷ zs) f = back_ended types old more sets ss (z ∷ zs) t next within e f low low2
+
+-- ---- other terminators
+
+pub other_end : (D : List Shape) (locals : List Tree) (fs : List Flagged) (ss : List Status) (t : Term) (l b : ℕ) → ((p : Place) (next : ℕ) → t ≡ Drop p next → ⊥) → ((p : Place) (g : Callee) (os : List Operand) (next : ℕ) → t ≡ Call p g os next → ⊥)
+    → plain_end [] t ≡ lay_end D locals fs ss t l b
+other_end D locals fs ss (Drop p next) l b no_drop no_call = absurd (no_drop p next refl)
+other_end D locals fs ss (Call p g os next) l b no_drop no_call = absurd (no_call p g os next refl)
+other_end D locals fs ss (Goto n) l b no_drop no_call = refl
+other_end D locals fs ss (Switch o arms n) l b no_drop no_call = refl
+other_end D locals fs ss Return l b no_drop no_call = refl
+other_end D locals fs ss Unreachable l b no_drop no_call = refl
+other_end D locals fs ss (Assert o c n os k) l b no_drop no_call = refl
+
+pub other_ended : (types : List Ty) (old new : Cursor) (t : Term) → new ≡ record old { blocks = set old.blocks old.at (record { stmts = old.stmts; term = t }); stmts = [] } → EndLaid types old new (plain_end [] t)
+other_ended types old new t is = subst (λ (c : Cursor). EndLaid types old c (plain_end [] t)) (sym (is ∙ ap (λ (s : List Stmt). let z : Cursor = record old { blocks = set old.blocks old.at (record { stmts = s; term = t }); stmts = [] } in z) (sym (append-nil old.stmts)))) (plain_ended types old [] [] t refl refl)

@@ -40,6 +40,12 @@ places_twice (u ∷ us) = ap (λ (vs : List Place). u.place ∷ vs) (places_twic
 pub spans_kept : (x : ℕ) (places : List Place) (spans : List Span) (bits : List Bool) (units : List DropUnit) → length bits ≡ length places → map flagged_of units ≡ with_flags x places bits → IsSpanned places spans → IsSpanned (map unit_place units) spans
 spans_kept x places spans bits units long is h = subst (λ (us : List Place). IsSpanned us spans) (sym (sym (places_twice units) ∙ ap (map place_of) is ∙ places_again x places bits long)) h
 
+pub units_count : (x : ℕ) (places : List Place) (bits : List Bool) (units : List DropUnit) → length bits ≡ length places → map flagged_of units ≡ with_flags x places bits → length units ≡ length places
+units_count x places bits units long is = sym (length-map units unit_place) ∙ ap length (sym (places_twice units) ∙ ap (map place_of) is ∙ places_again x places bits long)
+
+pub own_size : (rows : List (List Bool)) {count bits n : ℕ} → HasSize rows count bits → bits ≡ n → HasSize rows (length rows) n
+own_size rows {count} {bits} {n} z e = record { count_is = refl; bits_is = λ r l. z.bits_is r (let c = z.count_is in omega (arith, c, l)) ∙ e }
+
 module _ (D : List Shape) (trees : List Tree) (body : Body) (maybe sure : List (List Bool)) (rows : IsEnds D (body_of trees body) (units_of_body D (body_of trees body)) maybe sure) where
   at_ends : AtEnds trees (units_of_body D (body_of trees body)) rows.inits maybe sure 0 body.blocks
   at_ends = λ j b q.

@@ -1,25 +1,49 @@
-use Rattle.std.proofs.Common.{rules, ◌≡◌, ℕ, ◌<◌, ◌≤◌, ◌++◌, [], List, true, false, Some, map, set, take, length, slice_get, IsTrue, IfSome, IfOk, OnOk, ◌+◌, ◌-◌, ◌*◌, ◌/◌, ◌%◌, Bool, nat_eq, nat_lt, ◌∷◌, slice_index_or, bit_and, bit_or, Fits, w8, w32, w64, Bor, MutBor}
-use Rattle.std.specs.List.{All, list_all}
-use Rattle.bit_rows.specs.Rows.{row_at}
-use Rattle.mir_syntax.specs.Tree.{Tree, trees_of}
-use Rattle.mir_syntax.specs.declared.types.Ty.{Ty}
-use Rattle.mir_syntax.specs.Crate.{crate_of, stmt_of, block_of}
-use Rattle.mir_syntax.specs.Ids.{stmt_below, IdsInTable}
-use Rattle.mir_syntax.specs.Drops.{KnowsDrops}
-use Rattle.mir_syntax.specs.Shapes.{shapes_of}
+use Rattle.std.proofs.Common.{◌≡◌, ap, sym, ◌∙◌, subst, ◌++◌, ◌∷◌, [], ℕ, List, map, length, set, refl, arith}
+use Rattle.std.proofs.lemmas.List.{length-map}
+use Rattle.mir_syntax.specs.declared.body.Stmt.{Stmt}
+use Rattle.mir_syntax.specs.Tree.{trees_of}
+use Rattle.mir_syntax.specs.Crate.{stmt_of, TypedStmt}
 use Rattle.move_paths.specs.Effects.{moved, begun}
-use Rattle.drop_elab.specs.Plan.{done}
+use Rattle.drop_elab.specs.declared.cursor.Cursor.{Cursor}
+use Rattle.drop_elab.specs.declared.flags.DropUnit.{DropUnit}
 use Rattle.drop_elab.specs.Elab as definition
-use Rattle.drop_elab.specs.Types.{HasIsize}
-use Rattle.drop_elab.specs.Code.{empty_block, LayingOn}
-use Rattle.drop_elab.specs.Changes.{flagged_of, IsTyped, end_statuses}
-use Rattle.drop_elab.specs.Blocks.{returning_to, EndLaid, BlockLaid, BlocksLaid}
+use Rattle.drop_elab.specs.Changes.{flagged_of}
+use Rattle.drop_elab.specs.Blocks.{returning_to}
+use Rattle.drop_elab.proofs.equal.Ends.{call_plain, call_back}
 use Rattle.drop_elab.proofs.ends.Ends.lay_call.Goals as goal
 
--- src/blocks.rt:91:13
 pub returns-then-is_empty : goal.returns-then-is_empty
-returns-then-is_empty c = ?
+returns-then-is_empty c =
+    let old = c.args.cursor.now in
+    let us = c.args.self.now.units in
+    let t = c.args.call in
+    let none : length c.in_ok-sets.sets ≡ 0 = (let e = sym c.is_empty.ensures ∙ c.if-is_empty.true in grind arith) in
+    λ types.
+        (let tr = trees_of types in
+        let zs = definition.settings (λ u. definition.only_if (begun u t) true) (map flagged_of us) in
+        let set_is : map (stmt_of tr) c.in_ok-sets.sets ≡ zs = c.in_ok-sets.ensures.settings tr ∙ ap (λ (us : List DropUnit). definition.settings (λ u. definition.only_if (begun u t) true) (map flagged_of us)) c.as_slice-units.ensures in
+        call_plain types old c.close.new.self c.in_ok-clears.clears c.append.new.self (definition.settings (λ u. definition.only_if (moved u t) false) (map flagged_of us)) zs t (returning_to t (length old.blocks)) c.args.next
+            c.in_ok-append.ensures.ok c.close.ensures
+            (c.in_ok-clears.ensures.settings tr ∙ ap (λ (us : List DropUnit). definition.settings (λ u. definition.only_if (moved u t) false) (map flagged_of us)) c.as_slice-units.ensures) (c.in_ok-clears.ensures.below (length types))
+            (no_items zs (ap length (sym set_is) ∙ length-map c.in_ok-sets.sets (stmt_of tr) ∙ none)))
+  where
+    no_items : (xs : List TypedStmt) → length xs ≡ 0 → xs ≡ []
+    no_items [] e = refl
+    no_items (x ∷ xs) e = absurd (omega arith)
 
--- src/blocks.rt:73:5
 pub returns : goal.returns
-returns c = ?
+returns c =
+    let old = c.args.cursor.now in
+    let us = c.args.self.now.units in
+    let t = c.args.call in
+    let some : length c.in_ok-sets.sets ≡ 0 → ⊥ = (λ z. (let e = sym c.is_empty.ensures ∙ c.if-is_empty.false in absurd (grind arith))) in
+    λ types.
+        (let tr = trees_of types in
+        call_back types old c.add_block.new.self c.go_on.new.self c.close-2.new.self c.in_ok-clears.clears c.append.new.self c.in_ok-sets.sets
+            (definition.settings (λ u. definition.only_if (moved u t) false) (map flagged_of us)) (definition.settings (λ u. definition.only_if (begun u t) true) (map flagged_of us)) t (returning_to t (length old.blocks)) c.in_ok-back.back c.args.next c.requires.inside
+            c.in_ok-append.ensures.ok c.in_ok-back.ensures.added
+            (c.go_on.ensures ∙ ap (λ r. let z : Cursor = record c.add_block.new.self { blocks = set c.add_block.new.self.blocks c.add_block.new.self.at (record { stmts = c.add_block.new.self.stmts; term = r }); stmts = []; at = c.in_ok-back.back } in z) (c.returning_to.ensures ∙ ap (returning_to t) c.in_ok-back.ensures.number))
+            c.close-2.ensures c.in_ok-back.ensures.number
+            (c.in_ok-clears.ensures.settings tr ∙ ap (λ (us : List DropUnit). definition.settings (λ u. definition.only_if (moved u t) false) (map flagged_of us)) c.as_slice-units.ensures)
+            (c.in_ok-sets.ensures.settings tr ∙ ap (λ (us : List DropUnit). definition.settings (λ u. definition.only_if (begun u t) true) (map flagged_of us)) c.as_slice-units.ensures)
+            (c.in_ok-clears.ensures.below (length types)) (c.in_ok-sets.ensures.below (length types)) some)

@@ -4,7 +4,7 @@ use Rattle.bit_rows.specs.Rows.{row_at}
 use Rattle.mir_syntax.specs.Tree.{Tree}
 use Rattle.mir_syntax.specs.Crate.{crate_of}
 use Rattle.mir_syntax.specs.Shapes.{shapes_of}
-use Rattle.drop_elab.specs.Code.{LayingOn}
+use Rattle.drop_elab.specs.Code.{GoesOn, LayingOn}
 use Rattle.drop_elab.specs.Changes.{IsTyped}
 use Rattle.drop_elab.proofs.equal.Dropping.{drop_of}
 use Rattle.drop_elab.proofs.ends.Ends.lay_drop.Given as goal
@@ -14,5 +14,6 @@ invariant-loop-at l =
     let D = shapes_of (crate_of l.program) in
     let ms = row_at l.self.maybe l.block in
     let ns = row_at l.self.sure l.block in
-    (locals : List Tree) → All (λ unit. IsTyped l.program.types D locals unit) l.self.units
-    → LayingOn l.program l.fn.cursor l.cursor (λ rest. drop_of D locals l.place (drop l.at l.self.units) (drop l.at ms) (drop l.at ns)) (λ rest. drop_of D locals l.place l.self.units ms ns)
+    GoesOn l.fn.cursor l.cursor
+    × ((locals : List Tree) → All (λ unit. IsTyped l.program.types D locals unit) l.self.units
+    → LayingOn l.program l.fn.cursor l.cursor (λ rest. drop_of D locals l.place (drop l.at l.self.units) (drop l.at ms) (drop l.at ns)) (λ rest. drop_of D locals l.place l.self.units ms ns))
