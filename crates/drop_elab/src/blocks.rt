@@ -182,8 +182,7 @@ impl Ends {
         ensures on { OnOk result (IsEnded cursor.old cursor.new) }
         ensures laid { OnOk result ((locals : List Tree) → All (λ unit. IsTyped program.now.types (shapes_of (crate_of program.now)) locals unit) self.now.units → BlockLaid program.now.types (shapes_of (crate_of program.now)) locals (map flagged_of self.now.units) (end_statuses (row_at self.now.maybe at) (row_at self.now.sure at)) args at cursor.old cursor.new) }
     {
-        let block = take_block(alloc, cursor.blocks.as_mut_slice(), at);
-        cursor.at = at;
+        let block = open_block(cursor, alloc, at);
         cursor.stmts = self.first_settings(alloc, args, at)?;
         self.lay_stmts(cursor, alloc, block.stmts)?;
         self.lay_end(cursor, alloc, program, at, block.term)
@@ -212,6 +211,17 @@ impl Ends {
         }
         Ok(())
     }
+}
+
+/// Takes a block out of its place, and stands there.
+fn open_block(cursor: &mut Cursor, alloc: Global, at: u32) -> Block
+    requires { at < length cursor.old.blocks }
+    ensures block { slice_get cursor.old.blocks at ≡ Some result }
+    ensures cursor { cursor.new ≡ record cursor.old { blocks = set cursor.old.blocks at empty_block; at = at } }
+{
+    let block = take_block(alloc, cursor.blocks.as_mut_slice(), at);
+    cursor.at = at;
+    block
 }
 
 /// Takes a block out of its place.

@@ -1,6 +1,6 @@
 -- Arms of the variants that need drop, one after another.
 use Rattle.std.proofs.Common.{◌≡◌, refl, ap, ap₂, ◌∙◌, sym, subst, ℕ, suc, ◌+◌, ◌<◌, ◌≤◌, Bool, true, false, if◌then◌else◌, List, [], ◌∷◌, ◌++◌, map, drop, length, set, replicate, get_or, arith}
-use Rattle.std.proofs.lemmas.List.{append_assoc, append-nil, length-append, length-set, length-map, length-replicate, at_drop_more, get_or-map, replicate_more}
+use Rattle.std.proofs.lemmas.List.{append_assoc, append-nil, length-append, length-set, length-map, length-replicate, nil_from_length, at_drop_more, get_or-map, replicate_more}
 use Rattle.mir_syntax.specs.declared.types.TyId.{TyId}
 use Rattle.mir_syntax.specs.declared.types.Variant.{Variant}
 use Rattle.mir_syntax.specs.declared.body.Arm.{Arm}
@@ -140,15 +140,11 @@ module _ (p : Program) (D : List Shape) (f : ℕ → Place → Plan → Plan) (c
          (arms_is : arms ≡ arms_at D (length c.blocks) 0 ts) (made : m ≡ record c { blocks = c.blocks ++ replicate (length arms) empty_block }) where
   pub choice_none : length arms ≡ 0 → Laying p c m nothing_left (λ rest. chosen c.place (arms_of D f c.place 0 ts) rest)
   choice_none none =
-      let empty : arms_at D (length c.blocks) 0 ts ≡ [] = no_items (arms_at D (length c.blocks) 0 ts) (ap length (sym arms_is) ∙ none) in
+      let empty : arms_at D (length c.blocks) 0 ts ≡ [] = nil_from_length (arms_at D (length c.blocks) 0 ts) (ap length (sym arms_is) ∙ none) in
       let gone : arms_of D f c.place 0 ts ≡ done = no_arms D f c.place (length c.blocks) 0 ts empty in
       let same : m ≡ c = made ∙ ap (λ (ks : List Block). let z : Cursor = record c { blocks = ks } in z) (ap (λ n. c.blocks ++ replicate n empty_block) none ∙ append-nil c.blocks) in
       subst (λ (m : Cursor). Laying p c m nothing_left (λ rest. chosen c.place (arms_of D f c.place 0 ts) rest)) (sym same)
       (laying_as p c c nothing_left nothing_left (λ rest. chosen c.place (arms_of D f c.place 0 ts) rest) nothing_left (λ r. refl) (λ r. ap (λ a. chosen c.place a r) (sym gone)) (laying_none p c nothing_left within))
-    where
-      no_items : (xs : List Arm) → length xs ≡ 0 → xs ≡ []
-      no_items [] e = refl
-      no_items (x ∷ xs) e = absurd (omega arith)
 
   pub choice_some : (n d e : Cursor) (iz : TyId) (join : ℕ) → (length arms ≡ 0 → ⊥) → at_id (trees_of p.types) iz ≡ isize_ty → iz.0 < length p.types → n ≡ record m { blocks = m.blocks ++ empty_block ∷ [] } → join ≡ length m.blocks
       → d ≡ record n { locals = n.locals ++ iz ∷ []; blocks = set n.blocks n.at (bare_chosen n.stmts (length n.locals) n.place arms join); stmts = [] }

@@ -18,7 +18,7 @@ use Rattle.drop_elab.specs.declared.cursor.Cursor.{Cursor}
 use Rattle.drop_elab.specs.Plan.{Plan, done, Laid, lay}
 use Rattle.mir_syntax.specs.Shapes.{Shape}
 use Rattle.drop_elab.specs.Elab.{Status, Flagged, call_end, lay_end}
-use Rattle.drop_elab.specs.Code.{empty_block, Seen, Built, seen, built, ended, all_built, InTable, Laying}
+use Rattle.drop_elab.specs.Code.{empty_block, Seen, Built, seen, built, ended, all_built, InTable, Laying, LayingOn}
 use Rattle.drop_elab.specs.Blocks.{EndLaid}
 use Rattle.drop_elab.proofs.equal.Below.{all_joined, all_set}
 use Rattle.drop_elab.proofs.equal.Laid.{both, closed, closed_is}
@@ -36,6 +36,12 @@ drop_ended p old now q next x =
           ∙ ap₂ (λ l b. ended (seen tr old) (lay q l b next)) (length-map old.locals (at_id tr)) (length-map old.blocks (block_of tr));
       in_table = λ w. goto_in_table p.types now next (x.in_table w);
     }
+
+pub drop_laid : (p : Program) (old mid new : Cursor) (q : Plan) (next : ℕ) → LayingOn p old mid (λ rest. done) (λ rest. q) → new ≡ after_goto mid next → EndLaid p.types old new (lay q (length old.locals) (length old.blocks) next)
+drop_laid p old mid new q next x is =
+    let e = drop_ended p (record old { place = mid.place }) mid q next x in
+    subst (λ (c : Cursor). EndLaid p.types old c (lay q (length old.locals) (length old.blocks) next)) (sym is)
+    (record { fresh = e.fresh; grows = e.grows; same = e.same; in_table = λ w. e.in_table (record { locals = w.locals; blocks = w.blocks; stmts = w.stmts }) })
 
 abbrev pub plain_end : List TypedStmt → Term → Laid
 plain_end ss t = record { stmts = ss; term = t; locals = []; blocks = []; heads = [] }

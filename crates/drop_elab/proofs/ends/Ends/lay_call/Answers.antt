@@ -1,8 +1,8 @@
-use Rattle.std.proofs.Common.{◌≡◌, ap, sym, ◌∙◌, subst, ◌++◌, ◌∷◌, [], ℕ, List, map, length, set, refl, arith}
-use Rattle.std.proofs.lemmas.List.{length-map}
+use Rattle.std.proofs.Common.{◌≡◌, ap, sym, ◌∙◌, subst, ◌++◌, ◌∷◌, [], ℕ, List, map, length, set, refl, true, false, arith}
+use Rattle.std.proofs.lemmas.List.{length-map, nil_from_length}
 use Rattle.mir_syntax.specs.declared.body.Stmt.{Stmt}
 use Rattle.mir_syntax.specs.Tree.{trees_of}
-use Rattle.mir_syntax.specs.Crate.{stmt_of, TypedStmt}
+use Rattle.mir_syntax.specs.Crate.{stmt_of}
 use Rattle.move_paths.specs.Effects.{moved, begun}
 use Rattle.drop_elab.specs.declared.cursor.Cursor.{Cursor}
 use Rattle.drop_elab.specs.declared.flags.DropUnit.{DropUnit}
@@ -25,11 +25,7 @@ returns-then-is_empty c =
         call_plain types old c.close.new.self c.in_ok-clears.clears c.append.new.self (definition.settings (λ u. definition.only_if (moved u t) false) (map flagged_of us)) zs t (returning_to t (length old.blocks)) c.args.next
             c.in_ok-append.ensures.ok c.close.ensures
             (c.in_ok-clears.ensures.settings tr ∙ ap (λ (us : List DropUnit). definition.settings (λ u. definition.only_if (moved u t) false) (map flagged_of us)) c.as_slice-units.ensures) (c.in_ok-clears.ensures.below (length types))
-            (no_items zs (ap length (sym set_is) ∙ length-map c.in_ok-sets.sets (stmt_of tr) ∙ none)))
-  where
-    no_items : (xs : List TypedStmt) → length xs ≡ 0 → xs ≡ []
-    no_items [] e = refl
-    no_items (x ∷ xs) e = absurd (omega arith)
+            (nil_from_length zs (ap length (sym set_is) ∙ length-map c.in_ok-sets.sets (stmt_of tr) ∙ none)))
 
 pub returns : goal.returns
 returns c =

@@ -1,7 +1,7 @@
 use Rattle.std.proofs.Common.{◌≡◌, ap, sym, ◌∙◌, subst, ◌++◌, ◌∷◌, [], ℕ, List, map, IsTrue, rules}
 use Rattle.std.specs.List.{list_all}
 use Rattle.std.specs.Vec.Iter.{into_iter_items}
-use Rattle.std.proofs.lemmas.List.{append-nil}
+use Rattle.std.proofs.lemmas.List.{append-nil, nil_from_length}
 use Rattle.mir_syntax.specs.declared.body.Stmt.{Stmt}
 use Rattle.mir_syntax.specs.Crate.{TypedStmt, stmt_of}
 use Rattle.mir_syntax.specs.Ids.{stmt_below}
@@ -39,7 +39,7 @@ loop-stmt-preserved c =
 pub returns-clause-stmts : goal.returns-clause-stmts
 returns-clause-stmts c =
     let fs = map flagged_of c.args.self.now.units in
-    λ trees. sym (append-nil (map (stmt_of trees) c.loop-stmt.cursor.stmts)) ∙ ap (λ (xs : List Stmt). map (stmt_of trees) c.loop-stmt.cursor.stmts ++ definition.with_settings fs (map (stmt_of trees) xs)) (sym c.in-None.ensures.steps.0) ∙ c.loop-stmt.invariant.1 trees
+    λ trees. sym (append-nil (map (stmt_of trees) c.loop-stmt.cursor.stmts)) ∙ ap (λ (xs : List Stmt). map (stmt_of trees) c.loop-stmt.cursor.stmts ++ definition.with_settings fs (map (stmt_of trees) xs)) (sym (nil_from_length (into_iter_items c.loop-stmt.stmt-iterator) (sym c.loop-stmt.stmt-iterator.rest.ok.0 ∙ c.in-None.ensures.steps.0))) ∙ c.loop-stmt.invariant.1 trees
 
 pub returns-clause-below : goal.returns-clause-below
 returns-clause-below c = λ n h k. (c.loop-stmt.invariant.2 n h k).0
