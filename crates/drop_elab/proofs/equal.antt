@@ -15,4 +15,5 @@ pub mod Bodies
 pub mod Known
 pub mod On
 pub mod Drops
+pub mod Finished
 pub mod Arms

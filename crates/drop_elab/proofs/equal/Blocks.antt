@@ -3,7 +3,7 @@ use Rattle.std.proofs.Common.{◌≡◌, refl, ap, ap₂, ◌∙◌, sym, subst,
 use Rattle.std.specs.List.{list_all}
 use Rattle.std.specs.Option.{option_map}
 use Rattle.std.proofs.lemmas.List.{length-drop}
-use Rattle.std.proofs.lemmas.List.{append-nil, length-append, length-set, length-map, map-set, set-set, at_drop_more}
+use Rattle.std.proofs.lemmas.List.{append-nil, length-append, length-set, length-map, map-set, set-set, at_drop_more, at_drop_all}
 use Rattle.std.proofs.lemmas.Option.{slice_get_within, slice_get-map}
 use Rattle.mir_syntax.specs.declared.types.Ty.{Ty}
 use Rattle.mir_syntax.specs.declared.body.Block.{Block}
@@ -105,3 +105,8 @@ module _ (types : List Ty) (D : List Shape) (locals : List Tree) (fs : List Flag
             ∙ w.same;
         in_table = λ t. x.in_table (w.in_table t);
       }
+
+  pub blocks_done : length all ≤ i → BlocksLaid types D locals fs maybe sure args old now i all (drop i all) → BlocksLaid types D locals fs maybe sure args old now 0 all []
+  blocks_done past x =
+      let y : BlocksLaid types D locals fs maybe sure args old now i all [] = subst (λ (xs : List TypedBlock). BlocksLaid types D locals fs maybe sure args old now i all xs) (at_drop_all (λ (xs : List TypedBlock). xs) all i past) x in
+      record { fresh = y.fresh; grows = y.grows; rest = λ j k q. absurd cc; same = y.same; in_table = y.in_table }
