@@ -32,7 +32,7 @@ module _ (types : List Ty) (D : List Shape) (body : Body) (ends : Ends) (known :
       let fs = map flagged_of ends.units in
       let w = all_built (seen tr new) in
       let blocks_are : map (block_of tr) old.blocks ≡ tb.blocks = ap (map (block_of tr)) old_blocks in
-      let all : take count (map (block_of tr) old.blocks) ≡ tb.blocks = ap₂ (λ n (ks : List TypedBlock). take n ks) count_is blocks_are ∙ take_all tb.blocks (length body.blocks) (let n = length-map body.blocks (block_of tr) in omega (arith, n)) in
+      let all : take count (map (block_of tr) old.blocks) ≡ tb.blocks = ap₂ (λ n (ks : List TypedBlock). take n ks) count_is blocks_are ∙ take_all (length body.blocks) tb.blocks (let n = length-map body.blocks (block_of tr) in omega (arith, n)) in
       both w.locals (w.locals ++ []) w.blocks (w.blocks ++ []) (sym (append-nil w.locals)) (sym (append-nil w.blocks))
       ∙ laid.same
       ∙ ap (λ (ks : List TypedBlock). all_laid D tb.locals fs ends.maybe ends.sure body.args (all_built (seen tr old)) 0 ks) all
