@@ -43,11 +43,7 @@ fn ends_of(alloc: Global, program: &Program, body: &Body) -> Result<InitRows, Ou
 }
 
 /// A local of the type for each unit that has a flag.
-fn add_flags(
-    locals: &mut List<TyId>,
-    units: &[DropUnit],
-    bool_ty: TyId,
-) -> Result<(), OutOfMemory>
+fn add_flags(locals: &mut List<TyId>, units: &[DropUnit], bool_ty: TyId) -> Result<(), OutOfMemory>
     ensures locals { OnOk result ((trees : List Tree) → at_id trees bool_ty ≡ tree_of_bool → map (at_id trees) locals.new ≡ map (at_id trees) locals.old ++ locals_of (map flagged_of units.now)) }
     ensures below { OnOk result ((n : ℕ) → bool_ty.0 < n → IsTrue (all_below n locals.old) → IsTrue (all_below n locals.new)) }
 {

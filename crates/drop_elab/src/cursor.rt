@@ -5,9 +5,7 @@ ghost use Rattle.mir_syntax.specs.declared.body.Term.TheVariants.{Unreachable};
 ghost use Rattle.drop_elab.specs.Plan.{local_place, part};
 ghost use Rattle.drop_elab.specs.Code.{bare_flag};
 
-use mir_syntax::{
-    Block, Const, List, Operand, OutOfMemory, Place, Proj, Rvalue, Stmt, Term, TyId,
-};
+use mir_syntax::{Block, Const, List, Operand, OutOfMemory, Place, Proj, Rvalue, Stmt, Term, TyId};
 use std::alloc::Global;
 use std::mem;
 

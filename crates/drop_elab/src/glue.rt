@@ -12,11 +12,11 @@ ghost use Rattle.drop_elab.specs.Plan.{done, destroy, chosen, glue_from, glue_de
 ghost use Rattle.drop_elab.specs.Types.{HasIsize};
 ghost use Rattle.drop_elab.specs.Code.{arms_at, bare_called, bare_chosen, variant_tree, empty_block, Laying, Arming, nothing_left};
 
-use crate::types::isize_id;
 use crate::cursor::{Cursor, local_place};
+use crate::types::isize_id;
 use mir_syntax::{
-    Arm, Callee, Copied, Field, FnId, List, Operand, OutOfMemory, Program, Rvalue,
-    Stmt, Term, Ty, TyId, Variant,
+    Arm, Callee, Copied, Field, FnId, List, Operand, OutOfMemory, Program, Rvalue, Stmt, Term, Ty,
+    TyId, Variant,
 };
 use std::alloc::Global;
 
@@ -28,7 +28,10 @@ fn header(program: &Program, id: TyId, destructor: FnId) -> (TyId, TyId)
     ensures argument { at_id (trees_of program.now.types) result.1 ≡ ref_mut (at_id (trees_of program.now.types) id) }
     ensures in_table { (result.0.0 < length program.now.types) × (result.1.0 < length program.now.types) }
 {
-    let locals = program.functions.as_slice()[destructor.0 as usize].body.locals.as_slice();
+    let locals = program.functions.as_slice()[destructor.0 as usize]
+        .body
+        .locals
+        .as_slice();
     let result = locals[0];
     let argument = locals[1];
     (result, argument)
@@ -49,10 +52,7 @@ fn call(
     let result = cursor.add_local(result_ty)?;
     let next = cursor.add_block(alloc)?;
     let place = cursor.place.copied(alloc)?;
-    cursor.stmts.push(Stmt::Assign(
-        local_place(alloc, argument),
-        Rvalue::RefMut(place),
-    ))?;
+    cursor.stmts.push(Stmt::Assign(local_place(alloc, argument), Rvalue::RefMut(place)))?;
     let mut args = List::new(alloc);
     args.push(Operand::Move(local_place(alloc, argument)))?;
     let result = local_place(alloc, result);
@@ -131,10 +131,7 @@ fn choose(
 {
     let variant = cursor.add_local(isize_ty)?;
     let place = cursor.place.copied(alloc)?;
-    cursor.stmts.push(Stmt::Assign(
-        local_place(alloc, variant),
-        Rvalue::Discriminant(place),
-    ))?;
+    cursor.stmts.push(Stmt::Assign(local_place(alloc, variant), Rvalue::Discriminant(place)))?;
     let on = Operand::Move(local_place(alloc, variant));
     cursor.close(alloc, Term::Switch(on, arms, join));
     Ok(())

@@ -25,8 +25,8 @@ variants_left F trees vs i v low is =
     ∙ ap (λ t. F (t ∷ drop (i + 1) (map (variant_tree trees) vs))) (get_or-map (variant_tree trees) vs i v (variant_tree trees v) low ∙ ap (variant_tree trees) (sym is))
 
 module _ (D : List Shape) (trees : List Tree) (vs : List Variant) (i : ℕ) (v : Variant) (low : i < length vs) (is : v ≡ get_or vs i v) (old now : Cursor) (arms : List Arm)
-         (before : arms ++ arms_at D (length now.blocks) i (drop i (map (variant_tree trees) vs)) ≡ arms_at D (length old.blocks) 0 (map (variant_tree trees) vs))
-         (cursor_is : now ≡ record old { blocks = old.blocks ++ replicate (length arms) empty_block }) where
+    (before : arms ++ arms_at D (length now.blocks) i (drop i (map (variant_tree trees) vs)) ≡ arms_at D (length old.blocks) 0 (map (variant_tree trees) vs))
+    (cursor_is : now ≡ record old { blocks = old.blocks ++ replicate (length arms) empty_block }) where
   abbrev rest : ℕ → List Arm
   rest b = arms_at D b (i + 1) (drop (i + 1) (map (variant_tree trees) vs))
 
@@ -137,7 +137,7 @@ choice_room p D c m arms ts arms_is made n d iz join n_is join_is d_is =
     (omega (arith, long, m_long, join_is), (omega (arith, m_long, n_long, d_long, join_is), ap (λ (c : Cursor). c.stmts) d_is))
 
 module _ (p : Program) (D : List Shape) (f : ℕ → Place → Plan → Plan) (c m : Cursor) (arms : List Arm) (ts : List Tree) (within : c.at < length c.blocks)
-         (arms_is : arms ≡ arms_at D (length c.blocks) 0 ts) (made : m ≡ record c { blocks = c.blocks ++ replicate (length arms) empty_block }) where
+    (arms_is : arms ≡ arms_at D (length c.blocks) 0 ts) (made : m ≡ record c { blocks = c.blocks ++ replicate (length arms) empty_block }) where
   pub choice_none : length arms ≡ 0 → Laying p c m nothing_left (λ rest. chosen c.place (arms_of D f c.place 0 ts) rest)
   choice_none none =
       let empty : arms_at D (length c.blocks) 0 ts ≡ [] = nil_from_length (arms_at D (length c.blocks) 0 ts) (ap length (sym arms_is) ∙ none) in
@@ -155,7 +155,7 @@ module _ (p : Program) (D : List Shape) (f : ℕ → Place → Plan → Plan) (c
       let froms : arms_from (length c.blocks) a ≡ arms = arms_are D f c.place (length c.blocks) 0 ts ∙ sym arms_is in
       let d_at : d ≡ at_arms c iz (arms_from (length c.blocks) a) join = at_arms_is c m n d iz arms join made n_is d_is ∙ ap (λ xs. at_arms c iz xs join) (sym froms) in
       let join_at : join ≡ length c.blocks + length (arms_from (length c.blocks) a) =
-          (join_is ∙ ap (λ (c : Cursor). length c.blocks) made ∙ length-append c.blocks (replicate (length arms) empty_block) ∙ ap (λ n. length c.blocks + n) (length-replicate (length arms) empty_block ∙ ap length (sym froms))) in
+      (join_is ∙ ap (λ (c : Cursor). length c.blocks) made ∙ length-append c.blocks (replicate (length arms) empty_block) ∙ ap (λ n. length c.blocks + n) (length-replicate (length arms) empty_block ∙ ap length (sym froms))) in
       let y : Arming p (at_arms c iz (arms_from (length c.blocks) a) join) e (length c.blocks) join a join done = subst (λ (d : Cursor). Arming p d e (length c.blocks) join (arms_of D f d.place 0 ts) join done) d_at x in
       let z = choice_lays p c iz a within iz_is e join join join_at iz_low y in
       laying_as p c (record e { at = join }) nothing_left nothing_left (λ rest. chosen c.place a rest) (choose c.place a) (λ r. refl) (λ r. sym (taken (arms_from (length c.blocks) a) refl (ap length froms) r)) z

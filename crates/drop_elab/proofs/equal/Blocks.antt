@@ -53,9 +53,9 @@ module _ (types : List Ty) (D : List Shape) (locals : List Tree) (fs : List Flag
       let long : length mid.blocks ≡ length old.blocks = ap length mid_blocks ∙ length-set old.blocks i empty_block in
       let e = lay_end D locals fs ss block.term (length ls) (length ks) in
       let mid_seen : seen tr mid ≡ record { locals = ls; blocks = set ks i (block_of tr empty_block); at = i; stmts = front } =
-          (ap (seen tr) is
-          ∙ ap (λ (k : List TypedBlock). let z : Seen = record { locals = ls; blocks = k; at = i; stmts = map (stmt_of tr) mid.stmts } in z) (map-set (block_of tr) old.blocks i empty_block)
-          ∙ ap (λ (s : List TypedStmt). let z : Seen = record { locals = ls; blocks = set ks i (block_of tr empty_block); at = i; stmts = s } in z) stmts) in
+      (ap (seen tr) is
+      ∙ ap (λ (k : List TypedBlock). let z : Seen = record { locals = ls; blocks = k; at = i; stmts = map (stmt_of tr) mid.stmts } in z) (map-set (block_of tr) old.blocks i empty_block)
+      ∙ ap (λ (s : List TypedStmt). let z : Seen = record { locals = ls; blocks = set ks i (block_of tr empty_block); at = i; stmts = s } in z) stmts) in
       record {
         fresh = x.fresh;
         grows = (let l = x.grows in omega (arith, l, long));

@@ -73,4 +73,4 @@ module _ (p : Program) (ends : Ends) (block : ℕ) (q : Place) (locals : List Tr
   pub span_ends : (old now : Cursor) (s : Span) (at : ℕ) → slice_get ends.spans q.local ≡ Some s → s.to ≤ at → LayingOn p old now (left at) whole → LayingOn p old now (λ rest. done) whole
   span_ends old now s at some past x = laying_as p (record old { place = now.place }) now (left at) (λ rest. done) whole whole
       (λ r. sym (drop_ends (shapes_of (crate_of p)) locals q (drop at ends.units) (drop at (row_at ends.maybe block)) (drop at (row_at ends.sure block))
-          (λ k u e. not_under (at + k) u (sym (get_behind at ends.units k) ∙ e) (ap (in_span (at + k)) some ∙ after_span s (at + k) (omega (arith, past)))))) (λ r. refl) x
+      (λ k u e. not_under (at + k) u (sym (get_behind at ends.units k) ∙ e) (ap (in_span (at + k)) some ∙ after_span s (at + k) (omega (arith, past)))))) (λ r. refl) x

@@ -108,13 +108,13 @@ call_plain types old new more s ss zs t moved_on next joined is e low none =
     subst (λ (c : Cursor). EndLaid types old c (call_end ss t moved_on next zs)) (sym at) (subst (λ (zs : List TypedStmt). EndLaid types old (after_end old more t) (call_end ss t moved_on next zs)) (sym none) (plain_ended types old more ss t e low))
 
 module _ (types : List Ty) (old n g new : Cursor) (more s sets : List Stmt) (ss zs : List TypedStmt) (same t : Term) (back next : ℕ) (within : old.at < length old.blocks) (joined : s ≡ old.stmts ++ more)
-         (added : n ≡ record old { stmts = s; blocks = old.blocks ++ empty_block ∷ [] }) (went : g ≡ record n { blocks = set n.blocks n.at (record { stmts = n.stmts; term = t }); stmts = []; at = back })
-         (is : new ≡ record g { blocks = set g.blocks g.at (record { stmts = sets; term = Goto next }); stmts = [] }) (back_is : back ≡ length old.blocks) where
+    (added : n ≡ record old { stmts = s; blocks = old.blocks ++ empty_block ∷ [] }) (went : g ≡ record n { blocks = set n.blocks n.at (record { stmts = n.stmts; term = t }); stmts = []; at = back })
+    (is : new ≡ record g { blocks = set g.blocks g.at (record { stmts = sets; term = Goto next }); stmts = [] }) (back_is : back ≡ length old.blocks) where
   back_at : new ≡ after_back old more t sets next
   back_at =
       is
       ∙ ap (λ (g : Cursor). let z : Cursor = record g { blocks = set g.blocks g.at (record { stmts = sets; term = Goto next }); stmts = [] } in z)
-        (went ∙ ap (λ (n : Cursor). let z : Cursor = record n { blocks = set n.blocks n.at (record { stmts = n.stmts; term = t }); stmts = []; at = back } in z) added)
+      (went ∙ ap (λ (n : Cursor). let z : Cursor = record n { blocks = set n.blocks n.at (record { stmts = n.stmts; term = t }); stmts = []; at = back } in z) added)
       ∙ ap₂ (λ (s : List Stmt) (b : ℕ). let z : Cursor = record old { blocks = set (set (old.blocks ++ empty_block ∷ []) old.at (record { stmts = s; term = t })) b (record { stmts = sets; term = Goto next }); at = b; stmts = [] } in z) joined back_is
 
   pub call_back : map (stmt_of (trees_of types)) more ≡ ss → map (stmt_of (trees_of types)) sets ≡ zs → IsTrue (list_all (stmt_below (length types)) more) → IsTrue (list_all (stmt_below (length types)) sets) → (length sets ≡ 0 → ⊥)

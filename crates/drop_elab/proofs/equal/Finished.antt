@@ -21,9 +21,9 @@ use Rattle.drop_elab.proofs.equal.Bodies.{body_is}
 use Rattle.drop_elab.proofs.equal.Known.{want_long}
 
 module _ (types : List Ty) (D : List Shape) (body : Body) (ends : Ends) (known : IsKnown types D (body_of (trees_of types) body) ends) (flags : List TyId) (old new : Cursor) (count : ℕ)
-         (flags_are : map (at_id (trees_of types)) flags ≡ map (at_id (trees_of types)) body.locals ++ locals_of (map flagged_of ends.units))
-         (old_locals : old.locals ≡ flags) (old_blocks : old.blocks ≡ body.blocks) (count_is : count ≡ length body.blocks)
-         (laid : BlocksLaid types D (body_of (trees_of types) body).locals (map flagged_of ends.units) ends.maybe ends.sure body.args old new 0 (take count (map (block_of (trees_of types)) old.blocks)) []) where
+    (flags_are : map (at_id (trees_of types)) flags ≡ map (at_id (trees_of types)) body.locals ++ locals_of (map flagged_of ends.units))
+    (old_locals : old.locals ≡ flags) (old_blocks : old.blocks ≡ body.blocks) (count_is : count ≡ length body.blocks)
+    (laid : BlocksLaid types D (body_of (trees_of types) body).locals (map flagged_of ends.units) ends.maybe ends.sure body.args old new 0 (take count (map (block_of (trees_of types)) old.blocks)) []) where
   built_is : all_built (seen (trees_of types) new) ≡ all_laid D (body_of (trees_of types) body).locals (map flagged_of ends.units) ends.maybe ends.sure body.args
       (record { locals = (body_of (trees_of types) body).locals ++ locals_of (map flagged_of ends.units); blocks = (body_of (trees_of types) body).blocks }) 0 (body_of (trees_of types) body).blocks
   built_is =

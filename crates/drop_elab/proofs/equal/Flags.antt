@@ -28,7 +28,7 @@ flag_none None e = refl
 flag_none (Some x) e = absurd cc
 
 module _ (trees : List Tree) (units : List DropUnit) (i : ℕ) (u : DropUnit) (low : i < length units) (is : u ≡ get_or units i u) (now : List TyId) (all : List Tree)
-         (before : map (at_id trees) now ++ locals_of (map flagged_of (drop i units)) ≡ all) where
+    (before : map (at_id trees) now ++ locals_of (map flagged_of (drop i units)) ≡ all) where
   left_locals : locals_of (map flagged_of (drop i units)) ≡ flag_local u.flag ++ locals_of (map flagged_of (drop (i + 1) units))
   left_locals = at_drop_more (λ xs. locals_of (map flagged_of xs)) units i u low ∙ ap (λ (v : DropUnit). flag_local v.flag ++ locals_of (map flagged_of (drop (i + 1) units))) (sym is)
 
@@ -62,7 +62,7 @@ settings_done trees change units i now all low e = sym (append-nil (map (stmt_of
 -- ---- units
 
 module _ (bs : List Bool) (us next : List DropUnit) (u : DropUnit) (p : Place) (rest items : List Place) (x : ℕ) (all : List Flagged) (low : length us < length bs) (is : next ≡ us ++ u ∷ [])
-         (items_are : items ≡ p ∷ rest) (before : map flagged_of us ++ with_flags x items (drop (length us) bs) ≡ all) where
+    (items_are : items ≡ p ∷ rest) (before : map flagged_of us ++ with_flags x items (drop (length us) bs) ≡ all) where
   more_long : length next ≡ length us + 1
   more_long = ap length is ∙ length-append us (u ∷ [])
 

@@ -66,8 +66,8 @@ module _ (D : List Shape) (trees : List Tree) (body : Body) (maybe sure : List (
       let long : length (row_at wanted 0) ≡ length us = size.bits_is 0 (omega arith) in
       ext_get_or false (row_at wanted 0) (want_flags us rows.inits 0 (map (block_of trees) body.blocks)) (long ∙ sym want_long)
       (λ k l. (let u : Place = get_or us k no_place in
-          let q : slice_get us k ≡ Some u = slice_get-get_or us k no_place (omega (arith, l, long)) in
-          h k u q ∙ sym (wants_are trees us rows.inits maybe sure 0 body.blocks k u at_ends q)))
+      let q : slice_get us k ≡ Some u = slice_get-get_or us k no_place (omega (arith, l, long)) in
+      h k u q ∙ sym (wants_are trees us rows.inits maybe sure 0 body.blocks k u at_ends q)))
     where
       no_place : Place
       no_place = record { local = 0; proj = [] }

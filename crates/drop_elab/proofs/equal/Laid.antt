@@ -90,8 +90,8 @@ guarded_is c now x e d q rest s w =
     let g = lay q l (suc (suc b)) j in
     let r = lay rest (l + length g.locals) (suc (suc b) + length g.blocks) s in
     let first : built (at_guard c x e d) q j ≡ record { locals = c.locals ++ g.locals; blocks = (here ++ (code g ∷ (d ∷ []))) ++ g.blocks } =
-        (laid_at (at_guard c x e d) q j l (suc (suc b)) refl (length-append here (e ∷ (d ∷ [])) ∙ (omega arith))
-        ∙ both (c.locals ++ g.locals) (c.locals ++ g.locals) (set (here ++ (e ∷ (d ∷ []))) b (code g) ++ g.blocks) ((here ++ (code g ∷ (d ∷ []))) ++ g.blocks) refl (ap (λ (ks : List TypedBlock). ks ++ g.blocks) (set_at here e (d ∷ []) (code g) b long))) in
+    (laid_at (at_guard c x e d) q j l (suc (suc b)) refl (length-append here (e ∷ (d ∷ [])) ∙ (omega arith))
+    ∙ both (c.locals ++ g.locals) (c.locals ++ g.locals) (set (here ++ (e ∷ (d ∷ []))) b (code g) ++ g.blocks) ((here ++ (code g ∷ (d ∷ []))) ++ g.blocks) refl (ap (λ (ks : List TypedBlock). ks ++ g.blocks) (set_at here e (d ∷ []) (code g) b long))) in
     let mid : closed now j ≡ record { locals = c.locals ++ g.locals; blocks = (here ++ (code g ∷ (d ∷ []))) ++ g.blocks } = (sym (closed_is now j) ∙ w ∙ first) in
     let at_join : (v : Built) → Seen = λ (v : Built). record { locals = v.locals; blocks = v.blocks; at = j; stmts = [] } in
     let v : Built = record { locals = c.locals ++ g.locals; blocks = (here ++ (code g ∷ (d ∷ []))) ++ g.blocks } in
@@ -171,9 +171,9 @@ chosen_is c now q a rest es d s n w =
     let locals_long : length (c.locals ++ isize_ty ∷ []) ≡ suc l = length-append c.locals (isize_ty ∷ []) ∙ (omega arith) in
     let blocks_long : length (here ++ (es ++ d ∷ [])) ≡ suc join = (let i = length-append here (es ++ d ∷ []) in let h = length-append es (d ∷ []) in omega (arith, long, n)) in
     let first : armed (at_choice c q a es d) b a (b + length es) ≡ v =
-        (ap (λ j. armed (at_choice c q a es d) b a j) (ap (λ m. b + m) n)
-        ∙ ap₂ (λ x y. let u = lay a x y join in let z : Built = record { locals = (c.locals ++ isize_ty ∷ []) ++ u.locals; blocks = put (here ++ (es ++ d ∷ [])) b u.heads ++ u.blocks } in z) locals_long blocks_long
-        ∙ both ((c.locals ++ isize_ty ∷ []) ++ g.locals) ((c.locals ++ isize_ty ∷ []) ++ g.locals) (put (here ++ (es ++ d ∷ [])) b g.heads ++ g.blocks) ((here ++ (g.heads ++ d ∷ [])) ++ g.blocks) refl (ap (λ (ks : List TypedBlock). ks ++ g.blocks) (put_all here g.heads es (d ∷ []) b long heads))) in
+    (ap (λ j. armed (at_choice c q a es d) b a j) (ap (λ m. b + m) n)
+    ∙ ap₂ (λ x y. let u = lay a x y join in let z : Built = record { locals = (c.locals ++ isize_ty ∷ []) ++ u.locals; blocks = put (here ++ (es ++ d ∷ [])) b u.heads ++ u.blocks } in z) locals_long blocks_long
+    ∙ both ((c.locals ++ isize_ty ∷ []) ++ g.locals) ((c.locals ++ isize_ty ∷ []) ++ g.locals) (put (here ++ (es ++ d ∷ [])) b g.heads ++ g.blocks) ((here ++ (g.heads ++ d ∷ [])) ++ g.blocks) refl (ap (λ (ks : List TypedBlock). ks ++ g.blocks) (put_all here g.heads es (d ∷ []) b long heads))) in
     let at_join : Built → ℕ → Seen = λ (v : Built) (j : ℕ). record { locals = v.locals; blocks = v.blocks; at = j; stmts = [] } in
     let front = here ++ g.heads in
     let front_long : length front ≡ join = (length-append here g.heads ∙ (omega (arith, long, n, heads))) in

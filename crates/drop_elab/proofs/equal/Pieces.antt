@@ -170,10 +170,10 @@ module _ (p : Program) (c : Cursor) (iz : TyId) (a : Plan) (within : c.at < leng
         same = λ rest s.
             let b : length (map (block_of tr) c.blocks) + length es ≡ join = (ap₂ (λ m n. m + n) blocks_long long ∙ sym at) in
             let w : all_built (seen tr d) ≡ armed (at_choice (seen tr c) c.place a es (block_of tr empty_block)) (length (map (block_of tr) c.blocks)) a (length (map (block_of tr) c.blocks) + length es) =
-                (sym (armed_all (all_built (seen tr d)) j join) ∙ x.same
-                ∙ ap (λ n. armed (all_built (seen tr (at_arms c iz arms n))) (length c.blocks) a join) at
-                ∙ ap (λ v. armed v (length c.blocks) a join) arms_seen
-                ∙ ap₂ (λ m n. armed (at_choice (seen tr c) c.place a es (block_of tr empty_block)) m a n) (sym blocks_long) (sym b)) in
+            (sym (armed_all (all_built (seen tr d)) j join) ∙ x.same
+            ∙ ap (λ n. armed (all_built (seen tr (at_arms c iz arms n))) (length c.blocks) a join) at
+            ∙ ap (λ v. armed v (length c.blocks) a join) arms_seen
+            ∙ ap₂ (λ m n. armed (at_choice (seen tr c) c.place a es (block_of tr empty_block)) m a n) (sym blocks_long) (sym b)) in
             ap₂ (λ (n : ℕ) (ss : List Stmt). built (record { locals = map (at_id tr) d.locals; blocks = map (block_of tr) d.blocks; at = n; stmts = map (stmt_of tr) ss }) rest s) (sym b) x.fresh
             ∙ chosen_is (seen tr c) (all_built (seen tr d)) c.place a rest es (block_of tr empty_block) s (long ∙ ap (λ n. length (arms_from n a)) (sym blocks_long)) w;
         in_table = λ w. (let v = x.in_table (record {
@@ -204,7 +204,7 @@ module _ (p : Program) (old c d : Cursor) (first join at k : ℕ) (whole rest : 
       let next : suc at ≡ at + 1 = omega arith in
       let blocks_long : length (map (block_of tr) c.blocks) ≡ length c.blocks = length-map c.blocks (block_of tr) in
       let inner : built (seen tr d) done join ≡ built (record { locals = map (at_id tr) c.locals; blocks = map (block_of tr) c.blocks; at = at; stmts = [] }) (g done) join =
-          (y.same done join ∙ ap (λ (ss : List Stmt). built (record { locals = map (at_id tr) c.locals; blocks = map (block_of tr) c.blocks; at = at; stmts = map (stmt_of tr) ss }) (g done) join) x.fresh) in
+      (y.same done join ∙ ap (λ (ss : List Stmt). built (record { locals = map (at_id tr) c.locals; blocks = map (block_of tr) c.blocks; at = at; stmts = map (stmt_of tr) ss }) (g done) join) x.fresh) in
       record {
         same_place = y.same_place ∙ x.same_place;
         fresh = refl;

@@ -44,8 +44,8 @@ laying_on p a b c g h w x y = record {
 -- ---- the glue of a part is laid, and the cursor goes back
 
 module _ (p : Program) (a b e f : Cursor) (step : Proj) (ps : List Proj) (o : Option Proj)
-         (entered : e ≡ record b { place = part b.place step })
-         (went : MatchOption o ((f.place.proj ≡ []) × (ps ≡ [])) (λ last. f.place.proj ≡ ps ++ last ∷ [])) where
+    (entered : e ≡ record b { place = part b.place step })
+    (went : MatchOption o ((f.place.proj ≡ []) × (ps ≡ [])) (λ last. f.place.proj ≡ ps ++ last ∷ [])) where
   abbrev pub back : Cursor
   back = record { locals = f.locals; blocks = f.blocks; at = f.at; stmts = f.stmts; place = record { local = f.place.local; proj = ps } }
 
@@ -65,8 +65,8 @@ module _ (p : Program) (a b e f : Cursor) (step : Proj) (ps : List Proj) (o : Op
   }
 
 module _ (of_def : ℕ → Place → Plan → Plan) (p : Program) (a b e f : Cursor) (i : ℕ) (ps : List Proj) (o : Option Proj)
-         (entered : e ≡ record b { place = part b.place (Field i) })
-         (went : MatchOption o ((f.place.proj ≡ []) × (ps ≡ [])) (λ last. f.place.proj ≡ ps ++ last ∷ [])) (w : Plan → Plan) where
+    (entered : e ≡ record b { place = part b.place (Field i) })
+    (went : MatchOption o ((f.place.proj ≡ []) × (ps ≡ [])) (λ last. f.place.proj ≡ ps ++ last ∷ [])) (w : Plan → Plan) where
   some_part : (left : Tree) (t ts : Tree) → glue_from of_def a.place i left ≡ glue_from of_def a.place i (more t ts) → Laying p a b (glue_from of_def a.place i left) w
       → Laying p e f nothing_left (glue_from of_def e.place 0 t) → Laying p a (back p a b e f (Field i) ps o entered went) (glue_from of_def a.place (i + 1) ts) w
   some_part left t ts is x y =

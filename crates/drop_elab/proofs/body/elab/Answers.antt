@@ -21,8 +21,8 @@ returns-clause-elab c =
     let e = c.in_ok-ends.ends in
     let start : Cursor = record { locals = c.add_flags.new.locals; blocks = b.blocks; at = 0; stmts = c.new.result; place = c.local_place.result } in
     elab_made p.types D b e c.in_ok-ends.ensures c.add_flags.new.locals start c.lay_blocks.new.cursor c.len-count.result
-        (c.in_ok-add_flags.ensures.locals tr c.bool_id.ensures.stands ∙ ap (λ (us : List DropUnit). map (at_id tr) b.locals ++ locals_of (map flagged_of us)) c.as_slice.ensures) refl refl c.len-count.ensures
-        (c.in_ok-lay_blocks.ensures (body_of tr b).locals c.in_ok-ends.ensures.typed)
+    (c.in_ok-add_flags.ensures.locals tr c.bool_id.ensures.stands ∙ ap (λ (us : List DropUnit). map (at_id tr) b.locals ++ locals_of (map flagged_of us)) c.as_slice.ensures) refl refl c.len-count.ensures
+    (c.in_ok-lay_blocks.ensures (body_of tr b).locals c.in_ok-ends.ensures.typed)
 
 pub returns-clause-in_table : goal.returns-clause-in_table
 returns-clause-in_table c =
@@ -36,6 +36,6 @@ returns-clause-in_table c =
     let ids = c.requires.body_ids in
     let two : IsTrue (all_below n b.locals) × IsTrue (list_all (block_below n) b.blocks) = search rules in
     elab_in_table p.types D b e c.in_ok-ends.ensures c.add_flags.new.locals start c.lay_blocks.new.cursor c.len-count.result
-        (c.in_ok-add_flags.ensures.locals tr c.bool_id.ensures.stands ∙ ap (λ (us : List DropUnit). map (at_id tr) b.locals ++ locals_of (map flagged_of us)) c.as_slice.ensures) refl refl c.len-count.ensures
-        (c.in_ok-lay_blocks.ensures (body_of tr b).locals c.in_ok-ends.ensures.typed)
-        c.new.ensures c.requires.body_ids (c.in_ok-add_flags.ensures.below n c.bool_id.ensures.in_table two.0)
+    (c.in_ok-add_flags.ensures.locals tr c.bool_id.ensures.stands ∙ ap (λ (us : List DropUnit). map (at_id tr) b.locals ++ locals_of (map flagged_of us)) c.as_slice.ensures) refl refl c.len-count.ensures
+    (c.in_ok-lay_blocks.ensures (body_of tr b).locals c.in_ok-ends.ensures.typed)
+    c.new.ensures c.requires.body_ids (c.in_ok-add_flags.ensures.below n c.bool_id.ensures.in_table two.0)

@@ -17,4 +17,4 @@ returns-clause-rows c =
     let r = c.in_ok-rows.rows in
     let e = c.in_ok-rows.ensures in
     ends_found (shapes_of (crate_of p)) (trees_of p.types) c.args.body.now r.units.places r.maybe r.sure c.to_ends.new.rows c.to_ends-2.new.rows c.as_slice-blocks.result.now c.as_slice-blocks.ensures
-        e.units e.maybe_size e.maybe e.sure_size e.sure c.to_ends.ensures.size (c.to_ends.ensures.rows (trees_of p.types)) c.to_ends-2.ensures.size (c.to_ends-2.ensures.rows (trees_of p.types))
+    e.units e.maybe_size e.maybe e.sure_size e.sure c.to_ends.ensures.size (c.to_ends.ensures.rows (trees_of p.types)) c.to_ends-2.ensures.size (c.to_ends-2.ensures.rows (trees_of p.types))

@@ -38,4 +38,4 @@ returns c =
     let w = c.in_ok-wanted.ensures in
     let e = c.in_ok-units.ensures in
     known_is p.types (shapes_of (crate_of p)) c.args.body.now (record { units = c.in_ok-units.units; spans = r.units.spans; maybe = r.maybe; sure = r.sure; spanned = _; few = _; maybe_size = _; sure_size = _ }) r.units.places c.in_ok-wanted.wanted
-        c.in_ok-rows.ensures.units c.in_ok-rows.ensures.rows w.size (λ k u q. w.wants k u q ∙ ap (λ bs. wants_in r.maybe r.sure k u 0 bs) c.as_slice.ensures) e.units e.types
+    c.in_ok-rows.ensures.units c.in_ok-rows.ensures.rows w.size (λ k u q. w.wants k u q ∙ ap (λ bs. wants_in r.maybe r.sure k u 0 bs) c.as_slice.ensures) e.units e.types

@@ -34,13 +34,14 @@ loop-place-preserved-then-has c =
     let low : length us < length (row_at c.args.wanted.now 0) = (let n = inv.3 in omega (arith, n, long, bits)) in
     let all_whole : All IsWhole (place ∷ rest) = subst (λ (ps : List Place). All IsWhole ps) taken inv.4 in
     let whole : IsWhole place = all_whole 0 place (omega arith) in
-    let typed : IsTyped p.types D locals u = record { ty = c.place_ty-ty.ensures.ty ∙ whole_type D locals place whole; below = c.place_ty-ty.ensures.in_table c.requires.ids c.requires.body_ids } in
-    (flagged_more (row_at c.args.wanted.now 0) us c.push.new.self u place rest items c.loop-place.next (with_flags (length c.args.body.now.locals) c.args.places (row_at c.args.wanted.now 0)) low is taken inv.0
-        (ap (λ k. get_or (row_at c.args.wanted.now 0) k false) (sym c.len-in-loop-place.ensures) ∙ sym c.has.ensures ∙ c.if-has.true) refl refl,
-    subst (λ (vs : List DropUnit). All (λ (v : DropUnit). IsTyped p.types D locals v) vs) (sym is) (All-push (λ (v : DropUnit). IsTyped p.types D locals v) us u inv.1 typed),
-    (let n = inv.2 in omega (arith, n, long)),
-    (let n = inv.3 in omega (arith, n, long, more)),
-    (λ k d l. all_whole (suc k) d (omega (arith, l))))
+    let typed : IsTyped p.types D locals u = record { ty = c.place_ty-ty.ensures.ty ∙ whole_type D locals place whole; below = c.place_ty-ty.ensures.in_table c.requires.ids c.requires.body_ids } in (
+      flagged_more (row_at c.args.wanted.now 0) us c.push.new.self u place rest items c.loop-place.next (with_flags (length c.args.body.now.locals) c.args.places (row_at c.args.wanted.now 0)) low is taken inv.0
+          (ap (λ k. get_or (row_at c.args.wanted.now 0) k false) (sym c.len-in-loop-place.ensures) ∙ sym c.has.ensures ∙ c.if-has.true) refl refl,
+      subst (λ (vs : List DropUnit). All (λ (v : DropUnit). IsTyped p.types D locals v) vs) (sym is) (All-push (λ (v : DropUnit). IsTyped p.types D locals v) us u inv.1 typed),
+      (let n = inv.2 in omega (arith, n, long)),
+      (let n = inv.3 in omega (arith, n, long, more)),
+      (λ k d l. all_whole (suc k) d (omega (arith, l))),
+    )
 
 pub loop-place-preserved : goal.loop-place-preserved
 loop-place-preserved c =
@@ -61,10 +62,11 @@ loop-place-preserved c =
     let low : length us < length (row_at c.args.wanted.now 0) = (let n = inv.3 in omega (arith, n, long, bits)) in
     let all_whole : All IsWhole (place ∷ rest) = subst (λ (ps : List Place). All IsWhole ps) taken inv.4 in
     let whole : IsWhole place = all_whole 0 place (omega arith) in
-    let typed : IsTyped p.types D locals u = record { ty = c.place_ty-ty.ensures.ty ∙ whole_type D locals place whole; below = c.place_ty-ty.ensures.in_table c.requires.ids c.requires.body_ids } in
-    (plain_more (row_at c.args.wanted.now 0) us c.push-else-has.new.self u place rest items c.loop-place.next (with_flags (length c.args.body.now.locals) c.args.places (row_at c.args.wanted.now 0)) low is taken inv.0
-        (ap (λ k. get_or (row_at c.args.wanted.now 0) k false) (sym c.len-in-loop-place.ensures) ∙ sym c.has.ensures ∙ c.if-has.false) refl refl,
-    subst (λ (vs : List DropUnit). All (λ (v : DropUnit). IsTyped p.types D locals v) vs) (sym is) (All-push (λ (v : DropUnit). IsTyped p.types D locals v) us u inv.1 typed),
-    (let n = inv.2 in omega (arith, n, long)),
-    (let n = inv.3 in omega (arith, n, long, more)),
-    (λ k d l. all_whole (suc k) d (omega (arith, l))))
+    let typed : IsTyped p.types D locals u = record { ty = c.place_ty-ty.ensures.ty ∙ whole_type D locals place whole; below = c.place_ty-ty.ensures.in_table c.requires.ids c.requires.body_ids } in (
+      plain_more (row_at c.args.wanted.now 0) us c.push-else-has.new.self u place rest items c.loop-place.next (with_flags (length c.args.body.now.locals) c.args.places (row_at c.args.wanted.now 0)) low is taken inv.0
+          (ap (λ k. get_or (row_at c.args.wanted.now 0) k false) (sym c.len-in-loop-place.ensures) ∙ sym c.has.ensures ∙ c.if-has.false) refl refl,
+      subst (λ (vs : List DropUnit). All (λ (v : DropUnit). IsTyped p.types D locals v) vs) (sym is) (All-push (λ (v : DropUnit). IsTyped p.types D locals v) us u inv.1 typed),
+      (let n = inv.2 in omega (arith, n, long)),
+      (let n = inv.3 in omega (arith, n, long, more)),
+      (λ k d l. all_whole (suc k) d (omega (arith, l))),
+    )

@@ -13,7 +13,7 @@ returns-in_default-clause-wants c =
     let us = c.args.ends.now.units in
     let p = c.args.place.now in
     λ k u q. or_false (flag c.args.wanted.now 0 k) (wants_at p u (flag c.args.ends.now.maybe c.args.block k) (flag c.args.ends.now.sure c.args.block k))
-        (unwanted p u (flag c.args.ends.now.maybe c.args.block k) (flag c.args.ends.now.sure c.args.block k) (outside us.places us.spans us.spanned p k u q (ap (in_span k) (sym c.in_default.ensures))))
+    (unwanted p u (flag c.args.ends.now.maybe c.args.block k) (flag c.args.ends.now.sure c.args.block k) (outside us.places us.spans us.spanned p k u q (ap (in_span k) (sym c.in_default.ensures))))
 
 pub loop-at-init : goal.loop-at-init
 loop-at-init c =
@@ -21,7 +21,7 @@ loop-at-init c =
     let p = c.args.place.now in
     let s = c.in-Some.span.now in
     wanting_begins (λ k u. wants_at p u (flag c.args.ends.now.maybe c.args.block k) (flag c.args.ends.now.sure c.args.block k)) us.places c.args.wanted.now s.from c.requires.size
-        (λ k u q l. unwanted p u (flag c.args.ends.now.maybe c.args.block k) (flag c.args.ends.now.sure c.args.block k) (outside us.places us.spans us.spanned p k u q (ap (in_span k) (sym c.in-Some.ensures) ∙ before_span s k l)))
+    (λ k u q l. unwanted p u (flag c.args.ends.now.maybe c.args.block k) (flag c.args.ends.now.sure c.args.block k) (outside us.places us.spans us.spanned p k u q (ap (in_span k) (sym c.in-Some.ensures) ∙ before_span s k l)))
 
 pub loop-at-preserved : goal.loop-at-preserved
 loop-at-preserved c =
@@ -44,4 +44,4 @@ returns-clause-wants c =
     let p = c.args.place.now in
     let s = c.in-Some.span.now in
     wanting_ends (λ k u. wants_at p u (flag c.args.ends.now.maybe c.args.block k) (flag c.args.ends.now.sure c.args.block k)) us.places c.args.wanted.now c.loop-at.wanted c.loop-at.at c.loop-at.invariant
-        (λ k u q l. unwanted p u (flag c.args.ends.now.maybe c.args.block k) (flag c.args.ends.now.sure c.args.block k) (outside us.places us.spans us.spanned p k u q (ap (in_span k) (sym c.in-Some.ensures) ∙ after_span s k (let m = c.loop-at-test.false in omega (arith, m, l)))))
+    (λ k u q l. unwanted p u (flag c.args.ends.now.maybe c.args.block k) (flag c.args.ends.now.sure c.args.block k) (outside us.places us.spans us.spanned p k u q (ap (in_span k) (sym c.in-Some.ensures) ∙ after_span s k (let m = c.loop-at-test.false in omega (arith, m, l)))))

@@ -103,18 +103,20 @@ lay_arms-loop-number-preserved t c =
           let needs = sym is ∙ w.if-any_needs_drop.true in
           let room = room_one D trees vs i v c.loop-number-test.true c.index-variants-number.is needs in
           let d = w.lay_variant.new.cursor in
-          let laid : Laying p (record now { at = at }) d nothing_left (glue_from f (part now.place (Downcast i)) 0 (variant_tree trees v)) = subst (λ (fs : List StructField). Laying p (record now { at = at }) d nothing_left (glue_from f (part now.place (Downcast i)) 0 (fields_tree trees fs))) c.as_slice-fields.ensures w.in_ok-lay_variant.ensures in
-          (omega (arith, room, inv.0, w.at-is),
-          subst (λ n. Arming p old c.if-any_needs_drop.cursor c.args.first c.args.join whole n rest) (sym w.at-is)
-          (subst (λ (d : Cursor). Arming p old d c.args.first c.args.join whole (at + 1) rest) (sym (w.cursor-is ∙ w.close.ensures))
-          (variant_lays p D f old now c.args.first c.args.join at whole vs i v c.loop-number-test.true c.index-variants-number.is d needs c.requires.inside inv.0 inv.1 laid))))
+          let laid : Laying p (record now { at = at }) d nothing_left (glue_from f (part now.place (Downcast i)) 0 (variant_tree trees v)) = subst (λ (fs : List StructField). Laying p (record now { at = at }) d nothing_left (glue_from f (part now.place (Downcast i)) 0 (fields_tree trees fs))) c.as_slice-fields.ensures w.in_ok-lay_variant.ensures in (
+            omega (arith, room, inv.0, w.at-is),
+            subst (λ n. Arming p old c.if-any_needs_drop.cursor c.args.first c.args.join whole n rest) (sym w.at-is)
+                (subst (λ (d : Cursor). Arming p old d c.args.first c.args.join whole (at + 1) rest) (sym (w.cursor-is ∙ w.close.ensures))
+                (variant_lays p D f old now c.args.first c.args.join at whole vs i v c.loop-number-test.true c.index-variants-number.is d needs c.requires.inside inv.0 inv.1 laid)),
+          ))
       | lay_arms-else-any_needs_drop w ↦ (
           let needs = sym is ∙ w.if-any_needs_drop.false in
-          let room = room_none D trees vs i v c.loop-number-test.true c.index-variants-number.is needs in
-          (omega (arith, room, inv.0, w.at-is),
-          subst (λ n. Arming p old c.if-any_needs_drop.cursor c.args.first c.args.join whole n rest) (sym w.at-is)
-          (subst (λ (d : Cursor). Arming p old d c.args.first c.args.join whole at rest) (sym w.cursor-is)
-          (variant_skips p D f old now c.args.first c.args.join at whole vs i v c.loop-number-test.true c.index-variants-number.is needs inv.1))))
+          let room = room_none D trees vs i v c.loop-number-test.true c.index-variants-number.is needs in (
+            omega (arith, room, inv.0, w.at-is),
+            subst (λ n. Arming p old c.if-any_needs_drop.cursor c.args.first c.args.join whole n rest) (sym w.at-is)
+                (subst (λ (d : Cursor). Arming p old d c.args.first c.args.join whole at rest) (sym w.cursor-is)
+                (variant_skips p D f old now c.args.first c.args.join at whole vs i v c.loop-number-test.true c.index-variants-number.is needs inv.1)),
+          ))
     ]
 
 pub lay_choice-returns-then-is_empty : goal.lay_choice-returns-then-is_empty
@@ -148,8 +150,8 @@ lay_choice-returns t c =
     let first : c.in-Ok.first ≡ length old.blocks = c.in-Ok.ensures.1 ∙ c.len.ensures in
     let some : length c.in_ok-arms.arms ≡ 0 → ⊥ = (λ z. (let e = sym c.is_empty.ensures ∙ c.if-is_empty.false in absurd (grind arith))) in
     choice_some p D f old c.add_arms.new.cursor c.in_ok-arms.arms ts c.requires.inside c.in_ok-arms.ensures.arms c.in_ok-arms.ensures.made c.add_block.new.self c.choose.new.cursor c.lay_arms.new.cursor c.isize_id.result join some
-        c.isize_id.ensures.stands c.isize_id.ensures.in_table c.in_ok-join.ensures.added c.in_ok-join.ensures.number c.in_ok-choose.ensures
-        (subst (λ n. Arming p c.choose.new.cursor c.lay_arms.new.cursor n join (arms_of D f c.choose.new.cursor.place 0 ts) join done) first c.in_ok-lay_arms.ensures)
+    c.isize_id.ensures.stands c.isize_id.ensures.in_table c.in_ok-join.ensures.added c.in_ok-join.ensures.number c.in_ok-choose.ensures
+    (subst (λ n. Arming p c.choose.new.cursor c.lay_arms.new.cursor n join (arms_of D f c.choose.new.cursor.place 0 ts) join done) first c.in_ok-lay_arms.ensures)
 
 pub lay_fields-returns : goal.lay_fields-returns
 lay_fields-returns t c =
@@ -190,10 +192,10 @@ lay_inside-returns-in-Some-get t c =
     let ts = map (variant_tree trees) c.as_slice.result.now in
     on_ok_weaker c.lay_choice.result
     (λ h s at. (let r = def_there p c.args.def s at in
-        let same : Some r.0 ≡ Some c.in-Some-get.def.now = sym r.1 ∙ sym c.in-Some-get.ensures in
-        let one : r.0 ≡ c.in-Some-get.def.now = cc in
-        let vs : s.variants ≡ ts = r.2 ∙ ap (λ (d : Def). map (variant_tree trees) d.variants) one ∙ ap (map (variant_tree trees)) (sym c.as_slice.ensures) in
-        laying_as p c.args.cursor.now c.lay_choice.new.cursor nothing_left nothing_left (glue_inside D f s q) (λ rest. chosen q (arms_of D f q 0 ts) rest) (λ r. refl) (λ r. sym (inside_enum D f c.args.def s q at ts (sym c.in_default.ensures.fields) vs r)) h))
+    let same : Some r.0 ≡ Some c.in-Some-get.def.now = sym r.1 ∙ sym c.in-Some-get.ensures in
+    let one : r.0 ≡ c.in-Some-get.def.now = cc in
+    let vs : s.variants ≡ ts = r.2 ∙ ap (λ (d : Def). map (variant_tree trees) d.variants) one ∙ ap (map (variant_tree trees)) (sym c.as_slice.ensures) in
+    laying_as p c.args.cursor.now c.lay_choice.new.cursor nothing_left nothing_left (glue_inside D f s q) (λ rest. chosen q (arms_of D f q 0 ts) rest) (λ r. refl) (λ r. sym (inside_enum D f c.args.def s q at ts (sym c.in_default.ensures.fields) vs r)) h))
     c.lay_choice.ensures
 
 pub lay_inside-returns-in-None : goal.lay_inside-returns-in-None

@@ -26,13 +26,15 @@ loop-number-preserved c =
     elim c.if-any_needs_drop.branch [
       | then-any_needs_drop+in_ok-block+in_ok-push w ↦ (
           let next_is = w.in_ok-block.ensures.added in
-          let arms_is = w.in_ok-push.ensures.ok ∙ ap (λ b. c.loop-number.arms ++ record { value = i; block = b } ∷ []) w.in_ok-block.ensures.number in
-          (ap₂ (λ (xs : List Arm) (d : Cursor). xs ++ arms_at D (length d.blocks) (i + 1) (drop (i + 1) ts)) w.arms-is w.cursor-is
-          ∙ arm_added D trees vs i v c.loop-number-test.true c.index-variants-number.is old now c.loop-number.arms inv.0 inv.1 w.add_block.new.self w.push.new.self next_is arms_is (sym needs ∙ w.if-any_needs_drop.true),
-          w.cursor-is ∙ arm_block D trees vs i v c.loop-number-test.true c.index-variants-number.is old now c.loop-number.arms inv.0 inv.1 w.add_block.new.self w.push.new.self next_is arms_is
-          ∙ ap (λ (xs : List Arm). let z : Cursor = record old { blocks = old.blocks ++ replicate (length xs) empty_block } in z) (sym w.arms-is)))
+          let arms_is = w.in_ok-push.ensures.ok ∙ ap (λ b. c.loop-number.arms ++ record { value = i; block = b } ∷ []) w.in_ok-block.ensures.number in (
+            ap₂ (λ (xs : List Arm) (d : Cursor). xs ++ arms_at D (length d.blocks) (i + 1) (drop (i + 1) ts)) w.arms-is w.cursor-is
+                ∙ arm_added D trees vs i v c.loop-number-test.true c.index-variants-number.is old now c.loop-number.arms inv.0 inv.1 w.add_block.new.self w.push.new.self next_is arms_is (sym needs ∙ w.if-any_needs_drop.true),
+            w.cursor-is ∙ arm_block D trees vs i v c.loop-number-test.true c.index-variants-number.is old now c.loop-number.arms inv.0 inv.1 w.add_block.new.self w.push.new.self next_is arms_is
+                ∙ ap (λ (xs : List Arm). let z : Cursor = record old { blocks = old.blocks ++ replicate (length xs) empty_block } in z) (sym w.arms-is),
+          ))
       | else-any_needs_drop w ↦ (
-          ap₂ (λ (xs : List Arm) (d : Cursor). xs ++ arms_at D (length d.blocks) (i + 1) (drop (i + 1) ts)) w.arms-is w.cursor-is
-          ∙ arm_left D trees vs i v c.loop-number-test.true c.index-variants-number.is old now c.loop-number.arms inv.0 inv.1 (sym needs ∙ w.if-any_needs_drop.false),
-          w.cursor-is ∙ inv.1 ∙ ap (λ (xs : List Arm). let z : Cursor = record old { blocks = old.blocks ++ replicate (length xs) empty_block } in z) (sym w.arms-is))
+        ap₂ (λ (xs : List Arm) (d : Cursor). xs ++ arms_at D (length d.blocks) (i + 1) (drop (i + 1) ts)) w.arms-is w.cursor-is
+            ∙ arm_left D trees vs i v c.loop-number-test.true c.index-variants-number.is old now c.loop-number.arms inv.0 inv.1 (sym needs ∙ w.if-any_needs_drop.false),
+        w.cursor-is ∙ inv.1 ∙ ap (λ (xs : List Arm). let z : Cursor = record old { blocks = old.blocks ++ replicate (length xs) empty_block } in z) (sym w.arms-is),
+      )
     ]

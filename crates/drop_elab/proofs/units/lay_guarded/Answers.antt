@@ -20,7 +20,7 @@ returns-clause-laid c =
     let mid = c.lay_unit.new.cursor in
     let end : Cursor = record mid { stmts = c.push.new.self } in
     λ locals typed.
-        (let t = typed_glue D u.place (place_ty D locals u.place) in
-        let cleared = then_cleared p first mid end x t (c.in_ok-lay_unit.ensures.laid locals typed) (ap (λ (ss : List Stmt). let z : Cursor = record mid { stmts = ss } in z) (c.in_ok-push.ensures.ok ∙ ap (λ (s : Stmt). mid.stmts ++ s ∷ []) c.set_flag.ensures)) in
-        subst (λ (n : Cursor). LayingOn p old n nothing_left (guarded x (t (clear x done)))) (sym c.go_on.ensures)
-        (guard_lays p old first end x c.in_ok-join.join c.requires.inside c.in_ok-join.ensures.switch c.in_ok-join.ensures.join (λ (r : Plan). t (clear x r)) cleared))
+    (let t = typed_glue D u.place (place_ty D locals u.place) in
+    let cleared = then_cleared p first mid end x t (c.in_ok-lay_unit.ensures.laid locals typed) (ap (λ (ss : List Stmt). let z : Cursor = record mid { stmts = ss } in z) (c.in_ok-push.ensures.ok ∙ ap (λ (s : Stmt). mid.stmts ++ s ∷ []) c.set_flag.ensures)) in
+    subst (λ (n : Cursor). LayingOn p old n nothing_left (guarded x (t (clear x done)))) (sym c.go_on.ensures)
+    (guard_lays p old first end x c.in_ok-join.join c.requires.inside c.in_ok-join.ensures.switch c.in_ok-join.ensures.join (λ (r : Plan). t (clear x r)) cleared))

@@ -19,8 +19,8 @@ returns-in-Some-clause-laid c =
     let new : Cursor = record mid { stmts = c.push.new.self } in
     on_ok_weaker c.push.result
     (λ h locals typed. subst (λ o. LayingOn p old new nothing_left (λ rest. typed_glue D u.place (place_ty D locals u.place) (cleared o rest))) (sym c.in-Some.is)
-        (then_cleared p old mid new c.in-Some.flag (typed_glue D u.place (place_ty D locals u.place)) (c.in_ok-lay_unit.ensures.laid locals typed)
-        (ap (λ (ss : List Stmt). let z : Cursor = record mid { stmts = ss } in z) (h ∙ ap (λ (s : Stmt). mid.stmts ++ s ∷ []) c.set_flag.ensures))))
+    (then_cleared p old mid new c.in-Some.flag (typed_glue D u.place (place_ty D locals u.place)) (c.in_ok-lay_unit.ensures.laid locals typed)
+    (ap (λ (ss : List Stmt). let z : Cursor = record mid { stmts = ss } in z) (h ∙ ap (λ (s : Stmt). mid.stmts ++ s ∷ []) c.set_flag.ensures))))
     c.push.ensures.ok
 
 pub returns-in-None-clause-laid : goal.returns-in-None-clause-laid

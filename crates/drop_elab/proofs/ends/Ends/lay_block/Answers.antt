@@ -29,8 +29,8 @@ returns-clause-laid c =
     let stmts = c.in_ok-lay_stmts.ensures in
     on_ok_weaker c.lay_end.result
     (λ h locals typed. block_ended p.types D locals fs (end_statuses (row_at e.maybe at) (row_at e.sure at)) c.args.args at old mid c.lay_end.new.cursor block c.open_block-block.ensures.block
-        (stmts.only ∙ ap (λ (d : Cursor). let z : Cursor = record d { stmts = mid.stmts } in z) c.open_block-block.ensures.cursor)
-        (stmts.stmts tr ∙ ap (λ (ss : List TypedStmt). ss ++ definition.with_settings fs (map (stmt_of tr) block.stmts)) (c.in_ok-cursor.ensures.settings tr))
-        (λ w. stmts.below n (c.in_ok-cursor.ensures.below n) (all-at (block_below n) old.blocks at block w.blocks c.open_block-block.ensures.block))
-        (h locals typed))
+    (stmts.only ∙ ap (λ (d : Cursor). let z : Cursor = record d { stmts = mid.stmts } in z) c.open_block-block.ensures.cursor)
+    (stmts.stmts tr ∙ ap (λ (ss : List TypedStmt). ss ++ definition.with_settings fs (map (stmt_of tr) block.stmts)) (c.in_ok-cursor.ensures.settings tr))
+    (λ w. stmts.below n (c.in_ok-cursor.ensures.below n) (all-at (block_below n) old.blocks at block w.blocks c.open_block-block.ensures.block))
+    (h locals typed))
     c.lay_end.ensures.laid

@@ -16,10 +16,11 @@ loop-at-preserved c =
     let whole = length-map old.blocks (block_of (trees_of p.types)) in
     let long = length-take c.args.count (map (block_of (trees_of p.types)) old.blocks) in
     let inv = c.loop-at.invariant in
-    let on = c.in_ok-lay_block.ensures.on in
-    (record { fresh = on.fresh; grows = (let g = inv.0.grows in let h = on.grows in omega (arith, g, h)) },
-    λ locals typed. blocks_more p.types (shapes_of (crate_of p)) locals (map flagged_of e.units) e.maybe e.sure c.args.args old c.loop-at.cursor c.lay_block.new.cursor c.loop-at.at all
-        (omega (arith, whole, long, c.loop-at-test.true, c.requires.inside)) (omega (arith, whole, long, c.requires.inside)) (inv.1 locals typed) (c.in_ok-lay_block.ensures.laid locals typed))
+    let on = c.in_ok-lay_block.ensures.on in (
+      record { fresh = on.fresh; grows = (let g = inv.0.grows in let h = on.grows in omega (arith, g, h)) },
+      λ locals typed. blocks_more p.types (shapes_of (crate_of p)) locals (map flagged_of e.units) e.maybe e.sure c.args.args old c.loop-at.cursor c.lay_block.new.cursor c.loop-at.at all
+          (omega (arith, whole, long, c.loop-at-test.true, c.requires.inside)) (omega (arith, whole, long, c.requires.inside)) (inv.1 locals typed) (c.in_ok-lay_block.ensures.laid locals typed),
+    )
 
 pub returns : goal.returns
 returns c =

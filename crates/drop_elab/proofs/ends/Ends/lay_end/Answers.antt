@@ -20,7 +20,7 @@ returns-in_ok-lay_drop-in-Drop-clause-laid c =
     let fs = map flagged_of e.units in
     let ss = end_statuses (row_at e.maybe c.args.block) (row_at e.sure c.args.block) in
     λ locals typed. subst (λ (t : Term). EndLaid p.types old c.close.new.self (definition.lay_end D locals fs ss t (length old.locals) (length old.blocks))) (sym c.in-Drop.is)
-        (drop_laid p old c.lay_drop.new.cursor c.close.new.self (definition.plan_drop D locals c.in-Drop.place fs ss) c.in-Drop.next (c.in_ok-lay_drop-in-Drop.ensures.laid locals typed) c.close.ensures)
+    (drop_laid p old c.lay_drop.new.cursor c.close.new.self (definition.plan_drop D locals c.in-Drop.place fs ss) c.in-Drop.next (c.in_ok-lay_drop-in-Drop.ensures.laid locals typed) c.close.ensures)
 
 pub returns-in-Call-clause-on : goal.returns-in-Call-clause-on
 returns-in-Call-clause-on c = on_ok_weaker c.lay_call.result (λ h. (let e = h c.args.program.now.types in record { fresh = e.fresh; grows = e.grows })) c.lay_call.ensures

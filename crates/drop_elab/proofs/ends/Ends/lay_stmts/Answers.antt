@@ -25,16 +25,19 @@ loop-stmt-preserved c =
     let us = c.args.self.now.units in
     let fs = map flagged_of us in
     let inv = c.loop-stmt.invariant in
-    let taken : items ≡ s ∷ rest = c.in-Some.ensures.steps.0 in
-    (ap (λ (d : Cursor). let z : Cursor = record d { stmts = c.append.new.self } in z) inv.0,
-    λ trees. stmt_more trees fs now.stmts c.push.new.self c.append.new.self s sets rest items (map (stmt_of trees) old.stmts ++ definition.with_settings fs (map (stmt_of trees) c.args.stmts)) (definition.settings (λ u. effect u (stmt_of trees s)) fs)
-        c.in_ok-push.ensures.ok c.in_ok-append.ensures.ok (c.in_ok-sets.ensures.settings trees ∙ ap (λ (us : List DropUnit). definition.settings (λ u. effect u (stmt_of trees s)) (map flagged_of us)) c.as_slice.ensures)
-        (ap (λ (xs : List Stmt). definition.with_settings fs (map (stmt_of trees) xs)) taken) (inv.1 trees),
-    λ n h k.
-        (let both = inv.2 n h k in
-        let two = all_first (stmt_below n) s rest (subst (λ (xs : List Stmt). IsTrue (list_all (stmt_below n) xs)) taken both.1) in
-        (subst (λ (xs : List Stmt). IsTrue (list_all (stmt_below n) xs)) (sym (c.in_ok-append.ensures.ok ∙ ap (λ (xs : List Stmt). xs ++ sets) c.in_ok-push.ensures.ok))
-        (all_joined (stmt_below n) (now.stmts ++ s ∷ []) sets (all_joined (stmt_below n) now.stmts (s ∷ []) both.0 (one_all (stmt_below n) s two.0)) (c.in_ok-sets.ensures.below n)), two.1)))
+    let taken : items ≡ s ∷ rest = c.in-Some.ensures.steps.0 in (
+      ap (λ (d : Cursor). let z : Cursor = record d { stmts = c.append.new.self } in z) inv.0,
+      λ trees. stmt_more trees fs now.stmts c.push.new.self c.append.new.self s sets rest items (map (stmt_of trees) old.stmts ++ definition.with_settings fs (map (stmt_of trees) c.args.stmts)) (definition.settings (λ u. effect u (stmt_of trees s)) fs)
+          c.in_ok-push.ensures.ok c.in_ok-append.ensures.ok (c.in_ok-sets.ensures.settings trees ∙ ap (λ (us : List DropUnit). definition.settings (λ u. effect u (stmt_of trees s)) (map flagged_of us)) c.as_slice.ensures)
+          (ap (λ (xs : List Stmt). definition.with_settings fs (map (stmt_of trees) xs)) taken) (inv.1 trees),
+      λ n h k.
+          (let both = inv.2 n h k in
+          let two = all_first (stmt_below n) s rest (subst (λ (xs : List Stmt). IsTrue (list_all (stmt_below n) xs)) taken both.1) in (
+            subst (λ (xs : List Stmt). IsTrue (list_all (stmt_below n) xs)) (sym (c.in_ok-append.ensures.ok ∙ ap (λ (xs : List Stmt). xs ++ sets) c.in_ok-push.ensures.ok))
+                (all_joined (stmt_below n) (now.stmts ++ s ∷ []) sets (all_joined (stmt_below n) now.stmts (s ∷ []) both.0 (one_all (stmt_below n) s two.0)) (c.in_ok-sets.ensures.below n)),
+            two.1,
+          )),
+    )
 
 pub returns-clause-stmts : goal.returns-clause-stmts
 returns-clause-stmts c =
