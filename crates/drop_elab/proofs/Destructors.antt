@@ -1,11 +1,11 @@
 -- A destructor is a function of the program, whose header has the types of its result and of its argument.
-use Rattle.std.proofs.Common.{◌≡◌, refl, ap, ◌∙◌, sym, subst, ℕ, zero, suc, ◌+◌, ◌<◌, Bool, true, false, ◌&&◌, nat_eq, if◌then◌else◌, IsTrue, List, [], ◌∷◌, map, length, get_or, Option, Some, None, slice_get, arith}
-use Rattle.std.proofs.lemmas.Option.{slice_get_within, get_or_from_slice_get}
+use Rattle.std.proofs.Common.{◌≡◌, refl, ap, ◌∙◌, sym, subst, ℕ, zero, suc, ◌+◌, ◌<◌, Bool, true, false, ◌&&◌, nat_eq, if◌then◌else◌, List, [], ◌∷◌, map, length, get_or, Option, Some, None, slice_get, arith}
+use Rattle.std.proofs.lemmas.Option.{get_or_from_slice_get}
 use Rattle.mir_syntax.specs.declared.types.TyId.{TyId}
 use Rattle.mir_syntax.specs.declared.body.Function.{Function}
 use Rattle.mir_syntax.specs.declared.program.Program.{Program}
 use Rattle.mir_syntax.specs.Tree.{Tree, scalar, empty, more, ref, ref_mut, named, at_id, trees_of}
-use Rattle.mir_syntax.specs.Crate.{TypedFunction, TypedDef, crate_of, function_of, def_of}
+use Rattle.mir_syntax.specs.Crate.{TypedFunction, TypedDef, crate_of, function_of}
 use Rattle.mir_syntax.specs.Ids.{function_below, block_below, IdsInTable}
 use Rattle.mir_syntax.specs.Table.{all_below}
 use Rattle.std.specs.List.{list_all}

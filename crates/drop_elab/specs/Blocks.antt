@@ -1,13 +1,12 @@
 -- What becomes of blocks, as the code has it. No promise of a public call rests on it.
-use Rattle.std.specs.Prelude.{◌≡◌, ℕ, suc, ◌+◌, ◌<◌, ◌≤◌, Bool, true, List, [], ◌∷◌, ◌++◌, map, set, length, Option, Some, None, slice_get}
+use Rattle.std.specs.Prelude.{◌≡◌, ℕ, suc, ◌+◌, ◌<◌, ◌≤◌, Bool, true, List, [], ◌∷◌, ◌++◌, map, length, Option, Some, None, slice_get}
 use Rattle.std.specs.List.{All}
 use Rattle.mir_syntax.specs.declared.types.Ty.{Ty}
 use Rattle.mir_syntax.specs.declared.body.Place.{Place}
 use Rattle.mir_syntax.specs.declared.body.Term.{Term}
 use Rattle.mir_syntax.specs.declared.body.Term.TheVariants.{Call}
-use Rattle.mir_syntax.specs.declared.body.Block.{Block}
 use Rattle.mir_syntax.specs.Tree.{Tree, trees_of}
-use Rattle.mir_syntax.specs.Crate.{TypedStmt, TypedBlock, TypedBody, block_of}
+use Rattle.mir_syntax.specs.Crate.{TypedBlock, TypedBody, block_of}
 use Rattle.mir_syntax.specs.Shapes.{Shape}
 use Rattle.mir_rules.specs.Typing.{bool_ty}
 use Rattle.bit_rows.specs.Rows.{row_at, HasSize}
@@ -18,7 +17,7 @@ use Rattle.drop_elab.specs.declared.ends.Ends.{Ends}
 use Rattle.drop_elab.specs.declared.cursor.Cursor.{Cursor}
 use Rattle.drop_elab.specs.Plan.{Laid}
 use Rattle.drop_elab.specs.Elab.{Inits, IsInits, Status, Flagged, with_flags, want_flags, LaidBlocks, with_settings, first_settings, lay_end}
-use Rattle.drop_elab.specs.Code.{Seen, Built, seen, all_built, ended, put, InTable}
+use Rattle.drop_elab.specs.Code.{Built, seen, all_built, ended, put, InTable}
 use Rattle.drop_elab.specs.Changes.{flagged_of, IsTyped, end_statuses}
 
 -- the call with another block to return to

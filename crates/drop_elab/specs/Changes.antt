@@ -1,5 +1,5 @@
 -- What changes units, as the code has it. No promise of a public call rests on it.
-use Rattle.std.specs.Prelude.{◌≡◌, ℕ, suc, ◌<◌, Bool, true, false, ◌&&◌, ◌||◌, List, [], ◌∷◌, length, Option, Some, None, IfSome}
+use Rattle.std.specs.Prelude.{◌≡◌, ℕ, suc, ◌<◌, Bool, true, false, ◌&&◌, ◌||◌, List, [], ◌∷◌, length, Option, Some, IfSome}
 use Rattle.std.specs.Option.{option_map}
 use Rattle.mir_syntax.specs.declared.types.Ty.{Ty}
 use Rattle.mir_syntax.specs.declared.body.Place.{Place}

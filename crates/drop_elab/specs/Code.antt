@@ -1,5 +1,5 @@
 -- What is found on the way to the elaborated body: what a body is once a plan is laid at a cursor. No promise of a public call rests on it.
-use Rattle.std.specs.Prelude.{◌≡◌, ℕ, suc, ◌+◌, ◌<◌, ◌≤◌, Bool, true, false, ◌&&◌, if◌then◌else◌, List, [], ◌∷◌, ◌++◌, map, length, set, Option, Some, None, slice_get, IsTrue}
+use Rattle.std.specs.Prelude.{◌≡◌, ℕ, suc, ◌+◌, ◌<◌, ◌≤◌, Bool, if◌then◌else◌, List, [], ◌∷◌, ◌++◌, map, length, set, IsTrue}
 use Rattle.std.specs.List.{list_all}
 use Rattle.mir_syntax.specs.declared.types.Ty.{Ty}
 use Rattle.mir_syntax.specs.declared.types.TyId.{TyId}
@@ -22,7 +22,7 @@ use Rattle.mir_syntax.specs.Ids.{stmt_below, block_below}
 use Rattle.mir_syntax.specs.Table.{all_below}
 use Rattle.mir_syntax.specs.Shapes.{Shape, needs_drop, fields_tuple}
 use Rattle.drop_elab.specs.declared.cursor.Cursor.{Cursor}
-use Rattle.drop_elab.specs.Plan.{Plan, Laid, code, lay, local_place}
+use Rattle.drop_elab.specs.Plan.{Plan, Laid, lay, local_place}
 
 abbrev pub bare_flag : ℕ → Bool → Stmt
 bare_flag x b = stmt.Assign (local_place x) (rvalue.Use (operand.Const (constant.Bool b)))

@@ -1,5 +1,5 @@
 -- Arms of the variants that need drop, one after another.
-use Rattle.std.proofs.Common.{◌≡◌, refl, ap, ap₂, ◌∙◌, sym, subst, ℕ, suc, ◌+◌, ◌<◌, ◌≤◌, Bool, true, false, if◌then◌else◌, List, [], ◌∷◌, ◌++◌, map, drop, length, set, replicate, get_or, arith}
+use Rattle.std.proofs.Common.{◌≡◌, refl, ap, ◌∙◌, sym, subst, ℕ, suc, ◌+◌, ◌<◌, ◌≤◌, Bool, true, false, if◌then◌else◌, List, [], ◌∷◌, ◌++◌, map, drop, length, set, replicate, get_or, arith}
 use Rattle.std.proofs.lemmas.List.{append_assoc, append-nil, length-append, length-set, length-map, length-replicate, nil_from_length, at_drop_more, get_or-map, replicate_more}
 use Rattle.mir_syntax.specs.declared.types.TyId.{TyId}
 use Rattle.mir_syntax.specs.declared.types.Variant.{Variant}

@@ -1,5 +1,5 @@
 -- The ids at a cursor lie in the table as it goes on.
-use Rattle.std.proofs.Common.{◌≡◌, refl, ap, ◌∙◌, sym, ℕ, zero, suc, ◌<◌, Bool, true, false, nat_lt, ◌&&◌, IsTrue, List, [], ◌∷◌, ◌++◌, set, length, arith, rules}
+use Rattle.std.proofs.Common.{◌≡◌, refl, ℕ, zero, suc, ◌<◌, Bool, true, nat_lt, IsTrue, List, [], ◌∷◌, ◌++◌, set, arith, rules}
 use Rattle.std.specs.List.{list_all}
 use Rattle.mir_syntax.specs.declared.types.TyId.{TyId}
 use Rattle.mir_syntax.specs.Table.{all_below}

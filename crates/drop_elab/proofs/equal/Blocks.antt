@@ -1,13 +1,12 @@
 -- A block is put back as what becomes of it, and then the next.
-use Rattle.std.proofs.Common.{◌≡◌, refl, ap, ap₂, ◌∙◌, sym, subst, ℕ, zero, suc, ◌+◌, ◌<◌, ◌≤◌, Bool, IsTrue, List, [], ◌∷◌, ◌++◌, map, drop, length, set, get_or, Option, Some, None, slice_get, arith}
+use Rattle.std.proofs.Common.{◌≡◌, refl, ap, ap₂, ◌∙◌, sym, subst, ℕ, zero, suc, ◌+◌, ◌<◌, ◌≤◌, Bool, IsTrue, List, [], ◌∷◌, ◌++◌, map, drop, length, set, get_or, Option, Some, slice_get, arith}
 use Rattle.std.specs.List.{list_all}
 use Rattle.std.specs.Option.{option_map}
 use Rattle.std.proofs.lemmas.List.{length-drop}
-use Rattle.std.proofs.lemmas.List.{append-nil, length-append, length-set, length-map, map-set, set-set, at_drop_more, at_drop_all}
-use Rattle.std.proofs.lemmas.Option.{slice_get_within, slice_get-map}
+use Rattle.std.proofs.lemmas.List.{length-set, length-map, map-set, set-set, at_drop_more, at_drop_all}
+use Rattle.std.proofs.lemmas.Option.{slice_get-map}
 use Rattle.mir_syntax.specs.declared.types.Ty.{Ty}
 use Rattle.mir_syntax.specs.declared.body.Block.{Block}
-use Rattle.mir_syntax.specs.declared.body.Stmt.{Stmt}
 use Rattle.mir_syntax.specs.Tree.{Tree, at_id, trees_of}
 use Rattle.mir_syntax.specs.Crate.{TypedStmt, TypedBlock, stmt_of, block_of}
 use Rattle.mir_syntax.specs.declared.types.TyId.{TyId}
@@ -16,7 +15,6 @@ use Rattle.mir_syntax.specs.Ids.{stmt_below, block_below}
 use Rattle.mir_syntax.specs.Shapes.{Shape}
 use Rattle.bit_rows.specs.Rows.{row_at}
 use Rattle.drop_elab.specs.declared.cursor.Cursor.{Cursor}
-use Rattle.drop_elab.specs.Plan.{Laid}
 use Rattle.drop_elab.specs.Elab.{Status, Flagged, first_settings, with_settings, lay_end}
 use Rattle.drop_elab.specs.Code.{empty_block, Seen, Built, seen, ended, all_built, InTable}
 use Rattle.drop_elab.specs.Changes.{end_statuses}

@@ -1,5 +1,5 @@
 -- All blocks are laid: the body is the elaborated one.
-use Rattle.std.proofs.Common.{◌≡◌, refl, ap, ap₂, ◌∙◌, sym, subst, ℕ, zero, suc, ◌+◌, ◌<◌, ◌≤◌, Bool, true, false, List, [], ◌∷◌, ◌++◌, map, length, Option, Some, None, slice_get, arith}
+use Rattle.std.proofs.Common.{◌≡◌, refl, ap, ap₂, ◌∙◌, sym, subst, ℕ, suc, ◌+◌, Bool, true, false, List, [], ◌∷◌, ◌++◌, length, Some, slice_get, arith}
 use Rattle.std.proofs.lemmas.List.{append-nil, append_assoc, length-append}
 use Rattle.std.proofs.lemmas.Option.{slice_get_within, get_or_from_slice_get}
 use Rattle.mir_syntax.specs.declared.body.Place.{Place}
@@ -11,7 +11,7 @@ use Rattle.bit_rows.specs.Rows.{row_at}
 use Rattle.liveness.specs.Rows.{block_at, no_block}
 use Rattle.move_paths.specs.Effects.{units_of_body}
 use Rattle.move_paths.specs.Rows.{passed_stmts, each_unit}
-use Rattle.drop_elab.specs.Elab.{Inits, Flagged, LaidBlocks, statuses_at, with_flags, flag_locals, want_flags, lay_blocks, with_laid, elab_by}
+use Rattle.drop_elab.specs.Elab.{Flagged, LaidBlocks, statuses_at, with_flags, flag_locals, want_flags, with_laid, elab_by}
 use Rattle.drop_elab.specs.Code.{Built, put}
 use Rattle.drop_elab.specs.Changes.{end_statuses}
 use Rattle.drop_elab.specs.Blocks.{lay_rest, all_laid, IsEnds, locals_of}

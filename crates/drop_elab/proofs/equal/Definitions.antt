@@ -1,14 +1,13 @@
 -- The glue of a struct or an enum, by what the program says of it.
-use Rattle.std.proofs.Common.{◌≡◌, refl, ap, ◌∙◌, sym, subst, ℕ, zero, suc, ◌+◌, ◌<◌, Bool, true, false, ◌||◌, if◌then◌else◌, List, [], ◌∷◌, map, drop, length, get_or, Option, Some, None, slice_get, arith}
+use Rattle.std.proofs.Common.{◌≡◌, refl, ap, ◌∙◌, sym, subst, ℕ, zero, suc, ◌+◌, ◌<◌, Bool, true, false, ◌||◌, if◌then◌else◌, List, [], ◌∷◌, map, drop, length, get_or, Option, Some, None, slice_get}
 use Rattle.std.proofs.lemmas.List.{at_drop_more}
-use Rattle.std.specs.Option.{option_map}
 use Rattle.mir_syntax.specs.declared.types.Def.{Def}
 use Rattle.mir_syntax.specs.declared.types.Field.{Field as StructField}
 use Rattle.mir_syntax.specs.declared.types.Variant.{Variant}
 use Rattle.mir_syntax.specs.declared.body.Place.{Place}
 use Rattle.mir_syntax.specs.declared.program.Program.{Program}
 use Rattle.mir_syntax.specs.Tree.{Tree, empty, more, named, at_id, trees_of}
-use Rattle.mir_syntax.specs.Crate.{TypedFunction, TypedDef, TypedVariant, crate_of, def_of, variant_of}
+use Rattle.mir_syntax.specs.Crate.{TypedFunction, TypedDef, crate_of, def_of, variant_of}
 use Rattle.mir_syntax.specs.Shapes.{Shape, shapes_of, shapes_from, fields_tree, fields_tuple, struct_fields, fields_of_struct, needs_drop, needs_def, needs_of, destructor_of, ◌>>=◌}
 use Rattle.mir_syntax.proofs.Lists.{map_back}
 use Rattle.drop_elab.specs.declared.cursor.Cursor.{Cursor}

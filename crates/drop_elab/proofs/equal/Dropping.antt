@@ -1,12 +1,12 @@
 -- A drop is laid unit by unit, in the span of its local.
-use Rattle.std.proofs.Common.{◌≡◌, refl, ap, ap₂, ◌∙◌, sym, subst, ℕ, zero, suc, ◌+◌, ◌<◌, ◌≤◌, Bool, true, false, if◌then◌else◌, List, [], ◌∷◌, map, drop, length, get_or, Option, Some, None, slice_get, arith}
+use Rattle.std.proofs.Common.{◌≡◌, refl, ap, ◌∙◌, sym, subst, ℕ, zero, suc, ◌+◌, ◌<◌, Bool, false, if◌then◌else◌, List, [], ◌∷◌, map, drop, length, get_or, Some, slice_get, arith}
 use Rattle.mir_syntax.specs.declared.body.Place.{Place}
 use Rattle.mir_syntax.specs.Tree.{Tree}
 use Rattle.mir_syntax.specs.Shapes.{Shape}
 use Rattle.move_paths.specs.Effects.{is_under}
 use Rattle.drop_elab.specs.declared.flags.DropUnit.{DropUnit}
 use Rattle.drop_elab.specs.Plan.{Plan, done}
-use Rattle.drop_elab.specs.Elab.{Flagged, Status, status_of, plan_unit, plan_drop}
+use Rattle.drop_elab.specs.Elab.{status_of, plan_unit, plan_drop}
 use Rattle.drop_elab.specs.Changes.{flagged_of, end_statuses}
 
 module _ (D : List Shape) (locals : List Tree) (p : Place) where

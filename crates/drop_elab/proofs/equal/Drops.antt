@@ -1,5 +1,5 @@
 -- The steps of a drop over the units of its local.
-use Rattle.std.proofs.Common.{◌≡◌, refl, ap, ◌∙◌, sym, subst, ℕ, zero, suc, ◌+◌, ◌<◌, ◌≤◌, Bool, true, false, if◌then◌else◌, List, [], ◌∷◌, map, drop, length, get_or, Option, Some, None, slice_get, arith}
+use Rattle.std.proofs.Common.{◌≡◌, refl, ap, ◌∙◌, sym, ℕ, zero, suc, ◌+◌, ◌<◌, ◌≤◌, true, false, if◌then◌else◌, List, [], ◌∷◌, map, drop, length, Some, None, slice_get, arith}
 use Rattle.std.specs.Option.{option_map}
 use Rattle.std.proofs.lemmas.Option.{slice_get-map}
 use Rattle.bit_rows.specs.Rows.{row_at, flag}
@@ -16,7 +16,7 @@ use Rattle.drop_elab.specs.declared.ends.Ends.{Ends}
 use Rattle.drop_elab.specs.declared.flags.DropUnit.{DropUnit}
 use Rattle.drop_elab.specs.Plan.{Plan, done}
 use Rattle.drop_elab.specs.Elab.{status_of, plan_unit}
-use Rattle.drop_elab.specs.Code.{Laying, LayingOn, nothing_left}
+use Rattle.drop_elab.specs.Code.{LayingOn, nothing_left}
 use Rattle.drop_elab.specs.Changes.{flagged_of, unit_place}
 use Rattle.drop_elab.proofs.Marking.{outside, before_span, after_span}
 use Rattle.drop_elab.proofs.equal.Dropping.{drop_of, drop_skips, drop_ends, drop_first}

@@ -1,7 +1,7 @@
 -- The end of a block is laid.
-use Rattle.std.proofs.Common.{◌≡◌, refl, ap, ap₂, ◌∙◌, sym, subst, ℕ, zero, suc, ◌+◌, ◌<◌, ◌≤◌, Bool, true, false, IsTrue, List, [], ◌∷◌, ◌++◌, map, length, set, arith}
+use Rattle.std.proofs.Common.{◌≡◌, refl, ap, ap₂, ◌∙◌, sym, subst, ℕ, ◌<◌, IsTrue, List, [], ◌∷◌, ◌++◌, map, length, set, arith}
 use Rattle.std.specs.List.{list_all}
-use Rattle.std.proofs.lemmas.List.{append_assoc, append-nil, length-append, length-set, length-map, map-append, map-set, set_at}
+use Rattle.std.proofs.lemmas.List.{append-nil, length-append, length-set, length-map, map-append, map-set, set_at}
 use Rattle.mir_syntax.specs.declared.types.Ty.{Ty}
 use Rattle.mir_syntax.specs.declared.body.Block.{Block}
 use Rattle.mir_syntax.specs.declared.body.Stmt.{Stmt}
@@ -18,10 +18,10 @@ use Rattle.drop_elab.specs.declared.cursor.Cursor.{Cursor}
 use Rattle.drop_elab.specs.Plan.{Plan, done, Laid, lay}
 use Rattle.mir_syntax.specs.Shapes.{Shape}
 use Rattle.drop_elab.specs.Elab.{Status, Flagged, call_end, lay_end}
-use Rattle.drop_elab.specs.Code.{empty_block, Seen, Built, seen, built, ended, all_built, InTable, Laying, LayingOn}
+use Rattle.drop_elab.specs.Code.{empty_block, seen, ended, Laying, LayingOn}
 use Rattle.drop_elab.specs.Blocks.{EndLaid}
 use Rattle.drop_elab.proofs.equal.Below.{all_joined, all_set}
-use Rattle.drop_elab.proofs.equal.Laid.{both, closed, closed_is}
+use Rattle.drop_elab.proofs.equal.Laid.{both, closed_is}
 use Rattle.drop_elab.proofs.equal.Pieces.{set_in_front, after_goto, goto_seen, goto_in_table}
 
 -- a plan is laid to its end, and the block goes on

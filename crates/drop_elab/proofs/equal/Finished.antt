@@ -1,11 +1,11 @@
 -- The body that the code makes is the elaborated one, and its ids lie in the table.
-use Rattle.std.proofs.Common.{◌≡◌, refl, ap, ap₂, ◌∙◌, sym, subst, ℕ, ◌<◌, ◌≤◌, ◌&&◌, List, [], ◌++◌, map, take, length, IsTrue, rules, arith}
-use Rattle.std.specs.List.{All, list_all}
+use Rattle.std.proofs.Common.{◌≡◌, ap, ap₂, ◌∙◌, sym, subst, ℕ, List, [], ◌++◌, map, take, length, IsTrue, rules, arith}
+use Rattle.std.specs.List.{list_all}
 use Rattle.std.proofs.lemmas.List.{append-nil, length-map, take_all}
 use Rattle.mir_syntax.specs.declared.types.Ty.{Ty}
 use Rattle.mir_syntax.specs.declared.types.TyId.{TyId}
 use Rattle.mir_syntax.specs.declared.body.Body.{Body}
-use Rattle.mir_syntax.specs.Tree.{Tree, at_id, trees_of}
+use Rattle.mir_syntax.specs.Tree.{at_id, trees_of}
 use Rattle.mir_syntax.specs.Table.{all_below}
 use Rattle.mir_syntax.specs.Ids.{stmt_below, block_below, BodyInTable}
 use Rattle.mir_syntax.specs.Crate.{TypedBlock, block_of, body_of}

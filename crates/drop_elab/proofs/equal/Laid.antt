@@ -1,19 +1,17 @@
 -- What is built at a cursor, once it has gone on by a piece of a plan.
-use Rattle.std.proofs.Common.{◌≡◌, refl, ap, ap₂, ◌∙◌, sym, subst, ℕ, zero, suc, ◌+◌, ◌<◌, ◌≤◌, Bool, true, false, List, [], ◌∷◌, ◌++◌, length, set, replicate, arith}
-use Rattle.std.proofs.lemmas.List.{append_assoc, append-nil, length-append, length-set, length-replicate, set-append_left, set_at}
+use Rattle.std.proofs.Common.{◌≡◌, refl, ap, ap₂, ◌∙◌, sym, ℕ, suc, ◌+◌, ◌≤◌, false, List, [], ◌∷◌, ◌++◌, length, set, arith}
+use Rattle.std.proofs.lemmas.List.{append_assoc, append-nil, length-append, length-set, set_at}
 use Rattle.mir_syntax.specs.declared.body.Place.{Place}
-use Rattle.mir_syntax.specs.declared.body.Arm.{Arm}
 use Rattle.mir_syntax.specs.declared.body.Operand.TheVariants as operand
-use Rattle.mir_syntax.specs.declared.body.Callee.TheVariants as callee
 use Rattle.mir_syntax.specs.declared.body.Term.{Term}
-use Rattle.mir_syntax.specs.declared.body.Term.TheVariants.{Goto, Switch, Call}
+use Rattle.mir_syntax.specs.declared.body.Term.TheVariants.{Goto, Switch}
 use Rattle.mir_syntax.specs.Tree.{Tree, empty, ref_mut}
 use Rattle.mir_syntax.specs.Crate.{TypedStmt, assign, discriminant, TypedBlock}
 use Rattle.mir_syntax.specs.Crate as rvalue
 use Rattle.mir_rules.specs.Typing.{isize_ty}
-use Rattle.drop_elab.specs.Plan.{Plan, done, destroy, choose, arm, guarded, clear, Laid, code, lay, local_place, set_flag, arms_from}
-use Rattle.drop_elab.specs.Code.{call_of, Seen, Built, ended, built, put, armed, all_built}
-use Rattle.drop_elab.proofs.equal.Lists.{put_front, put_long, put_all}
+use Rattle.drop_elab.specs.Plan.{Plan, done, destroy, choose, arm, guarded, clear, code, lay, local_place, set_flag, arms_from}
+use Rattle.drop_elab.specs.Code.{call_of, Seen, Built, ended, built, put, armed}
+use Rattle.drop_elab.proofs.equal.Lists.{put_front, put_all}
 
 pub both : (a b : List Tree) (x y : List TypedBlock) → a ≡ b → x ≡ y → (let z : Built = record { locals = a; blocks = x } in z) ≡ record { locals = b; blocks = y }
 both a b x y e f = ap₂ (λ (l : List Tree) (k : List TypedBlock). let z : Built = record { locals = l; blocks = k } in z) e f

@@ -1,5 +1,5 @@
 -- Blocks that come in the places of others.
-use Rattle.std.proofs.Common.{◌≡◌, refl, ap, ◌∙◌, sym, ℕ, zero, suc, ◌+◌, ◌<◌, ◌≤◌, List, [], ◌∷◌, ◌++◌, length, set, arith}
+use Rattle.std.proofs.Common.{◌≡◌, refl, ap, ◌∙◌, sym, ℕ, suc, ◌+◌, ◌≤◌, List, [], ◌∷◌, ◌++◌, length, set, arith}
 use Rattle.std.proofs.lemmas.List.{append_assoc, length-append, length-set, set-append_left, set_at}
 use Rattle.mir_syntax.specs.Crate.{TypedBlock}
 use Rattle.drop_elab.specs.Code.{put}

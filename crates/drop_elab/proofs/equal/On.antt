@@ -1,13 +1,11 @@
 -- What is done of a drop for one unit.
-use Rattle.std.proofs.Common.{◌≡◌, refl, ap, ap₂, ◌∙◌, sym, subst, ℕ, suc, ◌+◌, ◌<◌, ◌≤◌, Bool, true, false, List, [], ◌∷◌, ◌++◌, map, length, set, Option, Some, None, arith}
+use Rattle.std.proofs.Common.{◌≡◌, refl, ap, ap₂, ◌∙◌, sym, subst, ℕ, suc, ◌+◌, ◌<◌, false, List, [], ◌∷◌, ◌++◌, map, length, set, Some, None, arith}
 use Rattle.std.specs.Option.{option_map}
 use Rattle.std.proofs.lemmas.List.{append_assoc, length-append, length-set, length-map, map-append, map-set}
 use Rattle.mir_syntax.specs.declared.types.TyId.{TyId}
-use Rattle.mir_syntax.specs.declared.body.Arm.{Arm}
 use Rattle.mir_syntax.specs.declared.body.Block.{Block}
 use Rattle.mir_syntax.specs.declared.body.Operand.TheVariants as operand
 use Rattle.mir_syntax.specs.declared.body.Place.{Place}
-use Rattle.mir_syntax.specs.declared.body.Stmt.{Stmt}
 use Rattle.mir_syntax.specs.declared.body.Term.TheVariants.{Goto, Switch}
 use Rattle.mir_syntax.specs.declared.program.Program.{Program}
 use Rattle.mir_syntax.specs.Tree.{Tree, at_id, trees_of}
@@ -19,12 +17,12 @@ use Rattle.drop_elab.specs.declared.cursor.Cursor.{Cursor}
 use Rattle.drop_elab.specs.declared.flags.DropUnit.{DropUnit}
 use Rattle.drop_elab.specs.Plan.{Plan, done, guarded, clear, local_place, glue, glue_from, glue_def}
 use Rattle.drop_elab.specs.Elab.{typed_glue}
-use Rattle.drop_elab.specs.Code.{bare_flag, empty_block, bare_switched, Seen, Built, seen, built, InTable, Laying, LayingOn, nothing_left}
+use Rattle.drop_elab.specs.Code.{bare_flag, empty_block, bare_switched, Seen, seen, built, InTable, Laying, LayingOn, nothing_left}
 use Rattle.drop_elab.specs.Changes.{IsTyped}
 use Rattle.drop_elab.proofs.equal.Below.{all_joined, all_set}
-use Rattle.drop_elab.proofs.equal.Laid.{after_clear, cleared_is, switch_on, at_guard, gone_on, guarded_is}
+use Rattle.drop_elab.proofs.equal.Laid.{after_clear, cleared_is, at_guard, gone_on, guarded_is}
 use Rattle.drop_elab.proofs.equal.Pieces.{set_in_front}
-use Rattle.drop_elab.proofs.equal.Steps.{laying_as, laying_on}
+use Rattle.drop_elab.proofs.equal.Steps.{laying_on}
 
 -- what was laid before more is
 pub laying_then : (p : Program) (a b : Cursor) (g w : Plan → Plan) → Laying p a b nothing_left w → Laying p a b g (λ r. w (g r))

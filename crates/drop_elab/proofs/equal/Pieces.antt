@@ -1,7 +1,7 @@
 -- A cursor goes on by a destructor, a choice or a guard.
-use Rattle.std.proofs.Common.{◌≡◌, refl, ap, ap₂, ◌∙◌, sym, subst, ℕ, zero, suc, ◌+◌, ◌<◌, ◌≤◌, Bool, true, false, if◌then◌else◌, IsTrue, List, [], ◌∷◌, ◌++◌, map, drop, length, set, replicate, arith}
+use Rattle.std.proofs.Common.{◌≡◌, refl, ap, ap₂, ◌∙◌, sym, subst, ℕ, zero, suc, ◌+◌, ◌<◌, ◌≤◌, Bool, true, false, if◌then◌else◌, IsTrue, List, [], ◌∷◌, ◌++◌, map, length, set, replicate, arith}
 use Rattle.std.specs.List.{list_all}
-use Rattle.std.proofs.lemmas.List.{append_assoc, append-nil, length-append, length-set, length-map, length-replicate, map-append, map-set, set-append_left}
+use Rattle.std.proofs.lemmas.List.{append_assoc, length-append, length-set, length-map, length-replicate, map-append, map-set, set-append_left}
 use Rattle.mir_syntax.specs.declared.types.Ty.{Ty}
 use Rattle.mir_syntax.specs.declared.types.TyId.{TyId}
 use Rattle.mir_syntax.specs.declared.body.Place.{Place}
@@ -11,7 +11,6 @@ use Rattle.mir_syntax.specs.declared.body.Stmt.{Stmt}
 use Rattle.mir_syntax.specs.declared.body.Stmt.TheVariants as stmt
 use Rattle.mir_syntax.specs.declared.body.Rvalue.TheVariants as bare_rvalue
 use Rattle.mir_syntax.specs.declared.body.Operand.TheVariants as operand
-use Rattle.mir_syntax.specs.declared.body.Term.{Term}
 use Rattle.mir_syntax.specs.declared.body.Term.TheVariants.{Goto, Switch}
 use Rattle.mir_syntax.specs.declared.body.Proj.TheVariants.{Downcast}
 use Rattle.mir_syntax.specs.declared.program.Program.{Program}
@@ -19,14 +18,13 @@ use Rattle.mir_syntax.specs.Tree.{Tree, empty, ref_mut, at_id, trees_of}
 use Rattle.mir_syntax.specs.Crate.{TypedStmt, TypedBlock, assign, discriminant, stmt_of, block_of}
 use Rattle.mir_syntax.specs.Crate as rvalue
 use Rattle.mir_syntax.specs.Ids.{stmt_below, block_below}
-use Rattle.mir_syntax.specs.Table.{all_below}
 use Rattle.mir_syntax.specs.Shapes.{Shape, needs_drop}
 use Rattle.mir_rules.specs.Typing.{isize_ty}
 use Rattle.drop_elab.specs.declared.cursor.Cursor.{Cursor}
-use Rattle.drop_elab.specs.Plan.{Plan, done, destroy, choose, chosen, arm, guarded, clear, lay, local_place, set_flag, arms_from, arms_of, glue_from, part}
-use Rattle.drop_elab.specs.Code.{bare_flag, call_of, bare_called, empty_block, arms_at, bare_chosen, Seen, Built, seen, built, armed, all_built, InTable, Laying, Arming, nothing_left}
+use Rattle.drop_elab.specs.Plan.{Plan, done, destroy, choose, chosen, arm, guarded, clear, local_place, arms_from, arms_of, glue_from, part}
+use Rattle.drop_elab.specs.Code.{call_of, bare_called, empty_block, arms_at, bare_chosen, Seen, Built, seen, built, armed, all_built, InTable, Laying, Arming, nothing_left}
 use Rattle.drop_elab.proofs.equal.Below.{all_joined, all_set, below_joined, one_below}
-use Rattle.drop_elab.proofs.equal.Laid.{after_destroy, destroyed_is, closed, closed_is, armed_more, armed_all, at_choice, chosen_is}
+use Rattle.drop_elab.proofs.equal.Laid.{after_destroy, destroyed_is, closed, armed_more, armed_all, at_choice, chosen_is}
 
 seen_same : (l l2 : List Tree) (k k2 : List TypedBlock) (i : ℕ) (s : List TypedStmt) → l ≡ l2 → k ≡ k2 → (let z : Seen = record { locals = l; blocks = k; at = i; stmts = s } in z) ≡ record { locals = l2; blocks = k2; at = i; stmts = s }
 seen_same l l2 k k2 i s e f = ap₂ (λ (l : List Tree) (k : List TypedBlock). let z : Seen = record { locals = l; blocks = k; at = i; stmts = s } in z) e f

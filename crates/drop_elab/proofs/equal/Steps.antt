@@ -1,17 +1,13 @@
 -- A cursor goes on, piece by piece of a plan.
-use Rattle.std.proofs.Common.{◌≡◌, refl, ap, ap₂, ◌∙◌, sym, subst, ℕ, zero, suc, ◌+◌, ◌<◌, ◌≤◌, IsTrue, List, [], ◌∷◌, ◌++◌, map, drop, length, set, replicate, get_or, Option, Some, None, MatchOption, arith}
-use Rattle.std.proofs.lemmas.List.{length-append, length-set, length-map, map-append, map-set, at_drop_more}
-use Rattle.mir_syntax.specs.declared.types.Ty.{Ty}
+use Rattle.std.proofs.Common.{◌≡◌, refl, ap, ap₂, ◌∙◌, sym, subst, ℕ, suc, ◌+◌, ◌<◌, List, [], ◌∷◌, ◌++◌, drop, length, get_or, Option, MatchOption, arith}
+use Rattle.std.proofs.lemmas.List.{at_drop_more}
 use Rattle.mir_syntax.specs.declared.types.TyId.{TyId}
 use Rattle.mir_syntax.specs.declared.types.Field.{Field as StructField}
 use Rattle.mir_syntax.specs.declared.body.Proj.{Proj}
 use Rattle.mir_syntax.specs.declared.body.Proj.TheVariants.{Field}
 use Rattle.mir_syntax.specs.declared.body.Place.{Place}
-use Rattle.mir_syntax.specs.declared.body.Stmt.{Stmt}
 use Rattle.mir_syntax.specs.declared.program.Program.{Program}
 use Rattle.mir_syntax.specs.Tree.{Tree, more, at_id, at_ids, trees_of}
-use Rattle.mir_syntax.specs.Crate.{stmt_of, block_of}
-use Rattle.mir_syntax.specs.Ids.{stmt_below, block_below}
 use Rattle.mir_syntax.specs.Shapes.{fields_tree}
 use Rattle.move_paths.proofs.Gathering.{popped}
 use Rattle.drop_elab.specs.declared.cursor.Cursor.{Cursor}

@@ -1,16 +1,14 @@
 -- Which units want a flag, unit by unit.
-use Rattle.std.proofs.Common.{◌≡◌, refl, ap, ap₂, ◌∙◌, sym, subst, ℕ, zero, suc, ◌+◌, ◌<◌, ◌≤◌, Bool, true, false, ◌&&◌, ◌||◌, List, [], ◌∷◌, map, length, get_or, Option, Some, None, slice_get, arith}
-use Rattle.std.proofs.lemmas.List.{length-map, get_or-map}
-use Rattle.std.proofs.lemmas.Option.{slice_get_within}
+use Rattle.std.proofs.Common.{◌≡◌, refl, ap, ap₂, ◌∙◌, sym, subst, ℕ, zero, suc, ◌+◌, Bool, false, ◌||◌, List, [], ◌∷◌, map, length, get_or, Some, slice_get, arith}
+use Rattle.std.proofs.lemmas.List.{length-map}
 use Rattle.mir_syntax.specs.declared.body.Place.{Place}
 use Rattle.mir_syntax.specs.declared.body.Term.{Term}
 use Rattle.mir_syntax.specs.declared.body.Term.TheVariants.{Goto, Switch, Return, Unreachable, Drop, Call, Assert}
 use Rattle.mir_syntax.specs.declared.body.Block.{Block}
 use Rattle.mir_syntax.specs.Tree.{Tree}
-use Rattle.mir_syntax.specs.Crate.{TypedBlock, block_of}
-use Rattle.bit_rows.specs.Rows.{row_at, flag}
-use Rattle.move_paths.specs.Effects.{is_under}
-use Rattle.drop_elab.specs.Elab.{Inits, Status, status_of, is_conditional, conditional_under, none_of, wants_flag, either_bit, want_flags, statuses_at}
+use Rattle.mir_syntax.specs.Crate.{block_of}
+use Rattle.bit_rows.specs.Rows.{row_at}
+use Rattle.drop_elab.specs.Elab.{Inits, conditional_under, none_of, wants_flag, either_bit, want_flags, statuses_at}
 use Rattle.drop_elab.specs.Changes.{end_statuses, wants_at, wants_of, wants_in}
 
 pub under_long : (p : Place) (us : List Place) (ms ns : List Bool) → length ms ≡ length us → length ns ≡ length us → length (conditional_under p us (end_statuses ms ns)) ≡ length us

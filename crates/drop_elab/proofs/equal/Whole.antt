@@ -1,7 +1,6 @@
 -- Blocks are laid one after another, and all of them are the elaborated body's.
-use Rattle.std.proofs.Common.{◌≡◌, refl, ap, ap₂, ◌∙◌, sym, subst, ℕ, zero, suc, ◌+◌, ◌<◌, ◌≤◌, Bool, true, false, List, [], ◌∷◌, ◌++◌, map, length, set, Option, Some, None, slice_get, arith}
-use Rattle.std.proofs.lemmas.List.{append_assoc, append-nil, length-append, length-set}
-use lib.Lanes.{zip2}
+use Rattle.std.proofs.Common.{◌≡◌, refl, ap, ap₂, ◌∙◌, sym, subst, ℕ, suc, ◌+◌, ◌≤◌, Bool, true, List, [], ◌∷◌, ◌++◌, length, set, Option, Some, None, slice_get, arith}
+use Rattle.std.proofs.lemmas.List.{append_assoc, length-append, length-set}
 use Rattle.mir_syntax.specs.declared.body.Place.{Place}
 use Rattle.mir_syntax.specs.Tree.{Tree}
 use Rattle.mir_syntax.specs.Crate.{TypedStmt, TypedBlock, TypedBody}
@@ -15,7 +14,7 @@ use Rattle.drop_elab.specs.Elab.{Inits, Status, status_of, statuses, statuses_at
 use Rattle.drop_elab.specs.Code.{Built, put}
 use Rattle.drop_elab.specs.Changes.{end_statuses}
 use Rattle.drop_elab.specs.Blocks.{block_laid, lay_rest, all_laid}
-use Rattle.drop_elab.proofs.equal.Lists.{put_front, put_all}
+use Rattle.drop_elab.proofs.equal.Lists.{put_front}
 use Rattle.drop_elab.proofs.equal.Laid.{both}
 
 -- ---- statuses at a block's end

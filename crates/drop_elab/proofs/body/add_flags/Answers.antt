@@ -1,8 +1,7 @@
-use Rattle.std.proofs.Common.{◌≡◌, ◌++◌, ◌∷◌, [], ◌+◌, ◌<◌, ◌∙◌, ap, sym, subst, ℕ, List, map, drop, IsTrue}
+use Rattle.std.proofs.Common.{◌++◌, ◌∷◌, [], ◌+◌, ◌∙◌, ap, sym, subst, List, map, drop, IsTrue}
 use Rattle.mir_syntax.specs.declared.types.TyId.{TyId}
-use Rattle.mir_syntax.specs.Tree.{Tree, at_id}
+use Rattle.mir_syntax.specs.Tree.{at_id}
 use Rattle.mir_syntax.specs.Table.{all_below}
-use Rattle.mir_rules.specs.Typing.{bool_ty}
 use Rattle.drop_elab.specs.Changes.{flagged_of}
 use Rattle.drop_elab.specs.Blocks.{locals_of}
 use Rattle.drop_elab.proofs.equal.Below.{below_joined, one_below}

@@ -1,9 +1,9 @@
-use Rattle.std.proofs.Common.{◌≡◌, refl, ap, sym, ◌∙◌, ◌<◌, List, [], ◌++◌, map, length, IsTrue, rules, arith}
+use Rattle.std.proofs.Common.{refl, ap, ◌∙◌, List, ◌++◌, map, length, IsTrue, rules}
 use Rattle.std.specs.List.{list_all}
 use Rattle.mir_syntax.specs.Tree.{at_id, trees_of}
 use Rattle.mir_syntax.specs.Table.{all_below}
 use Rattle.mir_syntax.specs.Ids.{block_below}
-use Rattle.mir_syntax.specs.Crate.{TypedBlock, crate_of, body_of}
+use Rattle.mir_syntax.specs.Crate.{crate_of, body_of}
 use Rattle.mir_syntax.specs.Shapes.{shapes_of}
 use Rattle.drop_elab.specs.declared.flags.DropUnit.{DropUnit}
 use Rattle.drop_elab.specs.declared.cursor.Cursor.{Cursor}

@@ -1,13 +1,6 @@
-use Rattle.std.proofs.Common.{◌≡◌, ◌∙◌, ap, sym, subst, ℕ, ◌<◌, List, map, length, arith}
-use Rattle.std.proofs.lemmas.List.{length-map}
-use Rattle.bit_rows.specs.Rows.{row_at, HasSize}
-use Rattle.mir_syntax.specs.declared.body.Block.{Block}
-use Rattle.mir_syntax.specs.declared.body.Place.{Place}
 use Rattle.mir_syntax.specs.Tree.{trees_of}
-use Rattle.mir_syntax.specs.Crate.{crate_of, block_of, body_of}
+use Rattle.mir_syntax.specs.Crate.{crate_of}
 use Rattle.mir_syntax.specs.Shapes.{shapes_of}
-use Rattle.move_paths.specs.Effects.{units_of_body}
-use Rattle.drop_elab.specs.Blocks.{IsEnds}
 use Rattle.drop_elab.proofs.equal.RowsAt.{ends_found}
 use Rattle.drop_elab.proofs.body.ends_of.Goals as goal
 

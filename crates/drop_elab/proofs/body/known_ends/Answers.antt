@@ -1,4 +1,4 @@
-use Rattle.std.proofs.Common.{◌≡◌, ◌∙◌, ap, sym, subst, ◌<◌, List, map, length, arith}
+use Rattle.std.proofs.Common.{◌≡◌, ◌∙◌, ap, sym, subst, List, length, arith}
 use Rattle.std.specs.List.{All}
 use Rattle.bit_rows.specs.Rows.{row_at}
 use Rattle.mir_syntax.specs.declared.body.Place.{Place}

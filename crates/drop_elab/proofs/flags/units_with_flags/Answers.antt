@@ -1,4 +1,4 @@
-use Rattle.std.proofs.Common.{◌≡◌, refl, ap, sym, subst, suc, ◌∙◌, ◌∷◌, [], ◌++◌, ◌+◌, ◌<◌, ◌≤◌, List, map, length, get_or, Option, Some, None, Bool, true, false, arith}
+use Rattle.std.proofs.Common.{◌≡◌, refl, ap, sym, subst, suc, ◌∙◌, ◌∷◌, [], ◌++◌, ◌+◌, ◌<◌, List, length, get_or, Some, None, false, arith}
 use Rattle.std.specs.List.{All}
 use Rattle.std.specs.Vec.Iter.{into_iter_items}
 use Rattle.std.proofs.lemmas.List.{length-append}
@@ -10,7 +10,7 @@ use Rattle.mir_syntax.specs.Crate.{crate_of, body_of}
 use Rattle.mir_syntax.specs.Shapes.{shapes_of}
 use Rattle.drop_elab.specs.declared.flags.DropUnit.{DropUnit}
 use Rattle.drop_elab.specs.Elab.{with_flags}
-use Rattle.drop_elab.specs.Changes.{flagged_of, IsWhole, IsTyped}
+use Rattle.drop_elab.specs.Changes.{IsWhole, IsTyped}
 use Rattle.drop_elab.proofs.Fields.{whole_type}
 use Rattle.drop_elab.proofs.equal.Flags.{flagged_more, plain_more}
 use Rattle.drop_elab.proofs.flags.units_with_flags.Goals as goal

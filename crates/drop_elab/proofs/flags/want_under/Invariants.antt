@@ -1,4 +1,3 @@
-use Rattle.std.proofs.Common.{◌≡◌, slice_get, Some}
 use Rattle.bit_rows.specs.Rows.{flag}
 use Rattle.drop_elab.specs.Changes.{wants_at}
 use Rattle.drop_elab.proofs.Marking.{Wanting}

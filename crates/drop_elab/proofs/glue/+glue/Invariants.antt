@@ -1,4 +1,4 @@
-use Rattle.std.proofs.Common.{min, ◌*◌, ◌+◌, ◌^◌, drop, map, ◌≡◌, ◌≤◌, length}
+use Rattle.std.proofs.Common.{min, ◌*◌, ◌+◌, ◌^◌, drop, map, ◌≤◌, length}
 use Rattle.mir_syntax.specs.Tree.{at_ids, trees_of}
 use Rattle.mir_syntax.specs.Crate.{crate_of}
 use Rattle.mir_syntax.specs.Shapes.{shapes_of, fields_tree}

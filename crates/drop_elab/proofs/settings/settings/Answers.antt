@@ -1,5 +1,5 @@
-use Rattle.std.proofs.Common.{◌≡◌, ◌∙◌, ap, ◌++◌, map, drop, List}
-use Rattle.mir_syntax.specs.Crate.{TypedStmt, stmt_of}
+use Rattle.std.proofs.Common.{◌∙◌, ap, ◌++◌, map}
+use Rattle.mir_syntax.specs.Crate.{stmt_of}
 use Rattle.drop_elab.specs.Elab as definition
 use Rattle.drop_elab.specs.Elab.{set_to}
 use Rattle.drop_elab.specs.Changes.{change_made, flagged_of}

@@ -1,4 +1,3 @@
-use Rattle.std.proofs.Common.{◌≡◌, ◌∙◌, sym, arith}
 use Rattle.std.proofs.lemmas.Result.{on_ok_weaker}
 use Rattle.drop_elab.proofs.equal.On.{unit_laid}
 use Rattle.drop_elab.proofs.units.lay_unit.Goals as goal

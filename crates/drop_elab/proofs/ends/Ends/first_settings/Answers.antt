@@ -1,4 +1,4 @@
-use Rattle.std.proofs.Common.{◌≡◌, ap, sym, ◌∙◌, List, map, Some}
+use Rattle.std.proofs.Common.{ap, sym, ◌∙◌, List, map, Some}
 use Rattle.std.proofs.lemmas.Result.{IfOk-weaker}
 use Rattle.move_paths.specs.Inits.{is_argument}
 use Rattle.drop_elab.specs.declared.flags.DropUnit.{DropUnit}

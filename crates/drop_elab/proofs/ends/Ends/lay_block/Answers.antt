@@ -1,10 +1,8 @@
-use Rattle.std.proofs.Common.{◌≡◌, ap, sym, ◌∙◌, subst, ◌++◌, List, map, length, IsTrue}
-use Rattle.std.specs.List.{list_all}
+use Rattle.std.proofs.Common.{ap, ◌∙◌, ◌++◌, List, map, length}
 use Rattle.std.proofs.lemmas.Result.{on_ok_weaker}
 use Rattle.bit_rows.specs.Rows.{row_at}
-use Rattle.mir_syntax.specs.declared.body.Stmt.{Stmt}
 use Rattle.mir_syntax.specs.Tree.{trees_of}
-use Rattle.mir_syntax.specs.Ids.{stmt_below, block_below}
+use Rattle.mir_syntax.specs.Ids.{block_below}
 use Rattle.mir_syntax.specs.Crate.{TypedStmt, crate_of, stmt_of}
 use Rattle.mir_syntax.specs.Shapes.{shapes_of}
 use Rattle.mir_syntax.proofs.InTable.{all-at}

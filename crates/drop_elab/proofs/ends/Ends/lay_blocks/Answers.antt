@@ -1,7 +1,7 @@
-use Rattle.std.proofs.Common.{◌≡◌, ◌<◌, ◌≤◌, List, map, take, length, arith}
+use Rattle.std.proofs.Common.{map, take, arith}
 use Rattle.std.proofs.lemmas.List.{length-map, length-take}
 use Rattle.mir_syntax.specs.Tree.{trees_of}
-use Rattle.mir_syntax.specs.Crate.{TypedBlock, crate_of, block_of}
+use Rattle.mir_syntax.specs.Crate.{crate_of, block_of}
 use Rattle.mir_syntax.specs.Shapes.{shapes_of}
 use Rattle.drop_elab.specs.Changes.{flagged_of}
 use Rattle.drop_elab.proofs.equal.Blocks.{blocks_more, blocks_done}

@@ -1,4 +1,4 @@
-use Rattle.std.proofs.Common.{◌≡◌, List, take, drop, map}
+use Rattle.std.proofs.Common.{List, take, drop, map}
 use Rattle.std.specs.List.{All}
 use Rattle.mir_syntax.specs.Tree.{Tree, trees_of}
 use Rattle.mir_syntax.specs.Crate.{crate_of, block_of}

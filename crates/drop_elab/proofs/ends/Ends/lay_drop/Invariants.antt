@@ -1,4 +1,4 @@
-use Rattle.std.proofs.Common.{◌≡◌, List, drop}
+use Rattle.std.proofs.Common.{List, drop}
 use Rattle.std.specs.List.{All}
 use Rattle.bit_rows.specs.Rows.{row_at}
 use Rattle.mir_syntax.specs.Tree.{Tree}

@@ -1,4 +1,4 @@
-use Rattle.std.proofs.Common.{◌≡◌, ap, sym, ◌∙◌, subst, List, map, length}
+use Rattle.std.proofs.Common.{sym, subst, map, length}
 use Rattle.std.proofs.lemmas.Result.{on_ok_weaker}
 use Rattle.bit_rows.specs.Rows.{row_at}
 use Rattle.mir_syntax.specs.declared.body.Term.{Term}

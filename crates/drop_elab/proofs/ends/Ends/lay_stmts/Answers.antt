@@ -1,9 +1,9 @@
-use Rattle.std.proofs.Common.{◌≡◌, ap, sym, ◌∙◌, subst, ◌++◌, ◌∷◌, [], ℕ, List, map, IsTrue, rules}
+use Rattle.std.proofs.Common.{◌≡◌, ap, sym, ◌∙◌, subst, ◌++◌, ◌∷◌, [], List, map, IsTrue}
 use Rattle.std.specs.List.{list_all}
 use Rattle.std.specs.Vec.Iter.{into_iter_items}
 use Rattle.std.proofs.lemmas.List.{append-nil, nil_from_length}
 use Rattle.mir_syntax.specs.declared.body.Stmt.{Stmt}
-use Rattle.mir_syntax.specs.Crate.{TypedStmt, stmt_of}
+use Rattle.mir_syntax.specs.Crate.{stmt_of}
 use Rattle.mir_syntax.specs.Ids.{stmt_below}
 use Rattle.move_paths.specs.Effects.{effect}
 use Rattle.drop_elab.specs.declared.cursor.Cursor.{Cursor}
