@@ -1,5 +1,5 @@
 -- What the code makes of a body, over statements as the program holds them: copies, conflicts, homes, and the body with them.
-use Rattle.std.specs.Prelude.{◌≡◌, ◌↔◌, ◌<◌, ◌≤◌, ◌^◌, ◌+◌, ℕ, suc, Bool, true, false, not, nat_eq, nat_le, ◌&&◌, ◌||◌, if◌then◌else◌, IsTrue, List, [], ◌∷◌, map, set, drop, get_or, length, Option, Some, None, slice_get}
+use Rattle.std.specs.Prelude.{◌≡◌, ◌↔◌, ◌<◌, ◌≤◌, ◌^◌, ℕ, suc, Bool, true, false, not, nat_eq, nat_le, ◌&&◌, ◌||◌, if◌then◌else◌, IsTrue, List, [], ◌∷◌, map, set, drop, get_or, length, Option, Some, None, slice_get}
 use Rattle.std.specs.List.{filter, flat_map}
 use lib.Lanes.{zip2}
 use Rattle.bit_rows.specs.Rows.{row_at, flag, stands, HasSize}

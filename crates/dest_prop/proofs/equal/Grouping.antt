@@ -12,12 +12,12 @@ use Rattle.mir_syntax.proofs.Bools.{if_true, if_false, same_tests}
 use Rattle.mir_renaming.proofs.Memory.{same_or_not}
 use Rattle.bit_rows.specs.Rows.{row_at, flag, and_not, HasSize}
 use Rattle.liveness.specs.Bits.{bit_within}
-use Rattle.liveness.specs.Lattice.{one_row, minus_bit}
+use Rattle.liveness.specs.Lattice.{one_row, single, minus_long, minus_bit}
 use Rattle.dest_prop.specs.declared.candidates.LocalCopy.{LocalCopy}
 use Rattle.dest_prop.specs.declared.groups.Groups.{Groups}
 use Rattle.dest_prop.specs.Merged.{Pair, hurts, conflict, members, is_fixed, agree, may_join, joined, homes_after, home_of, candidates}
 use Rattle.dest_prop.specs.Code.{home_in, moved_home, or_into, next_home, pair_of, IsSized, IsGrouped, MayUnite}
-use Rattle.dest_prop.proofs.Homes.{above, all_at, not_true}
+use Rattle.dest_prop.proofs.Homes.{all_at, not_true}
 use Rattle.dest_prop.proofs.equal.Grown.{size_set, or_long}
 
 -- ---- each alone
@@ -84,17 +84,24 @@ common_or_same (x ∷ xs) (y ∷ ys) e = elim (common_or_same xs ys (omega arith
     here true false q = inr (ap (λ (zs : List Bool). true ∷ zs) q)
     here false y q = inr (ap (λ (zs : List Bool). false ∷ zs) q)
 
+module _ (n : ℕ) (room mid last hurts members : List (List Bool)) (a b : ℕ) (size : HasSize room 1 n) (long : length (row_at hurts a) ≡ n) (long2 : length (row_at members b) ≡ n) (mid_is : mid ≡ set room 0 (row_at hurts a)) (last_is : last ≡ set mid 0 (zip2 and_not (row_at mid 0) (row_at members b))) where
+  one_left : mid ≡ row_at hurts a ∷ []
+  one_left = mid_is ∙ ap (λ z. set z 0 (row_at hurts a)) (one_row n room size)
+
+  less_left : last ≡ zip2 and_not (row_at hurts a) (row_at members b) ∷ []
+  less_left = last_is ∙ ap (λ z. set z 0 (zip2 and_not (row_at z 0) (row_at members b))) one_left
+
+  pub room_left : HasSize last 1 n
+  room_left = subst (λ t. HasSize t 1 n) (sym less_left) (single n (zip2 and_not (row_at hurts a) (row_at members b)) (minus_long n (row_at hurts a) (row_at members b) long long2))
+
 pub meet_where_less : (n : ℕ) (room mid last hurts members : List (List Bool)) (a b : ℕ) (t : Bool) → HasSize room 1 n → length (row_at hurts a) ≡ n → length (row_at members b) ≡ n → mid ≡ set room 0 (row_at hurts a) → last ≡ set mid 0 (zip2 and_not (row_at mid 0) (row_at members b)) → IsTrue t ↔ (last ≡ mid → ⊥) → IsTrue t ↔ ((k : ℕ) × IsTrue (flag hurts a k) × IsTrue (flag members b k))
 meet_where_less n room mid last hurts members a b t size long long2 mid_is last_is changed = (to, λ (k, h, m). changed.1 (from k h m))
   where
-    row : List Bool
-    row = row_at hurts a
-
     one : mid ≡ row_at hurts a ∷ []
-    one = mid_is ∙ ap (λ z. set z 0 (row_at hurts a)) (one_row n room size)
+    one = one_left n room mid last hurts members a b size long long2 mid_is last_is
 
     less : last ≡ zip2 and_not (row_at hurts a) (row_at members b) ∷ []
-    less = last_is ∙ ap (λ z. set z 0 (zip2 and_not (row_at z 0) (row_at members b))) one
+    less = less_left n room mid last hurts members a b size long long2 mid_is last_is
 
     to : IsTrue t → (k : ℕ) × IsTrue (flag hurts a k) × IsTrue (flag members b k)
     to h = elim (common_or_same (row_at hurts a) (row_at members b) (long ∙ sym long2)) [ inl c ↦ c | inr e ↦ absurd (changed.0 h (less ∙ ap (λ (z : List Bool). z ∷ []) e ∙ sym one)) ]

@@ -1,4 +1,4 @@
-use Rattle.std.proofs.Common.{◌≡◌, ℕ, [], ◌∷◌, List, Bool, sym, ap, ◌∙◌, subst, set, length}
+use Rattle.std.proofs.Common.{◌≡◌, [], ◌∷◌, sym, ap, ◌∙◌, subst, set, length}
 use Rattle.std.proofs.lemmas.List.{length-map}
 use Rattle.mir_syntax.specs.Tree.{trees_of, at_id}
 use Rattle.mir_syntax.specs.Crate.{TypedBlock, crate_of, body_of, block_of}
