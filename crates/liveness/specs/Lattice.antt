@@ -1,4 +1,4 @@
--- Rows of live locals are a lattice, and the flow of live locals rises: proofs alone, of the law that `solve` asks for.
+-- Rows are a lattice, and the flow of live locals rises over it: proofs alone, of the law that `solve` asks for.
 use Rattle.std.proofs.Common.{◌≡◌, inl, inr, refl, sym, ap, ◌∙◌, subst, ℕ, zero, suc, ◌<◌, List, [], ◌∷◌, Bool, true, false, not, ◌&&◌, ◌||◌, length, get_or, set, Option, Some, None, slice_get, arith}
 use Rattle.std.proofs.lemmas.Bool.{or_cases, and_parts, and_from, or_left, or_right}
 use Rattle.std.proofs.lemmas.List.{length-replicate}
@@ -51,6 +51,50 @@ joined_bit n x y s t k l = ap (λ z. flag z 0 k) (joined_is n x y s) ∙ get_or-
 
 flag_within : (n : ℕ) (x : Fact) → HasSize x 1 n → (k : ℕ) → flag x 0 k ≡ true → k < n
 flag_within n x s k e = (let l = bit_within (row_at x 0) k e in omega (arith, row_long n x s))
+
+-- ---- rows are a lattice
+
+module _ (n : ℕ) where
+  left : (x y : Fact) → HasSize x 1 n → HasSize y 1 n → IsBelow n x (joined x y)
+  left x y ok ok2 = record {
+    first_size = ok;
+    second_size = joined_size n x y ok ok2;
+    ones = λ k e. joined_bit n x y ok ok2 k (flag_within n x ok k e) ∙ or_left (flag x 0 k) (flag y 0 k) e;
+  }
+
+  right : (x y : Fact) → HasSize x 1 n → HasSize y 1 n → IsBelow n y (joined x y)
+  right x y ok ok2 = record {
+    first_size = ok2;
+    second_size = joined_size n x y ok ok2;
+    ones = λ k e. joined_bit n x y ok ok2 k (flag_within n y ok2 k e) ∙ or_right (flag x 0 k) (flag y 0 k) e;
+  }
+
+  least : (x y z : Fact) → HasSize x 1 n → HasSize y 1 n → IsBelow n x z → IsBelow n y z → IsBelow n (joined x y) z
+  least x y z ok ok2 p r = record {
+    first_size = joined_size n x y ok ok2;
+    second_size = p.second_size;
+    ones = λ k e. elim (or_cases (flag x 0 k) (flag y 0 k) (sym (joined_bit n x y ok ok2 k (flag_within n (joined x y) (joined_size n x y ok ok2) k e)) ∙ e)) [ inl h ↦ p.ones k h | inr h ↦ r.ones k h ];
+  }
+
+  rows_as_long : (x y : Fact) → IsBelow n x y → length (row_at x 0) ≡ length (row_at y 0)
+  rows_as_long x y p = row_long n x p.first_size ∙ sym (row_long n y p.second_size)
+
+  -- a flow problem over rows, where all keep the number of bits and the flows rise
+  pub rows_lawful : (start : ℕ → Fact) (flow : ℕ → Fact → Fact) → ((b : ℕ) → HasSize (start b) 1 n) → ((i : ℕ) (x : Fact) → HasSize x 1 n → HasSize (flow i x) 1 n) → ((i : ℕ) (x y : Fact) → HasSize x 1 n → HasSize y 1 n → IsBelow n x y → IsBelow n (flow i x) (flow i y)) → Lawful (λ x. HasSize x 1 n) (IsBelow n) count_ones n start joined flow
+  rows_lawful start flow start_ok flow_ok flow_below = record {
+    same = λ x ok. record { first_size = ok; second_size = ok; ones = λ k e. e };
+    then_below = λ x y z p q. record { first_size = p.first_size; second_size = q.second_size; ones = λ k e. q.ones k (p.ones k e) };
+    join_ok = λ x y ok ok2. joined_size n x y ok ok2;
+    left = left;
+    right = right;
+    least = least;
+    rank_below = λ x y p. ones_low (row_at x 0) (row_at y 0) (rows_as_long x y p) p.ones;
+    rank_same = λ x y p e. one_row n x p.first_size ∙ ap (λ row. row ∷ []) (ones_same (row_at x 0) (row_at y 0) (rows_as_long x y p) p.ones e) ∙ sym (one_row n y p.second_size);
+    rank_high = λ x ok. (let f = ones_few (row_at x 0) in let l = row_long n x ok in omega arith);
+    start_ok = start_ok;
+    flow_ok = flow_ok;
+    flow_below = flow_below;
+  }
 
 -- ---- what an edge makes of a fact
 
@@ -108,42 +152,5 @@ module _ (D : List Shape) (b : TypedBody) (edges : List Edge) where
   begun_ok : (i : ℕ) → Ok (begun D b i)
   begun_ok i = single bits (gen_row D b.locals (block_at b.blocks i)) (gen_long D b.locals (block_at b.blocks i))
 
-  left : (x y : Fact) → Ok x → Ok y → IsBelow (length b.locals) x (joined x y)
-  left x y ok ok2 = record {
-    first_size = ok;
-    second_size = joined_size bits x y ok ok2;
-    ones = λ k e. joined_bit bits x y ok ok2 k (flag_within bits x ok k e) ∙ or_left (flag x 0 k) (flag y 0 k) e;
-  }
-
-  right : (x y : Fact) → Ok x → Ok y → IsBelow (length b.locals) y (joined x y)
-  right x y ok ok2 = record {
-    first_size = ok2;
-    second_size = joined_size bits x y ok ok2;
-    ones = λ k e. joined_bit bits x y ok ok2 k (flag_within bits y ok2 k e) ∙ or_right (flag x 0 k) (flag y 0 k) e;
-  }
-
-  least : (x y z : Fact) → Ok x → Ok y → IsBelow (length b.locals) x z → IsBelow (length b.locals) y z → IsBelow (length b.locals) (joined x y) z
-  least x y z ok ok2 p r = record {
-    first_size = joined_size bits x y ok ok2;
-    second_size = p.second_size;
-    ones = λ k e. elim (or_cases (flag x 0 k) (flag y 0 k) (sym (joined_bit bits x y ok ok2 k (flag_within bits (joined x y) (joined_size bits x y ok ok2) k e)) ∙ e)) [ inl h ↦ p.ones k h | inr h ↦ r.ones k h ];
-  }
-
-  rows_as_long : (x y : Fact) → IsBelow (length b.locals) x y → length (row_at x 0) ≡ length (row_at y 0)
-  rows_as_long x y p = row_long bits x p.first_size ∙ sym (row_long bits y p.second_size)
-
-  pub live_lawful : Lawful (λ x. HasSize x 1 (length b.locals)) (λ x y. IsBelow (length b.locals) x y) (λ x. count_ones x) (length b.locals) (λ i. begun D b i) (λ x y. joined x y) (λ i x. sent b edges i x)
-  live_lawful = record {
-    same = λ x ok. record { first_size = ok; second_size = ok; ones = λ k e. e };
-    then_below = λ x y z p q. record { first_size = p.first_size; second_size = q.second_size; ones = λ k e. q.ones k (p.ones k e) };
-    join_ok = λ x y ok ok2. joined_size bits x y ok ok2;
-    left = left;
-    right = right;
-    least = least;
-    rank_below = λ x y p. ones_low (row_at x 0) (row_at y 0) (rows_as_long x y p) p.ones;
-    rank_same = λ x y p e. one_row bits x p.first_size ∙ ap (λ row. row ∷ []) (ones_same (row_at x 0) (row_at y 0) (rows_as_long x y p) p.ones e) ∙ sym (one_row bits y p.second_size);
-    rank_high = λ x ok. (let f = ones_few (row_at x 0) in let l = row_long bits x ok in omega arith);
-    start_ok = begun_ok;
-    flow_ok = λ i x ok. along_ok x ok (slice_get edges i);
-    flow_below = λ i x y ok ok2 p. along_below x y ok ok2 p (slice_get edges i);
-  }
+  pub live_lawful : Lawful (λ x. HasSize x 1 (length b.locals)) (IsBelow (length b.locals)) count_ones (length b.locals) (begun D b) joined (sent b edges)
+  live_lawful = rows_lawful (length b.locals) (begun D b) (sent b edges) begun_ok (λ i x ok. along_ok x ok (slice_get edges i)) (λ i x y ok ok2 p. along_below x y ok ok2 p (slice_get edges i))
