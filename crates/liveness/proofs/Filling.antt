@@ -43,6 +43,23 @@ filled_more n at f d rows rows2 v l w e is = record {
 pub filled_all : (n at : ℕ) (f : ℕ → List Bool) (d : List Bool) (rows : List (List Bool)) → n ≤ at → Filled n at f d rows → IsRows n f rows
 filled_all n at f d rows l w = record { long = w.long; each = λ r m. w.done r (omega arith) }
 
+-- the first rows are those that a function names, the others those of another table
+pub record Copied (old : List (List Bool)) (at : ℕ) (f : ℕ → List Bool) (rows : List (List Bool)) : Type 0 where
+  pub long : length rows ≡ length old
+  pub done : (r : ℕ) → r < at → row_at rows r ≡ f r
+  pub rest : (r : ℕ) → at ≤ r → row_at rows r ≡ row_at old r
+
+pub copied_more : (old : List (List Bool)) (at : ℕ) (f : ℕ → List Bool) (rows rows2 : List (List Bool)) → at < length old → Copied old at f rows → rows2 ≡ set rows at (f at) → Copied old (at + 1) f rows2
+copied_more old at f rows rows2 l w e = record {
+  long = ap length e ∙ length-set rows at (f at) ∙ w.long;
+  done = λ r m. ap (λ t. row_at t r) e ∙ found r m (cases_eq r at);
+  rest = λ r a. ap (λ t. row_at t r) e ∙ get_or-set_other rows at r (f at) [] (λ s. absurd (omega arith)) ∙ w.rest r (omega arith);
+}
+  where
+    found : (r : ℕ) → r < at + 1 → (r ≡ at) ⊎ (r ≡ at → ⊥) → row_at (set rows at (f at)) r ≡ f r
+    found r m (inl s) = ap (λ r. row_at (set rows at (f at)) r) s ∙ get_or-set_same rows at (f at) [] (omega (arith, w.long)) ∙ ap f (sym s)
+    found r m (inr ne) = get_or-set_other rows at r (f at) [] ne ∙ w.done r (omega arith)
+
 -- rows of one length
 pub rows_sized : (n bits : ℕ) (f : ℕ → List Bool) (rows : List (List Bool)) → ((r : ℕ) → length (f r) ≡ bits) → IsRows n f rows → HasSize rows n bits
 rows_sized n bits f rows h w = record { count_is = w.long; bits_is = λ r l. ap length (w.each r l) ∙ h r }

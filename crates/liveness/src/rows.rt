@@ -1,4 +1,4 @@
-ghost use Rattle.std.specs.Prelude.{◌≡◌, ℕ, List, [], ◌∷◌, ◌<◌, ◌^◌, ◌↔◌, map, set, length, IfOk, OnOk, IsTrue};
+ghost use Rattle.std.specs.Prelude.{◌≡◌, ℕ, List, [], ◌∷◌, ◌<◌, ◌^◌, ◌↔◌, map, set, length, get_or, IfOk, OnOk, IsTrue};
 ghost use Rattle.std.specs.List.{All};
 ghost use Rattle.bit_rows.specs.Rows.{row_at, flag, marked, HasSize};
 ghost use Rattle.mir_syntax.specs.Tree.{trees_of};
@@ -28,17 +28,16 @@ pub struct LiveRows {
     pub ends: BitRows,
 }
 
-/// The one row of each of these, in one table.
-fn one_table(alloc: Global, rows: &[BitRows], bits: u32) -> Result<BitRows, OutOfMemory>
+/// Makes the rows of a table those of others, which have one row each.
+fn copy_rows(table: &mut BitRows, rows: &[BitRows])
     requires few { length rows.now < 2 ^ 30 }
-    requires sizes { All (λ row. HasSize row 1 bits) rows.now }
-    ensures { IfOk result (λ table. table ≡ map (λ row. row_at row 0) rows.now) }
+    requires long { length table.old ≡ length rows.now }
+    requires sizes { (r : ℕ) → r < length rows.now → HasSize (get_or rows.now r []) 1 (length (row_at table.old r)) }
+    ensures { table.new ≡ map (λ row. row_at row 0) rows.now }
 {
-    let mut table = BitRows::new(alloc, rows.len() as u32, bits)?;
     for (at, row) in rows.iter().enumerate() {
         table.copy_other(at as u32, row, 0);
     }
-    Ok(table)
 }
 
 /// Adds the ones of rows of another table.
@@ -147,6 +146,8 @@ pub fn live_starts(alloc: Global, program: &Program, body: &Body) -> Result<BitR
     let edges = turned_edges(alloc, body.blocks.as_slice())?;
     let kills = long_kills(alloc, body)?;
     let blocks = body.blocks.len() as u32;
+    // The table is made before the facts, so that its place isn't behind the one that they leave.
+    let mut starts = BitRows::new(alloc, blocks, body.locals.len() as u32)?;
     let flow = LiveFlow {
         program,
         body,
@@ -154,7 +155,8 @@ pub fn live_starts(alloc: Global, program: &Program, body: &Body) -> Result<BitR
         kills,
     };
     let facts = solve(alloc, &flow, blocks, flow.edges.as_slice())?;
-    one_table(alloc, facts.as_slice(), body.locals.len() as u32)
+    copy_rows(&mut starts, facts.as_slice());
+    Ok(starts)
 }
 
 /// The live locals of a body whose edges lead to its blocks.

@@ -1,7 +1,8 @@
 -- The units of a definition: itself where it has a destructor, else an enum that needs drop, or those of a struct's fields.
-use Rattle.std.proofs.Common.{◌≡◌, refl, sym, ap, ℕ, zero, suc, Bool, true, false, if◌then◌else◌, List, [], ◌∷◌, length, Option, Some, None, is_some, slice_get, option_map, arith}
+use Rattle.std.proofs.Common.{◌≡◌, refl, sym, ap, ◌∙◌, ℕ, zero, suc, Bool, true, false, if◌then◌else◌, List, [], ◌∷◌, length, Option, Some, None, is_some, slice_get, option_map, arith}
+use Rattle.mir_syntax.specs.declared.body.Proj.{Proj}
 use Rattle.mir_syntax.specs.Tree.{Tree, named}
-use Rattle.mir_syntax.specs.Shapes.{Shape, ◌>>=◌, first_variant, struct_fields, fields_of_struct, fields_of, destructor_of, needs_of, needs_def, needs_drop}
+use Rattle.mir_syntax.specs.Shapes.{Shape, ◌>>=◌, first_variant, struct_fields, fields_of_struct, fields_of, destructor_of, needs_by, needs_of, needs_def, needs_drop}
 use Rattle.mir_rules.specs.Weights.{one_unit, units_from, units_of_parts, units_of_shape, units_of, units_def}
 
 pub some_mapped : {A B : Type 0} (f : A → B) (o : Option A) → is_some (option_map f o) ≡ is_some o

@@ -1,9 +1,10 @@
 -- Rows in which something is done to the bit of each unit.
-use Rattle.std.proofs.Common.{◌≡◌, refl, sym, ap, ◌∙◌, ℕ, ◌<◌, Bool, false, List, [], length, get_or, set, Some, slice_get, arith}
+use Rattle.std.proofs.Common.{◌≡◌, refl, sym, ap, ap₂, ◌∙◌, subst, ℕ, ◌<◌, Bool, true, false, List, [], length, get_or, set, Some, slice_get, arith}
 use Rattle.std.proofs.Math.Path.{fun_ext}
 use Rattle.std.proofs.lemmas.List.{length-set, get_or-set_same, set-set, set-get_or, ext_get_or}
 use Rattle.std.proofs.lemmas.Option.{slice_get_within, slice_get-get_or, get_or_from_slice_get}
 use Rattle.std.proofs.lemmas.Simd.{length-zip2, get_or-zip2}
+use lib.Lanes.{zip2}
 use Rattle.mir_syntax.specs.declared.body.Place.{Place}
 use Rattle.bit_rows.specs.Rows.{row_at}
 use Rattle.move_paths.specs.Rows.{each_unit}

@@ -1,5 +1,5 @@
 -- What statements and terminators do to the bit of a unit, put together.
-use Rattle.std.proofs.Common.{◌≡◌, refl, sym, ap, ◌∙◌, ℕ, ◌+◌, ◌<◌, Bool, true, false, not, ◌||◌, if◌then◌else◌, List, [], ◌∷◌, ◌++◌, map, take, length, get_or}
+use Rattle.std.proofs.Common.{◌≡◌, refl, sym, ap, ◌∙◌, ℕ, ◌+◌, ◌<◌, Bool, true, false, not, ◌||◌, if◌then◌else◌, List, [], ◌∷◌, ◌++◌, map, take, length, get_or, Option, Some, None, arith}
 use Rattle.std.proofs.lemmas.List.{take_more}
 use Rattle.std.proofs.lemmas.List.{map-append}
 use Rattle.mir_syntax.specs.declared.body.Operand.{Operand}
@@ -8,9 +8,9 @@ use Rattle.mir_syntax.specs.declared.body.Place.{Place}
 use Rattle.mir_syntax.specs.declared.body.Stmt.{Stmt}
 use Rattle.mir_syntax.specs.Tree.{Tree}
 use Rattle.mir_syntax.specs.Crate.{TypedStmt, stmt_of}
-use Rattle.move_paths.specs.Effects.{is_under, moved_by_operand, moved_by, ended_if, begun_or_ended, effect}
-use Rattle.move_paths.specs.Rows.{has, passed, passed_stmts, written}
-use Rattle.move_paths.proofs.Each.{Doing}
+use Rattle.move_paths.specs.Effects.{in_local, is_under, moved_by_operand, moved_by, ended_if, begun_or_ended, effect}
+use Rattle.move_paths.specs.Rows.{has, passed, passed_stmts, written, each_unit}
+use Rattle.move_paths.proofs.Each.{Doing, Does, does_then, does_as}
 
 -- the bits of units that are moved are cleared of the status
 abbrev pub moves : Bool → List Operand → Doing

@@ -1,5 +1,5 @@
 -- From the tables that the code makes to the statuses that paths bring.
-use Rattle.std.proofs.Common.{◌≡◌, inl, inr, refl, sym, ap, ◌∙◌, subst, ℕ, ◌<◌, ◌≤◌, Bool, false, not, nat_lt, List, [], ◌∷◌, map, length, get_or, Some, slice_get, IsTrue, ◌↔◌, arith}
+use Rattle.std.proofs.Common.{◌≡◌, inl, inr, refl, sym, ap, ◌∙◌, subst, ℕ, ◌<◌, ◌≤◌, Bool, true, false, not, nat_lt, List, [], ◌∷◌, map, length, get_or, Some, slice_get, IsTrue, ◌↔◌, arith}
 use Rattle.std.specs.List.{All}
 use Rattle.std.proofs.lemmas.Bool.{cases_Bool}
 use Rattle.std.proofs.lemmas.List.{length-map, get_or-map, length-replicate, get_or_past}
@@ -9,7 +9,7 @@ use Rattle.mir_syntax.specs.declared.body.Body.{Body}
 use Rattle.mir_syntax.specs.declared.body.Place.{Place}
 use Rattle.mir_syntax.specs.declared.body.Term.TheVariants.{Unreachable}
 use Rattle.mir_syntax.specs.Tree.{Tree}
-use Rattle.mir_syntax.specs.Crate.{TypedBlock, block_of, body_of}
+use Rattle.mir_syntax.specs.Crate.{TypedBlock, TypedBody, block_of, body_of}
 use Rattle.mir_cfg.specs.Paths.{block_term, terms_of, Closed, Reached}
 use Rattle.bit_rows.specs.Rows.{row_at, flag, HasSize}
 use Rattle.flow_engine.specs.declared.edges.Edge.{Edge}

@@ -1,5 +1,5 @@
 -- The bits of the units under a place are written one after another, in the span of its local.
-use Rattle.std.proofs.Common.{◌≡◌, ◌⊎◌, inl, inr, refl, sym, ap, ◌∙◌, ℕ, ◌+◌, ◌<◌, ◌≤◌, Bool, true, false, nat_eq, nat_le, nat_lt, ◌&&◌, if◌then◌else◌, List, [], length, get_or, set, Some, None, slice_get, arith}
+use Rattle.std.proofs.Common.{◌≡◌, ◌⊎◌, inl, inr, refl, sym, ap, ◌∙◌, subst, ℕ, suc, ◌+◌, ◌<◌, ◌≤◌, Bool, true, false, nat_eq, nat_le, nat_lt, ◌&&◌, if◌then◌else◌, List, [], length, get_or, set, Option, Some, None, slice_get, IsTrue, arith}
 use Rattle.std.proofs.lemmas.Bool.{cases_eq, cases_Bool}
 use Rattle.std.proofs.lemmas.List.{length-set, get_or-set_same, get_or-set_other, set-set, set-get_or}
 use Rattle.std.proofs.lemmas.Option.{slice_get_within}
@@ -8,7 +8,7 @@ use Rattle.mir_syntax.specs.declared.body.Place.{Place}
 use Rattle.bit_rows.specs.Rows.{row_at}
 use Rattle.move_paths.specs.declared.units.Span.{Span}
 use Rattle.move_paths.specs.Effects.{in_local, goes_on, is_under}
-use Rattle.move_paths.specs.Rows.{in_span, written, IsSpanned}
+use Rattle.move_paths.specs.Rows.{in_span, written, each_unit, IsSpanned}
 use Rattle.move_paths.proofs.Each.{Doing, each_is, Does}
 
 -- of the units up to a number the bits are written, the others are as they were

@@ -183,5 +183,9 @@ pub fn inits(alloc: Global, program: &Program, body: &Body) -> Result<InitRows, 
     let maybe = may_have(alloc, body, &units, edges, true, &begun, &ended)?;
     let unsure = may_have(alloc, body, &units, edges, false, &ended, &begun)?;
     let sure = turned_over(alloc, &unsure, body.blocks.len() as u32, units.len())?;
-    Ok(InitRows { units, maybe, sure })
+    Ok(InitRows {
+        units,
+        maybe,
+        sure,
+    })
 }

@@ -40,14 +40,7 @@ impl BodyUnits {
     }
 
     /// Writes the bits of the units at or under a place: that of a local at a path. The row has one for each unit.
-    pub(crate) fn write_under(
-        &self,
-        local: u32,
-        path: &[Proj],
-        on: bool,
-        rows: &mut BitRows,
-        row: u32,
-    )
+    pub(crate) fn write_under(&self, local: u32, path: &[Proj], on: bool, rows: &mut BitRows, row: u32)
         requires within { row < length rows.old }
         requires bits { length (row_at rows.old row) ≡ length self.now.places }
         ensures { rows.new ≡ set rows.old row (each_unit (written (in_local local path.now) on) self.now.places (row_at rows.old row)) }

@@ -1,4 +1,4 @@
-use Rattle.std.proofs.Common.{◌≡◌, ◌<◌, ◌+◌, sym, ap, ◌∙◌, subst, true, false, map, length, IsTrue, arith}
+use Rattle.std.proofs.Common.{◌≡◌, ◌<◌, ◌+◌, refl, sym, ap, ◌∙◌, subst, true, false, map, length, get_or, IsTrue, arith}
 use Rattle.std.proofs.lemmas.List.{get_or-map}
 use Rattle.mir_syntax.specs.Crate.{TypedBlock, block_of}
 use Rattle.mir_syntax.specs.declared.body.Block.{Block}

@@ -1,4 +1,4 @@
-use Rattle.std.proofs.Common.{subst, List, map, length, IsTrue}
+use Rattle.std.proofs.Common.{ap, subst, List, map, length, IsTrue}
 use Rattle.std.proofs.lemmas.Result.{IfOk-weaker}
 use Rattle.mir_syntax.specs.Tree.{Tree}
 use Rattle.mir_syntax.specs.Crate.{block_of}

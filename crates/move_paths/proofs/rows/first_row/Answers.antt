@@ -1,4 +1,4 @@
-use Rattle.std.proofs.Common.{◌≡◌, ◌<◌, refl, sym, ap, ◌∙◌, false, length, get_or, replicate, arith}
+use Rattle.std.proofs.Common.{◌≡◌, ◌<◌, refl, sym, ap, ◌∙◌, false, length, get_or, set, replicate, arith}
 use Rattle.std.proofs.lemmas.List.{length-map, get_or-map}
 use Rattle.mir_syntax.specs.declared.body.Place.{Place}
 use Rattle.move_paths.specs.Inits.{is_argument}

@@ -3,6 +3,7 @@ use Rattle.std.proofs.lemmas.List.{get_or-map}
 use Rattle.bit_rows.specs.Rows.{row_at}
 use Rattle.mir_syntax.specs.Crate.{TypedBlock, block_of, stmt_of}
 use Rattle.mir_syntax.specs.declared.body.Stmt.{Stmt}
+use Rattle.mir_syntax.specs.declared.body.Block.{Block}
 use Rattle.liveness.specs.Rows.{block_at, no_block}
 use Rattle.move_paths.specs.Rows.{passed_stmts, each_unit}
 use Rattle.move_paths.proofs.Each.{each_long}
@@ -27,9 +28,9 @@ loop-at-preserved c = λ trees.
     let typed : block_at (map (block_of trees) blocks) at ≡ block_of trees (get_or blocks at item) = get_or-map (block_of trees) blocks at item no_block low in
     let here : block_of trees item ≡ block_at (map (block_of trees) blocks) at = ap (block_of trees) c.index-blocks-at.is ∙ sym typed in
     let is : c.pass_stmts.new.rows ≡ set now at (on at (row_at now at)) =
-    (c.pass_stmts.ensures trees
-    ∙ ap (λ (ss : List Stmt). set now at (each_unit (passed_stmts true (map (stmt_of trees) ss)) us (row_at now at))) c.as_slice.ensures
-    ∙ ap (λ (k : TypedBlock). set now at (each_unit (passed_stmts true k.stmts) us (row_at now at))) here) in
+        (c.pass_stmts.ensures trees
+        ∙ ap (λ (ss : List Stmt). set now at (each_unit (passed_stmts true (map (stmt_of trees) ss)) us (row_at now at))) c.as_slice.ensures
+        ∙ ap (λ (k : TypedBlock). set now at (each_unit (passed_stmts true k.stmts) us (row_at now at))) here) in
     carried_more on c.args.rows.now now c.pass_stmts.new.rows at (let size = c.requires.size.count_is in omega (arith, size, low)) is (c.loop-at.invariant trees)
 
 pub returns-clause-size : goal.returns-clause-size

@@ -1,7 +1,7 @@
-use Rattle.std.proofs.Common.{◌≡◌, ◌-◌, ap, ◌∙◌, sym, subst, suc, [], true, false, is_some, OnOk, get_or, arith}
+use Rattle.std.proofs.Common.{◌≡◌, ◌-◌, ap, ◌∙◌, sym, subst, suc, [], Some, None, true, false, is_some, OnOk, length, get_or, arith}
 use Rattle.mir_syntax.specs.Tree.{named, at_id, at_ids, trees_of}
 use Rattle.mir_syntax.specs.Crate.{crate_of}
-use Rattle.mir_syntax.specs.Shapes.{shapes_of, fields_tree, destructor_of, needs_drop}
+use Rattle.mir_syntax.specs.Shapes.{shapes_of, fields_tree, destructor_of, fields_of, needs_drop}
 use Rattle.mir_syntax.specs.Drops.{fn_number}
 use Rattle.mir_syntax.specs.declared.types.Field.{Field as StructField}
 use Rattle.mir_syntax.proofs.Lists.{id_below}

@@ -1,8 +1,8 @@
-use Rattle.std.proofs.Common.{ap, [], List, map, arith}
+use Rattle.std.proofs.Common.{ap, ◌∙◌, [], List, map, arith}
 use Rattle.mir_syntax.specs.declared.body.Stmt.{Stmt}
 use Rattle.mir_syntax.specs.Crate.{stmt_of}
 use Rattle.move_paths.specs.Effects.{term_effect}
-use Rattle.move_paths.specs.Rows.{passed, passed_stmts}
+use Rattle.move_paths.specs.Rows.{passed, passed_stmts, passed_block}
 use Rattle.move_paths.proofs.Each.{does_count, does_long, does_then, does_as}
 use Rattle.move_paths.proofs.passing.Passing.pass_block.Goals as goal
 

@@ -1,9 +1,9 @@
-use Rattle.std.proofs.Common.{refl, sym, ap, ◌∙◌, ◌∷◌, List}
+use Rattle.std.proofs.Common.{refl, sym, ap, ◌∙◌, ◌∷◌, List, arith}
 use Rattle.mir_syntax.specs.declared.body.Operand.{Operand}
 use Rattle.mir_syntax.specs.declared.body.Term.{Term}
-use Rattle.move_paths.specs.Effects.{in_local, term_effect}
+use Rattle.move_paths.specs.Effects.{in_local, is_under, term_effect}
 use Rattle.move_paths.specs.Rows.{written, passed}
-use Rattle.move_paths.proofs.Each.{does_nothing, does_long, does_then, does_as}
+use Rattle.move_paths.proofs.Each.{does_nothing, does_count, does_long, does_then, does_as}
 use Rattle.move_paths.proofs.Moves.{moves, moves_operand, moves_then, moves_written, moves_passed}
 use Rattle.move_paths.proofs.passing.Passing.pass_term.Goals as goal
 
