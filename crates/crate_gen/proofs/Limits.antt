@@ -1,14 +1,13 @@
 -- A made crate is within the limits.
-use Rattle.std.proofs.Common.{◌≡◌, ◌<◌, ◌≤◌, ◌+◌, ◌*◌, ℕ, zero, suc, List, [], ◌∷◌, ◌++◌, take, drop, map, Some, length, refl, sym, ap, ap₂, subst, ◌∙◌, arith}
-use Rattle.std.specs.Prelude.{slice_get}
+use Rattle.std.proofs.Common.{◌≡◌, ◌≤◌, ◌+◌, ◌*◌, ℕ, zero, suc, List, [], take, map, length, refl, sym, ap, subst, ◌∙◌, arith}
 use Rattle.std.proofs.lemmas.List.{drop_all, length-append}
 use Rattle.mir_syntax.specs.Crate.{TypedFunction}
-use Rattle.mir_syntax.specs.Shapes.{Shape, shapes_of, place_ty, needs_drop, ◌>>=◌}
+use Rattle.mir_syntax.specs.Shapes.{needs_drop}
 use Rattle.mir_rules.specs.Broken.{Spot, gather}
-use Rattle.mir_rules.specs.Weights.{nodes, units, drop_weight}
+use Rattle.mir_rules.specs.Weights.{nodes, units}
 use Rattle.mir_rules.specs.Limits.{most_functions, most_statements, is_large_type, body_weight, blocks_count, locals_count, first_past, with_code, header_spot, function_spots, statement_spots, functions_passed, locals_passed, count_passed, types_passed, bodies_passed, statements_passed, passed}
 use Rattle.mir_rules.specs.Valid.{Within}
-use Rattle.mir_rules.proofs.Lists.{append_empty, map_empty, gather_empty}
+use Rattle.mir_rules.proofs.Lists.{append_empty, gather_empty}
 use Rattle.crate_gen.specs.declared.choice.Choice.{Choice}
 use Rattle.crate_gen.specs.Made.{choice, after_choice, made_function, made_functions, made_crate}
 use Rattle.crate_gen.proofs.Members.{made_at}
@@ -59,8 +58,8 @@ small_bodies : (start n : ℕ) → bodies_passed (made_crate start n) ≡ []
 unfolding bodies_passed
 small_bodies start n =
     append_empty _ _
-      (subst (λ D. gather (count_passed 4 (blocks_count D)) 0 (made_functions n 0 n start) ≡ []) (sym (no_shapes start n)) (each (count_passed 4 (blocks_count [])) start n small_blocks))
-      (subst (λ D. gather (count_passed 5 (locals_count D)) 0 (made_functions n 0 n start) ≡ []) (sym (no_shapes start n)) (each (count_passed 5 (locals_count [])) start n small_count))
+    (subst (λ D. gather (count_passed 4 (blocks_count D)) 0 (made_functions n 0 n start) ≡ []) (sym (no_shapes start n)) (each (count_passed 4 (blocks_count [])) start n small_blocks))
+    (subst (λ D. gather (count_passed 5 (locals_count D)) 0 (made_functions n 0 n start) ≡ []) (sym (no_shapes start n)) (each (count_passed 5 (locals_count [])) start n small_count))
 
 none_passed : (start n : ℕ) → n ≤ 10000 → passed (made_crate start n) ≡ []
 unfolding passed

@@ -1,9 +1,9 @@
 -- The functions of a made crate, one by one.
-use Rattle.std.proofs.Common.{◌≡◌, ◌<◌, ◌+◌, ◌/◌, ℕ, zero, suc, List, [], ◌∷◌, Option, Some, None, length, refl, ap, ◌∙◌, arith}
+use Rattle.std.proofs.Common.{◌≡◌, ◌<◌, ◌/◌, ℕ, zero, suc, Some, length, refl, arith}
 use Rattle.std.proofs.lemmas.Nat.{mod_below}
 use Rattle.std.specs.Prelude.{slice_get}
 use Rattle.mir_syntax.specs.Crate.{TypedFunction}
-use Rattle.mir_rules.specs.Typing.{Kind, arithmetic, kind_of}
+use Rattle.mir_rules.specs.Typing.{arithmetic, kind_of}
 use Rattle.crate_gen.specs.Draws.{next, drawn}
 use Rattle.crate_gen.specs.Made.{op_of, choice, after_choice, made_function, made_functions}
 

@@ -1,12 +1,12 @@
 -- The paths of made functions: they are names, and no two of them are the same.
-use Rattle.std.proofs.Common.{◌≡◌, ◌<◌, ◌≤◌, ◌+◌, ◌/◌, ◌%◌, ℕ, zero, suc, Bool, true, false, List, [], ◌∷◌, codes, None, refl, sym, ap, subst, ◌∙◌, arith}
+use Rattle.std.proofs.Common.{◌≡◌, ◌<◌, ◌+◌, ◌/◌, ◌%◌, ℕ, zero, suc, Bool, true, false, [], ◌∷◌, codes, None, refl, sym, ap, subst, ◌∙◌, arith}
 use Rattle.std.specs.Prelude.{◌==◌, ◌&&◌}
 use Rattle.std.specs.Str.{bytes_eq}
 use Rattle.std.proofs.lemmas.Nat.{mod_below}
 use Rattle.std.proofs.lemmas.Slice.Eq.{bytes_eq-Decides}
 use Rattle.mir_text.specs.Bytes.{is_name_byte}
 use Rattle.mir_text.specs.Pieces.{word}
-use Rattle.mir_text.specs.Symbols.{name, token_of, block_digits, word_token}
+use Rattle.mir_text.specs.Symbols.{block_digits, word_token}
 use Rattle.mir_text.specs.Words.{word_place}
 use Rattle.mir_round_trip.specs.Names.{IsName, one, joined, split, AllNames, IsPath}
 use Rattle.crate_gen.specs.Made.{digit, made_path}

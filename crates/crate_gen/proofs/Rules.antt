@@ -1,13 +1,13 @@
 -- A made crate keeps the rules.
-use Rattle.std.proofs.Common.{◌≡◌, ◌<◌, ◌≤◌, ◌+◌, ◌^◌, ℕ, zero, suc, true, false, List, [], ◌∷◌, Option, Some, None, length, nat_lt, refl, sym, ap, subst, ◌∙◌, arith}
+use Rattle.std.proofs.Common.{◌≡◌, ◌<◌, ◌+◌, ℕ, zero, suc, true, [], Some, length, nat_lt, refl, sym, subst, arith}
 use Rattle.std.proofs.lemmas.Bool.Decides.{nat_tests}
 use Rattle.std.specs.Prelude.{slice_get}
 use Rattle.mir_syntax.specs.declared.types.IntTy.TheVariants as int_ty
 use Rattle.mir_syntax.specs.declared.body.Const.TheVariants as constant
 use Rattle.mir_syntax.specs.declared.body.Callee.TheVariants as callee
-use Rattle.mir_syntax.specs.Tree.{Tree, empty, more}
+use Rattle.mir_syntax.specs.Tree.{empty, more}
 use Rattle.mir_syntax.specs.Crate.{TypedFunction, Crate}
-use Rattle.mir_syntax.specs.Shapes.{Shape, shapes_of, place_ty, needs_drop, ◌>>=◌}
+use Rattle.mir_syntax.specs.Shapes.{shapes_of, place_ty, needs_drop, ◌>>=◌}
 use Rattle.mir_rules.specs.Same.{same_tree}
 use Rattle.mir_rules.specs.Typing.{arithmetic, kind_of, operand_ty, operands_ty, rvalue_ty, callee_args_ty, callee_result_ty}
 use Rattle.mir_rules.specs.Formed.{const_formed, callee_formed, stmt_formed, term_formed, body_formed, function_formed, is_formed}
@@ -69,7 +69,7 @@ all_keep start n k g at =
     let low = choice_below n y some in
     let low2 = choice_otherwise n y some in
     subst (λ f. function_found (made_crate start n) [] (k + 0) f ≡ []) (sym is)
-      (keeps (made_crate start n) (k + 0) j c (choice_arithmetic n y) (args_are start n c.below low) (result_is start n c.below low) (args_are start n c.otherwise low2) (result_is start n c.otherwise low2))
+    (keeps (made_crate start n) (k + 0) j c (choice_arithmetic n y) (args_are start n c.below low) (result_is start n c.below low) (args_are start n c.otherwise low2) (result_is start n c.otherwise low2))
 
 all_formed : (start n k : ℕ) (g : TypedFunction) → slice_get (made_functions n 0 n start) k ≡ Some g → function_formed (made_crate start n) g ≡ true
 all_formed start n k g at =
@@ -79,7 +79,7 @@ all_formed start n k g at =
     let low = choice_below n y some in
     let low2 = choice_otherwise n y some in
     subst (λ f. function_formed (made_crate start n) f ≡ true) (sym is)
-      (formed (made_crate start n) j c (small_constant c.value (choice_value n y)) (small_constant c.bound (choice_bound n y)) (is_there start n c.below low) (is_there start n c.otherwise low2))
+    (formed (made_crate start n) j c (small_constant c.value (choice_value n y)) (small_constant c.bound (choice_bound n y)) (is_there start n c.below low) (is_there start n c.otherwise low2))
 
 is_formed_made : (start n : ℕ) → is_formed (made_crate start n) ≡ true
 unfolding is_formed
@@ -89,7 +89,7 @@ none_broken : (start n : ℕ) → broken (made_crate start n) ≡ []
 unfolding broken
 none_broken start n =
     subst (λ D. gather (function_found (made_crate start n) D) 0 (made_functions n 0 n start) ≡ []) (sym (no_shapes start n))
-      (gather_empty (function_found (made_crate start n) []) 0 (made_functions n 0 n start) (all_keep start n))
+    (gather_empty (function_found (made_crate start n) []) 0 (made_functions n 0 n start) (all_keep start n))
 
 pub valid : (start n : ℕ) → Valid (made_crate start n)
 valid start n = record { formed = is_formed_made start n; rules = none_broken start n }

@@ -6,7 +6,7 @@ use Rattle.std.proofs.lemmas.Slice.Eq.{bytes_eq-Decides}
 use Rattle.mir_syntax.specs.declared.types.ScalarTy.{ScalarTy}
 use Rattle.mir_syntax.specs.declared.body.Callee.TheVariants as callee
 use Rattle.mir_syntax.specs.Tree.{Tree, scalar}
-use Rattle.mir_syntax.specs.Crate.{TypedFunction, Crate}
+use Rattle.mir_syntax.specs.Crate.{Crate}
 use Rattle.mir_text.specs.Grammar.{AllOf}
 use Rattle.mir_text.specs.Words.{place_from, place_in}
 use Rattle.mir_text.specs.NameFaults.{Defined, clashes, any_clashes}
@@ -14,8 +14,8 @@ use Rattle.mir_text.specs.TermText.{function_paths, callee_path}
 use Rattle.mir_text.specs.Text.{text}
 use Rattle.mir_text.specs.Reads.{Reads}
 use Rattle.mir_round_trip.specs.Names.{IsPath, Proper, IsTy}
-use Rattle.mir_round_trip.specs.Bodies.{depth_at, IsPlace, IsOperand, IsRvalue, IsStmt, IsTarget, IsArm, IsCallee, IsTerm, IsBlock, IsFn}
-use Rattle.mir_round_trip.specs.Readable.{AreWritten, fn_defined, AreApart, Readable}
+use Rattle.mir_round_trip.specs.Bodies.{depth_at, IsPlace, IsOperand, IsRvalue, IsStmt, IsTarget, IsCallee, IsTerm, IsBlock, IsFn}
+use Rattle.mir_round_trip.specs.Readable.{fn_defined, AreApart, Readable}
 use Rattle.mir_round_trip.proofs.ReadBack.{read_back}
 use Rattle.crate_gen.specs.declared.choice.Choice.{Choice}
 use Rattle.crate_gen.specs.Made.{choice, after_choice, whole, copied, number, number_ty, bool_ty, comparing, calling, returning, made_path, made_function, made_functions, made_crate}
@@ -68,7 +68,7 @@ unfolding defined
 none_clashes i [] small before = refl
 none_clashes i (b ∷ bs) small ((j, low, is), others) =
     subst (λ d. (clashes (defined i) d || any_clashes (defined i) bs) ≡ false) (sym is)
-      (rw (paths_differ i j small (omega arith) (λ same. absurd (omega (arith, same)))) (none_clashes i bs small others))
+    (rw (paths_differ i j small (omega arith) (λ same. absurd (omega (arith, same)))) (none_clashes i bs small others))
 
 are_apart : (n i more x : ℕ) (before : List Defined) → i + more ≤ 100000 → AreBefore i before → AreApart before (map fn_defined (made_functions n i more x))
 unfolding defined
@@ -106,8 +106,11 @@ is_comparing C c value bound =
     record {
       stmts = (
         (is_place C 3 (omega arith), is_number C c.value value),
-        ((is_place C 4 (omega arith), (is_copied C 1 (omega arith), is_copied C 3 (omega arith))),
-        ((is_place C 5 (omega arith), (is_copied C 3 (omega arith), is_number C c.bound bound)), tt)));
+        (
+          (is_place C 4 (omega arith), (is_copied C 1 (omega arith), is_copied C 3 (omega arith))),
+          ((is_place C 5 (omega arith), (is_copied C 3 (omega arith), is_number C c.bound bound)), tt),
+        ),
+      );
       term = (is_place C 5 (omega arith), (record { value = (let e : 0 < 340282366920938463463374607431768211456 = omega arith in e); block = is_target 2 (omega arith) }, tt), is_target 1 (omega arith));
     }
 
