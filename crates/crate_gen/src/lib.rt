@@ -2,7 +2,8 @@
 //!
 //! `generate` makes a crate of so many functions of one shape, which call one another, and tells the lines of its canonical text (`made_crate` and
 //! `made_lines` of `specs/Made.antt`). `schedule` draws the numbers of workers (`draws` of `specs/Draws.antt`). The same numbers give the same
-//! crate and the same schedule.
+//! crate and the same schedule. Laws (`src/laws.rt`): a made crate keeps all rules and is within the limits (`made_crates_are_valid`), is read back from
+//! its canonical text (`made_crates_are_read_back`), and its lines are one for each of its parts (`made_lines_fit`).
 #![tactic(auto)]
 
 mod body;
