@@ -10,6 +10,8 @@
 //! body.
 #![tactic(auto)]
 
+mod body;
 mod laws;
 
+pub use body::elab;
 pub use laws::{elab_is_one, elab_leaves_no_drop, elaboration_is_decided};
