@@ -3,3 +3,7 @@ pub mod RowPaths
 pub mod OneResult
 pub mod NoDrop
 pub mod Elaborated
+pub mod refines
+pub mod valid
+pub mod Types
+pub mod InPlace

@@ -1,5 +1,5 @@
 -- Of a body whose ids lie in the table these come back.
-use Rattle.std.proofs.Common.{◌≡◌, refl, sym, ap, ap₂, ◌∙◌, subst, IsTrue, ℕ, zero, suc, ◌+◌, ◌<◌, ◌≤◌, Bool, true, false, ◌&&◌, nat_lt, List, [], ◌∷◌, map, length, get_or, ◌⊎◌, inl, inr, arith}
+use Rattle.std.proofs.Common.{◌≡◌, refl, sym, ap, ap₂, ◌∙◌, IsTrue, ℕ, zero, suc, ◌+◌, ◌<◌, Bool, true, false, ◌&&◌, nat_lt, List, [], ◌∷◌, map, length, get_or, arith}
 use Rattle.std.specs.Prelude.{if◌then◌else◌}
 use Rattle.std.specs.List.{list_all}
 use Rattle.std.proofs.lemmas.Bool.Decides.{nat_tests}
@@ -15,7 +15,7 @@ use Rattle.mir_syntax.specs.declared.body.Body.{Body}
 use Rattle.mir_syntax.specs.Tree.{Tree, scalar, at_id, trees_of}
 use Rattle.mir_syntax.specs.Crate.{rvalue_of, stmt_of, block_of, body_of}
 use Rattle.mir_syntax.specs.Table.{IsTable, all_below}
-use Rattle.mir_syntax.specs.Ids.{rvalue_below, stmt_below, block_below, body_below, BodyInTable}
+use Rattle.mir_syntax.specs.Ids.{rvalue_below, stmt_below, block_below, BodyInTable}
 use Rattle.mir_syntax.proofs.Trees.{length-trees_of}
 use Rattle.mir_syntax.proofs.OneId.{one-id-each}
 use Rattle.mir_rules.specs.Same.{same_tree}

@@ -7,3 +7,4 @@ pub mod Inlined
 pub mod Rounds
 pub mod Sources
 pub mod Taken
+pub mod Tables

@@ -5,5 +5,5 @@ pub mod Fits
 pub mod Programs
 pub mod Bodies
 pub mod OptCrate
-pub mod ElabLaws
+pub mod Tupled
 pub mod WithIds

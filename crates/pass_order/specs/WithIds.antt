@@ -1,5 +1,5 @@
 -- A typed body with ids in the place of its types: for each type the first id of the table that stands for it.
-use Rattle.std.specs.Prelude.{ℕ, zero, suc, List, [], ◌∷◌, map, if◌then◌else◌}
+use Rattle.std.specs.Prelude.{ℕ, suc, List, [], ◌∷◌, map, if◌then◌else◌}
 use Rattle.mir_syntax.specs.declared.types.TyId.{TyId}
 use Rattle.mir_syntax.specs.declared.body.Rvalue.{Rvalue}
 use Rattle.mir_syntax.specs.declared.body.Rvalue.TheVariants as rvalue

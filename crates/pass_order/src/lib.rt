@@ -18,7 +18,7 @@
 //!
 //! A crate whose bodies are inlined into one another is told by the queries of `query_plan`: `specs/OptCrate.antt` has the steps of a crate (`pipeline`) and
 //! the crate with each body optimised (`opt_crate`). The laws (`opt_laws`) are that the queries of a crate can be answered, and that `opt_crate` is
-//! valid and refines the crate. That elaborated bodies stay valid and refine is their premise (`specs/ElabLaws.antt`); what these call is shown here
+//! valid and refines the crate. What an elaborated body calls is shown here
 //! (`proofs/elab`). `proofs/compose` replaces the bodies of a crate one by one: all are cleaned, then all elaborated, and then optimised in rounds of
 //! rising weight.
 #![tactic(auto)]
@@ -35,7 +35,7 @@ pub use all_bodies::optimised;
 pub use laws::{one_result, optimised_refines, staged_refines};
 pub use one_body::after_passes;
 pub use opt_laws::{
-    crate_is_a_source, elaboration_adds_no_callee, ids_come_back, lent_bodies_are_taken,
-    opt_crate_refines,
+    bodies_are_tupled, crate_is_a_source, elaboration_adds_no_callee, ids_come_back,
+    lent_bodies_are_taken, opt_crate_refines,
 };
 pub use stages::{dumped, passes_behind};

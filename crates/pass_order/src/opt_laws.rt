@@ -1,5 +1,5 @@
-//! The laws of a crate with each body optimised. The functions here run nothing; their contracts are the laws. What is asked of drop elaboration
-//! (`ElabLaws`) is their premise.
+//! The laws of a crate with each body optimised. The functions here run nothing; their contracts are the laws. What they ask of a
+//! crate's types, that of each program has (`bodies_are_tupled`).
 ghost use Rattle.std.specs.Prelude.{◌≡◌, ◌<◌, ℕ, true, List, length};
 ghost use Rattle.bit_rows.specs.Rows.{stands};
 ghost use Rattle.mir_syntax.specs.declared.types.FnId.{FnId};
@@ -9,7 +9,8 @@ ghost use Rattle.mir_syntax.specs.declared.body.Callee.TheVariants.{Local};
 ghost use Rattle.mir_syntax.specs.Tree.{trees_of};
 ghost use Rattle.mir_syntax.specs.Table.{IsTable};
 ghost use Rattle.mir_syntax.specs.Ids.{BodyInTable};
-ghost use Rattle.mir_syntax.specs.Crate.{TypedBody, Crate, body_of};
+ghost use Rattle.mir_syntax.specs.declared.program.Program.{Program as AnyProgram};
+ghost use Rattle.mir_syntax.specs.Crate.{TypedBody, Crate, crate_of, body_of};
 ghost use Rattle.mir_syntax.specs.Shapes.{Shape};
 ghost use Rattle.mir_semantics.specs.Refines.{Refines};
 ghost use Rattle.mir_rules.specs.Calls.{Calls};
@@ -21,20 +22,20 @@ ghost use Rattle.inline_pass.specs.Takes.{taken_of};
 ghost use Rattle.query_plan.specs.Queries.{graph, is_large, qualifies, lent, taken, opt};
 ghost use Rattle.query_plan.specs.Source.{IsSource};
 ghost use Rattle.pass_order.specs.OptCrate.{pipeline, opt_crate};
-ghost use Rattle.pass_order.specs.ElabLaws.{ElabLaws};
+ghost use Rattle.pass_order.specs.Tupled.{BodiesTupled};
 ghost use Rattle.pass_order.specs.WithIds.{body_with_ids};
 
 /// A valid crate within the limits is refined by the crate with each body optimised, which is valid.
 pub fn opt_crate_refines()
-    ensures refines { ElabLaws → (C : Crate) → Valid C → Within C → Refines (opt_crate C) C }
-    ensures valid { ElabLaws → (C : Crate) → Valid C → Within C → Valid (opt_crate C) }
+    ensures refines { (C : Crate) → Valid C → Within C → BodiesTupled C → Refines (opt_crate C) C }
+    ensures valid { (C : Crate) → Valid C → Within C → BodiesTupled C → Valid (opt_crate C) }
 {}
 
 /// The queries of a valid crate within the limits can be answered (`plan_is_lawful` of `query_plan`): calls lead to its functions, and no step makes a
 /// call that wasn't there.
 pub fn crate_is_a_source()
     ensures graph { (C : Crate) → Valid C → Within C → IsGraph (graph (pipeline C)) }
-    ensures source { ElabLaws → (C : Crate) → Valid C → Within C → IsSource (pipeline C) }
+    ensures source { (C : Crate) → Valid C → Within C → BodiesTupled C → IsSource (pipeline C) }
 {}
 
 /// The bodies that are taken of those that are lent are the ones that inlining takes.
@@ -51,4 +52,9 @@ pub fn elaboration_adds_no_callee()
 /// there is one with ids.
 pub fn ids_come_back()
     ensures { (types : List Ty) → IsTable types → (b : Body) → BodyInTable types b → body_with_ids (trees_of types) (body_of (trees_of types) b) ≡ b }
+{}
+
+/// In the types of a program's bodies and definitions, what is left of a tuple behind its first part is a tuple.
+pub fn bodies_are_tupled()
+    ensures { (program : AnyProgram) → BodiesTupled (crate_of program) }
 {}

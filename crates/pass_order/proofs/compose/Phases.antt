@@ -19,11 +19,14 @@ use Rattle.cfg_simplify.proofs.refines.Refined as cleaning
 use Rattle.cfg_simplify.proofs.valid.Limits.{simple_blocks_count, simple_locals_count}
 use Rattle.drop_elab.specs.Elaborated.{elaborated}
 use Rattle.drop_elab.proofs.NoDrop.{no_drop, args_stay, locals_stay}
+use Rattle.drop_elab.specs.Tupled.{TypesTupled, FewVariants}
 use Rattle.drop_elab.proofs.Elaborated.{is_elab}
+use Rattle.drop_elab.proofs.InPlace.{refines_crate, valid_where_few}
+use Rattle.drop_elab.proofs.Types.{few_variants}
 use Rattle.query_plan.specs.Queries.{Pipeline, prom, elab, callees_of}
 use Rattle.pass_order.specs.Bodies.{body_at, with_bodies}
 use Rattle.pass_order.specs.OptCrate.{pipeline}
-use Rattle.pass_order.specs.ElabLaws.{ElabLaws}
+use Rattle.pass_order.specs.Tupled.{BodiesTupled}
 use Rattle.pass_order.specs.Fits.{FitsAt}
 use Rattle.pass_order.proofs.Order.{simple_keeps}
 use Rattle.pass_order.proofs.Fits.{as_valid, shapes_fit, fits_again, fits_after}
@@ -104,8 +107,12 @@ module _ (C : Crate) (rules : Valid C) (within : Within C) where
   abbrev pub Elaborates : ℕ → Type 0
   Elaborates f = NoDrops (elab (pipeline C) f)
 
-  module _ (laws : ElabLaws) where
-    module _ (bs : Bodies) (sound : Sound C (with_bodies C bs)) (f : ℕ) (g : TypedFunction) (at : slice_get C.functions f ≡ Some g) (few_blocks : blocks_count (shapes_of C) (bs f) ≤ most_in_body) (few_locals : locals_count (shapes_of C) (bs f) ≤ most_in_body) where
+  -- cleaning keeps the types of locals
+  clean_tupled : (b : TypedBody) → TypesTupled (shapes_of C) b → TypesTupled (shapes_of C) (simple b)
+  clean_tupled b t = record { fields = t.fields; locals = t.locals }
+
+  module _ (tupled : BodiesTupled C) where
+    module _ (bs : Bodies) (sound : Sound C (with_bodies C bs)) (f : ℕ) (g : TypedFunction) (at : slice_get C.functions f ≡ Some g) (few_blocks : blocks_count (shapes_of C) (bs f) ≤ most_in_body) (few_locals : locals_count (shapes_of C) (bs f) ≤ most_in_body) (types : TypesTupled (shapes_of C) (bs f)) where
       abbrev Y : Crate
       Y = with_bodies C bs
 
@@ -121,6 +128,12 @@ module _ (C : Crate) (rules : Valid C) (within : Within C) where
         locals = subst (λ (D : List Shape). locals_count D (bs f) ≤ most_in_body) (sym sound.shapes) few_locals;
       }
 
+      types_there : TypesTupled (shapes_of Y) (bs f)
+      types_there = subst (λ (D : List Shape). TypesTupled D (bs f)) (sym sound.shapes) types
+
+      variants_there : FewVariants (shapes_of Y)
+      variants_there = subst FewVariants (sym sound.shapes) (few_variants C rules within C refl)
+
       abbrev made : TypedBody
       made = elaborated (shapes_of Y) (bs f)
 
@@ -131,10 +144,10 @@ module _ (C : Crate) (rules : Valid C) (within : Within C) where
           ap (take (suc (bs f).args)) more ∙ take-append-le (suc (bs f).args) (bs f).locals others (omega (arith, long))
 
       made_fits : FitsAt Y f own_fn made
-      made_fits = fits_again Y f own_fn (bs f) made (fits C bs sound f g at) (laws.stays_valid Y sound.rules f own_fn there few) (args_stay (shapes_of Y) (bs f) made (is_elab (shapes_of Y) (bs f))) made_start
+      made_fits = fits_again Y f own_fn (bs f) made (fits C bs sound f g at) (valid_where_few Y sound.rules f own_fn there types_there variants_there few made (is_elab (shapes_of Y) (bs f))) (args_stay (shapes_of Y) (bs f) made (is_elab (shapes_of Y) (bs f))) made_start
 
       elab_put : Put C bs sound f g at (elaborated (shapes_of C) (bs f))
-      elab_put = subst (λ (D : List Shape). Put C bs sound f g at (elaborated D (bs f))) sound.shapes (put C bs sound f g at made made_fits (laws.refines Y sound.rules f own_fn there few))
+      elab_put = subst (λ (D : List Shape). Put C bs sound f g at (elaborated D (bs f))) sound.shapes (put C bs sound f g at made made_fits (refines_crate Y sound.rules f own_fn there types_there variants_there made (is_elab (shapes_of Y) (bs f))))
 
     elab_step : (bs : Bodies) (f : ℕ) → f < length C.functions → true ≡ true → Mixed (Sound C) Elaborates C (prom P) (elab P) (λ g. true) bs → bs f ≡ prom P f → Sound C (with_bodies C bs) → Step (Sound C) Elaborates C (prom P) (elab P) (λ g. true) bs f
     elab_step bs f lt a m own sound =
@@ -142,7 +155,9 @@ module _ (C : Crate) (rules : Valid C) (within : Within C) where
         let c = cleaned.after f lt refl in
         let few_blocks = subst (λ (b : TypedBody). blocks_count (shapes_of C) b ≤ most_in_body) (sym own) c.blocks in
         let few_locals = subst (λ (b : TypedBody). locals_count (shapes_of C) b ≤ most_in_body) (sym own) c.locals in
-        let p = elab_put bs sound f g at few_blocks few_locals in
+        let read : TypesTupled (shapes_of C) (body_at C f) = subst (TypesTupled (shapes_of C)) (sym (own_body C f g at)) (tupled f g at) in
+        let types : TypesTupled (shapes_of C) (bs f) = subst (TypesTupled (shapes_of C)) (sym own) (clean_tupled (body_at C f) read) in
+        let p = elab_put bs sound f g at few_blocks few_locals types in
         record {
           fits = subst (λ (b : TypedBody). Sound C (with_bodies C (upd bs f (elaborated (shapes_of C) b)))) own p.stays;
           refines = subst (λ (b : TypedBody). Refines (with_bodies C (upd bs f (elaborated (shapes_of C) b))) (with_bodies C bs)) own p.refines;

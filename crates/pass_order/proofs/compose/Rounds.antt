@@ -13,13 +13,13 @@ use Rattle.call_graph.proofs.Falls.{weight_falls, asked_below, weight_few}
 use Rattle.query_plan.specs.Queries.{Pipeline, prom, elab, graph, opt}
 use Rattle.pass_order.specs.Bodies.{with_bodies}
 use Rattle.pass_order.specs.OptCrate.{pipeline, opt_crate}
-use Rattle.pass_order.specs.ElabLaws.{ElabLaws}
+use Rattle.pass_order.specs.Tupled.{BodiesTupled}
 use Rattle.pass_order.proofs.compose.Bodies.{Bodies, same_bodies, own_bodies}
 use Rattle.pass_order.proofs.compose.Replace.{Mixed, Step, all_replaced}
 use Rattle.pass_order.proofs.compose.Phases.{cleaned, elaborates}
 use Rattle.pass_order.proofs.compose.Inlined.{Bare, free_all, graph_is, Optimises, put_bare, put_refines, put_optimises}
 
-module _ (laws : ElabLaws) (C : Crate) (rules : Valid C) (within : Within C) where
+module _ (C : Crate) (rules : Valid C) (within : Within C) (tupled : BodiesTupled C) where
   abbrev S : Pipeline TypedBody
   S = pipeline C
 
@@ -101,7 +101,7 @@ module _ (laws : ElabLaws) (C : Crate) (rules : Valid C) (within : Within C) whe
 
   rounds : (r : ℕ) → Round r
   rounds zero =
-      let e = elaborates C rules within laws in
+      let e = elaborates C rules within tupled in
       let same : with_bodies C (elab S) ≡ with_bodies C (light zero) = same_bodies C (elab S) (light zero) (λ f h. sym (is_heavy zero f (omega arith))) in
       let bare : Bare C (with_bodies C (elab S)) = record { stays = e.fits; free = free_all C (elab S) (λ f low. e.after f low refl) } in
       record {
@@ -132,4 +132,4 @@ module _ (laws : ElabLaws) (C : Crate) (rules : Valid C) (within : Within C) whe
       let last = subst (λ c. Refines c (with_bodies C (elab S))) all_light (rounds top).refines in
       let first = subst (Refines (with_bodies C (prom S))) (own_bodies C) (cleaned C rules within).refines in
       refines_trans (with_bodies C (opt S)) (with_bodies C (elab S)) C last
-      (refines_trans (with_bodies C (elab S)) (with_bodies C (prom S)) C (elaborates C rules within laws).refines first)
+      (refines_trans (with_bodies C (elab S)) (with_bodies C (prom S)) C (elaborates C rules within tupled).refines first)

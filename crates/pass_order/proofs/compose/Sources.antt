@@ -13,7 +13,7 @@ use Rattle.drop_elab.proofs.Elaborated.{is_elab}
 use Rattle.inline_pass.proofs.Terms.{spliced_calls}
 use Rattle.query_plan.specs.Queries.{Pipeline, prom, elab, callees_of, taken, inlined, optimised, opt}
 use Rattle.pass_order.specs.OptCrate.{pipeline}
-use Rattle.pass_order.specs.ElabLaws.{ElabLaws}
+use Rattle.pass_order.specs.Tupled.{BodiesTupled}
 use Rattle.query_plan.proofs.Outs.{opt_is}
 use Rattle.query_plan.specs.Source.{IsSource}
 use Rattle.query_plan.proofs.Members.{once_is}
@@ -23,7 +23,7 @@ use Rattle.pass_order.proofs.elab.Laid.{elab_calls}
 use Rattle.pass_order.proofs.compose.Inlined.{graph_is}
 use Rattle.pass_order.proofs.compose.Rounds.{optimises}
 
-module _ (laws : ElabLaws) (C : Crate) (rules : Valid C) (within : Within C) where
+module _ (C : Crate) (rules : Valid C) (within : Within C) (tupled : BodiesTupled C) where
   abbrev S : Pipeline TypedBody
   S = pipeline C
 
@@ -39,14 +39,14 @@ module _ (laws : ElabLaws) (C : Crate) (rules : Valid C) (within : Within C) whe
   inlined_calls : (f g : ℕ) → f < length C.functions → stands g (callees (shapes_of C) (inlined S (opt S) f)) ≡ true
       → (stands g (callees (shapes_of C) (elab S f)) ≡ true) ⊎ ((h : ℕ) × (c : TypedBody) × (taken S (opt S) f h ≡ Some c) × (stands g (callees (shapes_of C) c) ≡ true))
   unfolding inlined
-  inlined_calls f g lt h = elim (spliced_calls (taken S (opt S) f) (elab S f) (Local (record { 0 = g })) (listed_calls (shapes_of C) (inlined S (opt S) f) g (optimises laws C rules within f lt).between h)) [
+  inlined_calls f g lt h = elim (spliced_calls (taken S (opt S) f) (elab S f) (Local (record { 0 = g })) (listed_calls (shapes_of C) (inlined S (opt S) f) g (optimises C rules within tupled f lt).between h)) [
     | inl k ↦ inl (calls_listed (shapes_of C) (elab S f) g k)
     | inr k ↦ inr (k.0, k.1, k.2, calls_listed (shapes_of C) k.1 g k.3)
   ]
 
   rest_calls : (f g : ℕ) → f < length C.functions → stands g (callees (shapes_of C) (optimised S (opt S) f)) ≡ true → stands g (callees (shapes_of C) (inlined S (opt S) f)) ≡ true
   rest_calls f g lt h =
-      let o = optimises laws C rules within f lt in
+      let o = optimises C rules within tupled f lt in
       let none = subst NoDrops (opt_is S (graph_is C rules within) f lt) o.none in
       calls_listed (shapes_of C) (inlined S (opt S) f) g (o.calls (Local (record { 0 = g })) (listed_calls (shapes_of C) (optimised S (opt S) f) g none h))
 

@@ -1,5 +1,5 @@
 -- The destructors that a plan calls.
-use Rattle.std.proofs.Common.{◌≡◌, ◌⊎◌, inl, inr, refl, sym, ap, ◌∙◌, subst, ℕ, zero, suc, Bool, true, false, ◌&&◌, List, [], ◌∷◌, ◌++◌, map, length, Option, Some, None, slice_get, arith}
+use Rattle.std.proofs.Common.{◌≡◌, ◌⊎◌, inl, inr, refl, subst, ℕ, zero, suc, Bool, true, false, List, [], ◌∷◌, ◌++◌, map, length, Option, Some, None, slice_get}
 use Rattle.std.specs.Prelude.{if◌then◌else◌, option_to_list, is_some}
 use Rattle.std.specs.List.{flat_map}
 use Rattle.bit_rows.specs.Rows.{stands}
@@ -14,7 +14,7 @@ use Rattle.mir_rules.specs.Weights.{under, units_from, one_unit, units_of_parts,
 use Rattle.liveness.proofs.Growing.{Each}
 use Rattle.move_paths.specs.Effects.{in_local, units_of_locals, units_of_body, is_under}
 use Rattle.call_graph.specs.Callees.{destructors_by, destructors_of, destructors_def, destructors_in, dropped_in}
-use Rattle.call_graph.proofs.Once.{bool_tells, stands_cases, stands_first, stands_append, stands_left, stands_right}
+use Rattle.call_graph.proofs.Once.{stands_cases, stands_first, stands_append, stands_left, stands_right}
 use Rattle.mir_syntax.specs.Shapes.{whole_place_ty}
 use Rattle.drop_elab.specs.Plan.{Plan, done, destroy, choose, arm, guarded, clear, part, glue_from, arms_of, chosen, glue_inside, glue_shape, glue_of, glue_def, glue}
 use Rattle.drop_elab.specs.Elab.{Status, dead, static, conditional, Flagged, with_flags, cleared, typed_glue, guarded_by, plan_unit, plan_drop}

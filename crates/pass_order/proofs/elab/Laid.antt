@@ -1,9 +1,7 @@
 -- The elaborated body calls only what the body calls or may run by a drop.
-use Rattle.std.proofs.Common.{◌≡◌, ◌⊎◌, inl, inr, refl, sym, ap, ◌∙◌, subst, ℕ, zero, suc, ◌+◌, Bool, true, false, List, [], ◌∷◌, ◌++◌, length, Some, slice_get, arith}
+use Rattle.std.proofs.Common.{◌≡◌, refl, sym, ap, ◌∙◌, subst, ℕ, zero, suc, ◌+◌, Bool, true, false, List, [], ◌∷◌, ◌++◌, length, Some, slice_get, arith}
 use Rattle.std.specs.List.{flat_map}
 use Rattle.bit_rows.specs.Rows.{stands}
-use Rattle.mir_syntax.specs.declared.body.Callee.{Callee}
-use Rattle.mir_syntax.specs.declared.body.Callee.TheVariants.{Local}
 use Rattle.mir_syntax.specs.declared.body.Place.{Place}
 use Rattle.mir_syntax.specs.declared.body.Term.{Term}
 use Rattle.mir_syntax.specs.declared.body.Term.TheVariants.{Goto, Switch, Return, Unreachable, Drop, Call, Assert}

@@ -5,4 +5,4 @@ pub returns-clause-refines : goal.returns-clause-refines
 returns-clause-refines c = opt_refines
 
 pub returns-clause-valid : goal.returns-clause-valid
-returns-clause-valid c laws C rules within = (opt_bare laws C rules within).stays.rules
+returns-clause-valid c C rules within tupled = (opt_bare C rules within tupled).stays.rules
