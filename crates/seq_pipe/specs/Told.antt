@@ -10,7 +10,7 @@ use Rattle.mir_syntax.specs.Tree.{Tree, ref_mut, at_id, trees_of, Stands}
 use Rattle.mir_syntax.specs.Crate.{TypedBody, body_of}
 use Rattle.drop_elab.specs.Types.{HasBool, HasIsize}
 use Rattle.call_graph.specs.Graph.{IsComponents, component_in}
-use Rattle.query_plan.specs.Queries.{Pipeline, graph, callees_of, is_large, qualifies}
+use Rattle.query_plan.specs.Queries.{Pipeline, graph, prom, callees_of, qualifies}
 use Rattle.pass_order.specs.Bodies.{no_body}
 use Rattle.seq_pipe.specs.declared.facts.Traits.{Traits}
 use Rattle.seq_pipe.specs.declared.facts.Facts.{Facts}
@@ -29,7 +29,7 @@ pub record IsTold (P : Pipeline TypedBody) (facts : Facts) : Type 0 where
   pub traits_count : length facts.traits ≡ P.functions
   pub components_count : length facts.components ≡ P.functions
   pub callees : (f : ℕ) (list : List FnId) → slice_get facts.callees f ≡ Some list → map fn_number list ≡ callees_of P f
-  pub large : (f : ℕ) (t : Traits) → slice_get facts.traits f ≡ Some t → t.large ≡ is_large P f
+  pub cost : (f : ℕ) (t : Traits) → slice_get facts.traits f ≡ Some t → t.cost ≡ P.cost (prom P f)
   pub qualifies : (f : ℕ) (t : Traits) → slice_get facts.traits f ≡ Some t → t.qualifies ≡ qualifies P f
   pub components : IsComponents (graph P) (component_in facts.components)
 

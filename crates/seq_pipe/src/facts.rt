@@ -7,8 +7,8 @@ use mir_syntax::{FlatBody, FnId, List};
 pub(crate) struct Traits {
     /// The body as it was read has no call, no drop, no assert and no cycle of blocks.
     pub qualifies: bool,
-    /// The cleaned body costs so much that less is inlined into it.
-    pub large: bool,
+    /// What the cleaned body costs.
+    pub cost: u64,
 }
 
 /// What is known of functions before the first of them is optimised.

@@ -18,7 +18,7 @@ pub(crate) struct Lent<'a> {
 
 impl CalleeBodies for Lent<'_> {
     fn body(&self, g: FnId) -> Option<&FlatBody> {
-        if g.0 < self.marks.bits() && self.marks.get(0, g.0) {
+        if self.marks.has(0, g.0) {
             Some(&self.done[g.0 as usize].body)
         } else {
             None
@@ -43,7 +43,7 @@ pub(crate) fn ask_all(
     let nobody = List::new(alloc);
     loop {
         match asking.part() {
-            Part::Cost => asking.given_large(program, f, traits[f.0 as usize].large),
+            Part::Cost => asking.given_cost(program, f, traits[f.0 as usize].cost),
             Part::Reach(g) => {
                 asking.given_reach(program, f, g, facts.components.same(&f, &g));
             }

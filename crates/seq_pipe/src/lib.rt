@@ -6,4 +6,7 @@
 #![tactic(auto)]
 
 mod facts;
+mod lent;
+mod optimise;
 mod order;
+mod prepared;

@@ -5,16 +5,13 @@ ghost use Rattle.mir_syntax.specs.Ids.{IdsInTable, BodyInTable};
 ghost use Rattle.mir_syntax.specs.Tree.{trees_of};
 ghost use Rattle.mir_syntax.specs.Crate.{TypedFunction, crate_of, body_of};
 ghost use Rattle.mir_syntax.specs.Shapes.{shapes_of};
-ghost use Rattle.mir_rules.specs.Valid.{Elaborable};
 ghost use Rattle.call_graph.specs.Callees.{callees as callees_in};
 ghost use Rattle.call_graph.specs.Cost.{cost as cost_in};
 ghost use Rattle.call_graph.specs.Qualif.{qualifies as qualifies_in};
 ghost use Rattle.cfg_simplify.specs.Simple.{simple as cleaned};
 ghost use Rattle.drop_elab.specs.Elaborated.{elaborated};
 ghost use Rattle.drop_elab.specs.Types.{HasBool, HasIsize};
-ghost use Rattle.query_plan.specs.Queries.{large_above};
 ghost use Rattle.pass_order.specs.Fits.{FitsAt};
-ghost use Rattle.std.specs.Bool.{nat_lt};
 
 use crate::facts::Traits;
 use call_graph::{callees, cost, qualif};
@@ -22,9 +19,6 @@ use cfg_simplify::simple;
 use drop_elab::elab;
 use mir_syntax::{Body, FnId, List, OutOfMemory, Program};
 use std::alloc::Global;
-
-/// A function that costs more is large.
-const LARGE_ABOVE: u64 = 2000;
 
 /// A body that was cleaned and has its drops elaborated, whom the cleaned body calls, and what is told of it.
 #[derive(Drop)]
@@ -55,16 +49,16 @@ pub(crate) fn prepare(
     ensures in_table { IfOk result (λ made. BodyInTable program.now.types made.body) }
     ensures callees { IfOk result (λ made. map fn_number made.callees ≡ callees_in (shapes_of (crate_of program.now)) (cleaned (body_of (trees_of program.now.types) body))) }
     ensures qualifies { IfOk result (λ made. made.traits.qualifies ≡ qualifies_in body) }
-    ensures large { IfOk result (λ made. made.traits.large ≡ nat_lt large_above (cost_in (cleaned (body_of (trees_of program.now.types) body)))) }
+    ensures cost { IfOk result (λ made. made.traits.cost ≡ cost_in (cleaned (body_of (trees_of program.now.types) body))) }
 {
     let qualifies = qualif(alloc, &body)?;
     let cleaned = simple(alloc, program, body)?;
     let callees = callees(alloc, program, &cleaned)?;
-    let large = cost(&cleaned) > LARGE_ABOVE;
+    let cost = cost(&cleaned);
     let body = elab(alloc, program, cleaned)?;
     Ok(Prepared {
         body,
         callees,
-        traits: Traits { qualifies, large },
+        traits: Traits { qualifies, cost },
     })
 }
