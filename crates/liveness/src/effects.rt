@@ -63,16 +63,19 @@ pub(crate) fn filled_row(alloc: Global, body: &Body, block: &Block) -> Result<Bi
     Ok(row)
 }
 
-/// Of each block with more statements than a row has words, the row of the locals that it fills. So no edge makes such a block be gone over
-/// again, and the rows take less memory than the statements.
+/// So many statements are soon gone over.
+const FEW: usize = 16;
+
+/// Of each block with many statements, more than a row has words, the row of the locals that it fills. So no edge makes such a block be gone
+/// over again, and the rows take less memory than the statements.
 pub(crate) fn long_kills(alloc: Global, body: &Body) -> Result<List<Option<BitRows>>, OutOfMemory>
     requires few_locals { length body.now.locals < 2 ^ 30 }
     ensures { IfOk result (λ kills. AreKills body.now kills) }
 {
-    let words = body.locals.len() / 64;
+    let few = body.locals.len() / 64 + FEW;
     let mut kills = List::with_capacity(alloc, body.blocks.len())?;
     for block in body.blocks.as_slice() {
-        let row = if block.stmts.len() > words {
+        let row = if block.stmts.len() > few {
             Some(filled_row(alloc, body, block)?)
         } else {
             None
