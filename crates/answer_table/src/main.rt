@@ -10,8 +10,8 @@
 //! texts with two faults: the other one is of greater code and on the same line, or of lesser code and further on. For each limit there is a text
 //! that just keeps it, one that passes it by one, and one that passes two limits. What is done, and words, follow. Then there are runs of
 //! functions for each statement, terminator and kind of drop, for each cause of a run that has no meaning, and for the least and greatest numbers;
-//! each is run to its end and up to some step before it. Last, functions are dumped at each stage that is there, with the words and texts that are
-//! refused. `stdout` has the answers.
+//! each is run to its end and up to some step before it. Then functions are dumped at each stage that is there, with the words and texts that are
+//! refused. Last, crates are made from numbers, over no text and over one that is refused. `stdout` has the answers.
 #![tactic(auto)]
 
 use mir_syntax::List;

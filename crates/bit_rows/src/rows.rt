@@ -52,6 +52,10 @@ fn zeros(alloc: Global, count: usize) -> Result<Vec<u64>, OutOfMemory>
 
 impl BitRows {
     /// So many rows of so many bits, all false.
+    ///
+    /// # Errors
+    ///
+    /// `OutOfMemory`.
     pub fn new(alloc: Global, rows: u32, bits: u32) -> Result<BitRows, OutOfMemory>
         ensures { IfOk result (λ made. made ≡ replicate rows (replicate bits false)) }
     {

@@ -1,13 +1,22 @@
 pub mod Sums
-mod Once
-mod Reached
-mod Falls
+pub mod Once
+pub mod Reached
+pub mod Falls
 mod PathOrder
 mod Bits
-mod Components
+pub mod Told
 mod Opened
 mod Entering
 mod Listed
-mod Ended
+pub mod Tests
 mod Rows
-mod Inside
+pub mod Inside
+pub mod Rising
+pub mod Entered
+pub mod Joining
+pub mod AllSet
+pub mod Leaving
+pub mod Stepped
+pub mod Searched
+pub mod Begun
+pub mod Turning

@@ -112,6 +112,24 @@ pub record IsComponents (G : Graph) (component : ℕ → ℕ) : Type 0 where
   pub earlier : (f g : ℕ) → f < G.functions → stands g (G.callees f) ≡ true → component g ≤ component f
   pub both : (f g : ℕ) → f < G.functions → g < G.functions → component f ≡ component g → Reaches G f g
 
+-- ---- graphs by lists, in which a number tells of each item which node it is
+
+-- what a node leads to
+abbrev pub listed : {A : Type 0} → (A → ℕ) → List (List A) → ℕ → List ℕ
+listed number lists f = map number (get_or lists f [])
+
+-- a graph that has these lists
+pub record HasLists {A : Type 0} (number : A → ℕ) (G : Graph) (lists : List (List A)) : Type 0 where
+  pub nodes : G.functions ≡ length lists
+  pub listed : (f : ℕ) → f < length lists → G.callees f ≡ listed number lists f
+
+-- each list has nodes of the graph
+abbrev pub StaysInside : {A : Type 0} → (A → ℕ) → List (List A) → Type 0
+StaysInside number lists = (f g : ℕ) → stands g (listed number lists f) ≡ true → g < length lists
+
+abbrev pub component_in : List ℕ → ℕ → ℕ
+component_in numbers f = get_or numbers f 0
+
 -- of a function g that f reaches by some call: whether f asks for it
 abbrev pub asks_by : Graph → (ℕ → ℕ) → ℕ → ℕ → Bool
 asks_by G component f g = G.below f g || not (component f == component g)

@@ -4,4 +4,4 @@ pub mod Qualif
 pub mod Graph
 pub mod Reaching
 pub mod Walk
-pub mod Ending
+pub mod Search

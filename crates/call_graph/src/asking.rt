@@ -2,9 +2,10 @@
 ghost use Rattle.std.specs.Prelude.{◌≡◌, ◌≤◌, ◌<◌, ℕ, Bool, List as ListOf, length, true, false};
 ghost use Rattle.bit_rows.specs.Rows.{row_at, stands};
 ghost use Rattle.mir_syntax.specs.Crate.{Crate, crate_of};
-ghost use Rattle.call_graph.specs.Graph.{Graph, IsGraph, IsComponents, graph_of, reach as reach_of, some_reaches, asks as asks_for, asks_by, weight, path_below};
+ghost use Rattle.call_graph.specs.Graph.{Graph, IsGraph, IsComponents, component_in, graph_of, reach as reach_of, some_reaches, asks as asks_for, asks_by, weight, path_below};
 ghost use Rattle.call_graph.specs.Reaching.{rows_of};
 
+use crate::components::Components;
 use crate::paths::below;
 use crate::reach::Reach;
 use mir_syntax::{FnId, Program};
@@ -21,6 +22,19 @@ pub fn asks(program: &Program, f: FnId, g: FnId, reach: &Reach) -> bool
         → result ≡ asks_for (graph_of (crate_of program.now) callees) f.0 g.0 }
 {
     below(program, f, g) || !reach.has(f)
+}
+
+/// The same, told by the components of the call graph, so that nobody has to search anew for each function.
+pub fn asks_by_components(program: &Program, f: FnId, g: FnId, components: &Components) -> bool
+    requires first { f.0 < length program.now.functions }
+    requires second { g.0 < length program.now.functions }
+    requires same_functions { length components.now ≡ length program.now.functions }
+    ensures { (callees : ℕ → ListOf ℕ) → IsGraph (graph_of (crate_of program.now) callees)
+        → IsComponents (graph_of (crate_of program.now) callees) (component_in components.now)
+        → some_reaches (graph_of (crate_of program.now) callees) (callees f.0) g.0 ≡ true
+        → result ≡ asks_for (graph_of (crate_of program.now) callees) f.0 g.0 }
+{
+    below(program, f, g) || !components.same(&f, &g)
 }
 
 /// Paths are in order, so a crate has a call graph as soon as each call leads to one of its functions.

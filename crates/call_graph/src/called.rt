@@ -134,6 +134,10 @@ fn add_called(
 }
 
 /// The functions that a body calls, and the destructors that its drops may run: each once, in the order in which they first come.
+///
+/// # Errors
+///
+/// `OutOfMemory`.
 pub fn callees(alloc: Global, program: &Program, body: &Body) -> Result<List<FnId>, OutOfMemory>
     requires knows { KnowsDrops program.now }
     requires ids { IdsInTable program.now }

@@ -1,9 +1,9 @@
-ghost use Rattle.std.specs.Prelude.{◌≡◌, ◌+◌, ◌-◌, ◌^◌, List, min, sum_by};
+ghost use Rattle.std.specs.Prelude.{◌≡◌, ◌+◌, ◌-◌, ◌^◌, List, map, min};
 ghost use Rattle.mir_syntax.specs.Tree.{Tree};
-ghost use Rattle.mir_syntax.specs.Crate.{body_of, block_of, stmt_of};
+ghost use Rattle.mir_syntax.specs.Crate.{body_of, stmt_of};
 ghost use Rattle.call_graph.specs.Cost as of;
 
-use mir_syntax::{Block, Body, Stmt, Term};
+use mir_syntax::{Body, FlatBody, Stmt, Term};
 
 fn stmt_cost(stmt: &Stmt) -> u64
     ensures { (trees : List Tree) → result ≡ of.stmt_cost (stmt_of trees stmt.now) }
@@ -30,14 +30,14 @@ fn term_cost(term: &Term) -> u64
     }
 }
 
-fn block_cost(block: &Block) -> u64
-    ensures { (trees : List Tree) → result ≡ min (of.block_cost (block_of trees block.now)) (2 ^ 64 - 1) }
+fn block_cost(stmts: &[Stmt], term: &Term) -> u64
+    ensures { (trees : List Tree) → result ≡ min (of.block_cost (record { stmts = map (stmt_of trees) stmts.now; term = term.now })) (2 ^ 64 - 1) }
 {
     let mut total = 0u64;
-    for stmt in block.stmts.as_slice() {
+    for stmt in stmts {
         total = total.saturating_add(stmt_cost(stmt));
     }
-    total.saturating_add(term_cost(&block.term))
+    total.saturating_add(term_cost(term))
 }
 
 /// What a body costs: 5 for each statement that isn't one of storage, 5 for each terminator and 25 more for each call; `u64::MAX` where
@@ -47,7 +47,18 @@ pub fn cost(body: &Body) -> u64
 {
     let mut total = 0u64;
     for block in body.blocks.as_slice() {
-        total = total.saturating_add(block_cost(block));
+        total = total.saturating_add(block_cost(block.stmts.as_slice(), &block.term));
+    }
+    total
+}
+
+/// The same for a body in one table.
+pub fn cost_flat(body: &FlatBody) -> u64
+    ensures { (trees : List Tree) → result ≡ of.cost (body_of trees body.now) }
+{
+    let mut total = 0u64;
+    for block in 0..body.blocks() {
+        total = total.saturating_add(block_cost(body.stmts(block), body.term(block)));
     }
     total
 }

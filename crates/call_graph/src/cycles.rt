@@ -1,12 +1,14 @@
 //! Bodies that may be inlined more freely.
-ghost use Rattle.std.specs.Prelude.{◌≡◌, ◌<◌, ◌^◌, Bool, map, length, get_or, true, false, not, IfOk};
-ghost use Rattle.std.specs.List.{list_all};
-ghost use Rattle.mir_syntax.specs.Parts.{targets, arm_block};
+ghost use Rattle.std.specs.Prelude.{◌≡◌, ◌<◌, ◌^◌, map, length, IfOk};
+ghost use Rattle.std.specs.List.{All, list_all, list_any, range_with_len};
 ghost use Rattle.mir_cfg.specs.Paths.{block_term, terms_of, Closed};
+ghost use Rattle.call_graph.specs.Graph.{StaysInside};
 ghost use Rattle.call_graph.specs.Qualif as of;
-ghost use Rattle.call_graph.specs.Ending.{is_ended, IsEnding, Looked, Swept};
+ghost use Rattle.call_graph.specs.Search.{is_with, turns};
 
-use mir_syntax::{Arm, Block, Body, OutOfMemory, Term};
+use crate::components::Components;
+use mir_cfg::preds;
+use mir_syntax::{Block, Body, List, OutOfMemory, Term};
 use std::alloc::Global;
 
 fn is_plain(term: &Term) -> bool
@@ -34,102 +36,58 @@ fn all_plain(blocks: &[Block]) -> bool
     true
 }
 
-fn has_ended(ended: &[bool], block: u32) -> bool
-    ensures { result ≡ is_ended ended.now block }
+/// Whether one of the blocks that go to a block is in its component.
+fn turns_at(components: &Components, block: u32, sources: &[u32]) -> bool
+    requires block { block < length components.now }
+    requires sources { All (λ a. a < length components.now) sources.now }
+    ensures { result ≡ list_any (is_with components.now block) sources.now }
 {
-    match ended.get(block as usize) {
-        Some(mark) => *mark,
-        None => false,
-    }
-}
-
-fn arms_end(ended: &[bool], arms: &[Arm]) -> bool
-    ensures { result ≡ list_all (is_ended ended.now) (map arm_block arms.now) }
-{
-    for arm in arms {
-        if !has_ended(ended, arm.block) {
-            return false;
+    for source in sources {
+        if components.same(source, &block) {
+            return true;
         }
     }
-    true
+    false
 }
 
-/// Whether all blocks that a terminator goes to are marked.
-fn all_end(ended: &[bool], term: &Term) -> bool
-    ensures { result ≡ list_all (is_ended ended.now) (targets term.now) }
+/// Whether an edge joins two blocks of one component, where the blocks that go to each block are listed.
+fn some_turns(components: &Components, sources: &[List<u32>]) -> bool
+    requires blocks { length components.now ≡ length sources.now }
+    requires few { length sources.now < 2 ^ 32 }
+    requires inside { StaysInside (λ n. n) sources.now }
+    ensures { result ≡ list_any (turns components.now sources.now) (range_with_len 0 (length sources.now)) }
 {
-    match term {
-        Term::Goto(next) => has_ended(ended, *next),
-        Term::Drop(_, next) => has_ended(ended, *next),
-        Term::Call(_, _, _, next) => has_ended(ended, *next),
-        Term::Assert(_, _, _, _, next) => has_ended(ended, *next),
-        Term::Switch(_, arms, other) => {
-            arms_end(ended, arms.as_slice()) && has_ended(ended, *other)
-        }
-        Term::Return => true,
-        Term::Unreachable => true,
-    }
-}
-
-/// Marks a block, if it goes to marked ones only, and tells whether it wasn't marked before.
-fn look_at(blocks: &[Block], ended: &mut Vec<bool>, block: usize) -> bool
-    requires ending { IsEnding (map block_term blocks.now) ended.old.items }
-    requires within { block < length blocks.now }
-    ensures { Looked (map block_term blocks.now) ended.old.items ended.new.items block result }
-{
-    if ended[block] {
-        return false;
-    }
-    if !all_end(ended.as_slice(), &blocks[block].term) {
-        return false;
-    }
-    ended[block] = true;
-    true
-}
-
-/// Looks at all blocks, the last one first, and tells whether one was marked.
-fn sweep(blocks: &[Block], ended: &mut Vec<bool>) -> bool
-    requires { IsEnding (map block_term blocks.now) ended.old.items }
-    ensures { Swept (map block_term blocks.now) ended.old.items ended.new.items result }
-{
-    let mut changed = false;
-    for done in 0..blocks.len() {
-        let block = blocks.len() - 1 - done;
-        let marked = look_at(blocks, ended, block);
-        changed = changed || marked;
-    }
-    changed
-}
-
-fn all_marked(marks: &[bool]) -> bool
-    ensures { result ≡ list_all (λ b. b) marks.now }
-{
-    for mark in marks {
-        if !*mark {
-            return false;
+    for block in 0..sources.len() as u32 {
+        if turns_at(components, block, sources[block as usize].as_slice()) {
+            return true;
         }
     }
-    true
+    false
 }
 
-/// Whether blocks go round: some path comes by a block twice.
-fn has_cycle(alloc: Global, blocks: &[Block]) -> Result<bool, OutOfMemory>
-    requires closed { Closed (map block_term blocks.now) }
-    ensures { IfOk result (λ found. found ≡ of.has_cycle (map block_term blocks.now)) }
+/// Whether blocks go round: some path comes by a block twice. Then an edge joins two blocks of one component.
+fn has_cycle(alloc: Global, body: &Body) -> Result<bool, OutOfMemory>
+    requires closed { Closed (terms_of body.now) }
+    requires few { length body.now.blocks < 2 ^ 30 }
+    ensures { IfOk result (λ found. found ≡ of.has_cycle (terms_of body.now)) }
 {
-    let mut ended = vec![in alloc; false; blocks.len()]?;
-    while sweep(blocks, &mut ended) {}
-    Ok(!all_marked(ended.as_slice()))
+    let sources = preds(alloc, body)?;
+    let components = Components::new(alloc, sources.as_slice())?;
+    Ok(some_turns(&components, sources.as_slice()))
 }
 
 /// Whether a body has no call, no drop, no assert and no cycle of blocks; also blocks count that no path reaches.
+///
+/// # Errors
+///
+/// `OutOfMemory`.
 pub fn qualif(alloc: Global, body: &Body) -> Result<bool, OutOfMemory>
-    requires { Closed (terms_of body.now) }
+    requires closed { Closed (terms_of body.now) }
+    requires few { length body.now.blocks < 2 ^ 30 }
     ensures { IfOk result (λ yes. yes ≡ of.qualifies body.now) }
 {
-    let blocks = body.blocks.as_slice();
-    if !all_plain(blocks) {
+    if !all_plain(body.blocks.as_slice()) {
         return Ok(false);
     }
-    Ok(!has_cycle(alloc, blocks)?)
+    Ok(!has_cycle(alloc, body)?)
 }

@@ -45,6 +45,10 @@ fn lowered(was_known: bool, g: u32, low: u32) -> u32
 
 impl Reach {
     /// Only the function itself is known.
+    ///
+    /// # Errors
+    ///
+    /// `OutOfMemory`.
     pub fn new(alloc: Global, functions: u32, g: FnId) -> Result<Reach, OutOfMemory>
         requires { g.0 < functions }
         ensures { IfOk result (λ reach. (G : Graph) → G.functions ≡ functions → reach ≡ rows_of G g.0 []) }

@@ -32,9 +32,12 @@ pub use laws::{simple_refines, simple_stays_valid};
 use mir_syntax::{Body, OutOfMemory, Program};
 use std::alloc::Global;
 
-/// The body after the cleaning of its control flow: what rustc's `SimplifyCfg` does, reduced to a rule of this project's own. It takes a
-/// body that has bb0 and whose edges lead to its blocks, as those of every valid body do. `Err` is for want of memory alone, and the
-/// body is spent then.
+/// The body after the cleaning of its control flow: what rustc's `SimplifyCfg` does, reduced to a rule of this project's own. It takes a body
+/// that has bb0 and whose edges lead to its blocks, as those of every valid body do.
+///
+/// # Errors
+///
+/// `OutOfMemory`; the body is spent then.
 pub fn simple(alloc: Global, program: &Program, body: Body) -> Result<Body, OutOfMemory>
     requires some_block { 0 < length body.blocks }
     requires closed { Closed (terms_of body) }

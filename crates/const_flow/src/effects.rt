@@ -233,6 +233,10 @@ impl Walk {
     }
 
     /// Goes over a statement. After an `Err` what is known is as it was before.
+    ///
+    /// # Errors
+    ///
+    /// `OutOfMemory`.
     #[tactic(auto, unfolding(crate::specs::Facts::after_stmt))]
     pub fn pass(&mut self, alloc: Global, sight: Sight<'_>, stmt: &Stmt) -> Result<(), OutOfMemory>
         requires { length self.old.cells ≡ length sight.paths.now }
@@ -255,6 +259,10 @@ impl Walk {
     }
 
     /// Goes over statements. After an `Err` what is known is that before one of them.
+    ///
+    /// # Errors
+    ///
+    /// `OutOfMemory`.
     pub fn pass_all(
         &mut self,
         alloc: Global,

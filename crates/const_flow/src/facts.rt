@@ -38,6 +38,10 @@ impl<'a> Model for Facts<'a> {
 impl Facts<'_> {
     /// Makes of what is known before a statement what is known after it. In a block that is unreached nothing changes. After an `Err` the facts
     /// are as they were.
+    ///
+    /// # Errors
+    ///
+    /// `OutOfMemory`.
     pub fn pass(&mut self, program: &Program, body: &Body, stmt: &Stmt) -> Result<(), OutOfMemory>
         ensures ok { OnOk result (self.new ≡ option_map (after_stmt (text_of program.now body.now) (stmt_of (trees_of program.now.types) stmt.now)) self.old) }
         ensures err { OnErr result (self.new ≡ self.old) }

@@ -99,6 +99,10 @@ fn solved(
 }
 
 /// What is known at the start of each block, as the least solution of the flow of constants.
+///
+/// # Errors
+///
+/// `OutOfMemory`.
 pub fn consts(alloc: Global, program: &Program, body: &Body) -> Result<ConstRows, OutOfMemory>
     requires knows { KnowsDrops program.now }
     requires ids { IdsInTable program.now }
@@ -149,6 +153,10 @@ impl ConstRows {
     }
 
     /// What is known at the start of a block, to be carried over its statements.
+    ///
+    /// # Errors
+    ///
+    /// `OutOfMemory`.
     pub fn facts(&self, alloc: Global, block: u32) -> Result<Facts<'_>, OutOfMemory>
         ensures { IfOk result (λ facts. facts ≡ get_or self.now block None) }
     {

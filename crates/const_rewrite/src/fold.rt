@@ -98,8 +98,11 @@ fn folded_blocks(
     Ok(List::from_vec(blocks))
 }
 
-/// The body in which what is known to be a constant is one, and in which a branch that is known is a jump. `Err` is for want of memory alone,
-/// and the body is spent then.
+/// The body in which what is known to be a constant is one, and in which a branch that is known is a jump.
+///
+/// # Errors
+///
+/// `OutOfMemory`; the body is spent then.
 pub fn folded(alloc: Global, program: &Program, body: Body) -> Result<Body, OutOfMemory>
     requires knows { KnowsDrops program.now }
     requires ids { IdsInTable program.now }

@@ -36,8 +36,11 @@ fn pruned_once(alloc: Global, program: &Program, body: Body) -> Result<Body, Out
     })
 }
 
-/// The body without the assignments whose value nobody reads, after three rounds. `Err` is for want of memory alone, and the body is spent
-/// then.
+/// The body without the assignments whose value nobody reads, after three rounds.
+///
+/// # Errors
+///
+/// `OutOfMemory`; the body is spent then.
 pub fn pruned(alloc: Global, program: &Program, body: Body) -> Result<Body, OutOfMemory>
     requires knows { KnowsDrops program.now }
     requires ids { IdsInTable program.now }

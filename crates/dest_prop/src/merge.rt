@@ -137,8 +137,11 @@ fn blocks_at_home(
     Ok(List::from_vec(blocks))
 }
 
-/// The body in which locals that are copied into one another, and are never written while another of them is live, share one local. `Err` is
-/// for want of memory alone, and the body is spent then.
+/// The body in which locals that are copied into one another, and are never written while another of them is live, share one local.
+///
+/// # Errors
+///
+/// `OutOfMemory`; the body is spent then.
 pub fn merged(alloc: Global, program: &Program, body: Body) -> Result<Body, OutOfMemory>
     requires knows { KnowsDrops program.now }
     requires ids { IdsInTable program.now }

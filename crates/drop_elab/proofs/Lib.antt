@@ -2,3 +2,8 @@ pub mod Rows
 pub mod RowPaths
 pub mod OneResult
 pub mod NoDrop
+pub mod Elaborated
+pub mod refines
+pub mod valid
+pub mod Types
+pub mod InPlace

@@ -99,7 +99,7 @@ module _ (D : List Shape) (body : TypedBody) (inits : Inits) where
   unfolding elab_by
   same_args = refl
 
-  more_locals : (others : List Tree) × ((elab_by D body inits).locals ≡ body.locals ++ others)
+  pub more_locals : (others : List Tree) × ((elab_by D body inits).locals ≡ body.locals ++ others)
   unfolding elab_by us wanted laid
   more_locals = (flag_locals wanted ++ laid.new_locals, refl)
 

@@ -5,10 +5,14 @@
 //! local, is true. What a drop becomes is first a plan (`specs/Plan.antt`), in which the glue of a type stands: the destructor, then what is
 //! inside, of an enum the variant that is active. `lay` writes a plan out, with its new locals and blocks in their order.
 //!
-//! The laws (`laws`): a body has one elaborated body at most; it holds no `drop`, and has the body's locals with others behind them. The
-//! code is still to come, and so are the laws that the elaborated body is valid and refines the body.
+//! The laws (`laws`): a body has one elaborated body, which is computed (`elaborated` of `specs/Elaborated.antt`); it holds no `drop`, and has the
+//! locals of the body with others behind them; it is valid in the body's place, and the crate with it there refines the crate with the body. The
+//! code is still to come.
 #![tactic(auto)]
 
 mod laws;
 
-pub use laws::{elab_is_one, elab_leaves_no_drop};
+pub use laws::{
+    elab_is_counted, elab_is_one, elab_leaves_no_drop, elab_refines, elab_stays_valid,
+    elaboration_is_decided, enums_have_few_variants, types_are_tupled,
+};

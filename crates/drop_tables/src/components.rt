@@ -127,6 +127,10 @@ fn steps_of(holders: &[List<u32>]) -> usize {
 
 /// A number for each definition: those that hold one another have one number, and no number falls from a definition to those that it holds.
 /// (No clause says so: `suspects` looks the numbers over.)
+///
+/// # Errors
+///
+/// `OutOfMemory`.
 pub fn components(alloc: Global, holders: &[List<u32>]) -> Result<Vec<u32>, OutOfMemory> {
     let mut walk = Walk {
         holders,

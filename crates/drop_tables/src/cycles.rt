@@ -108,6 +108,10 @@ fn only(alloc: Global, count: usize, at: usize) -> Result<List<bool>, OutOfMemor
 
 impl Circles {
     /// What is to be asked, in time linear in the types that fields have.
+    ///
+    /// # Errors
+    ///
+    /// `OutOfMemory`.
     pub fn new(alloc: Global, program: &Program) -> Result<Circles, OutOfMemory>
         requires ids { IdsInTable program.now }
         ensures { IfOk result (λ circles. IsAsked (shapes_of (crate_of program.now)) circles.holders circles.suspects) }
@@ -133,6 +137,10 @@ impl Circles {
     }
 
     /// Whether a definition holds itself by value. It takes no time where it isn't in a circle, and else that of a walk over all definitions.
+    ///
+    /// # Errors
+    ///
+    /// `OutOfMemory`.
     pub fn holds_itself(
         &self,
         alloc: Global,

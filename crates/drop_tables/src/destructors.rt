@@ -33,6 +33,10 @@ fn note(found: &mut Vec<Option<FnId>>, def: Option<u32>, function: FnId)
 }
 
 /// For each definition the function that is its destructor: the first with the header of one.
+///
+/// # Errors
+///
+/// `OutOfMemory`.
 pub fn destructors(alloc: Global, program: &Program) -> Result<List<Option<FnId>>, OutOfMemory>
     requires ids { IdsInTable program.now }
     requires few { length program.now.functions < 2 ^ 32 }
@@ -50,6 +54,10 @@ pub fn destructors(alloc: Global, program: &Program) -> Result<List<Option<FnId>
 }
 
 /// Whether there is a destructor, one by one.
+///
+/// # Errors
+///
+/// `OutOfMemory`.
 pub fn have_destructor(
     alloc: Global,
     destructors: &[Option<FnId>],
@@ -64,6 +72,10 @@ pub fn have_destructor(
 }
 
 /// So many equal marks.
+///
+/// # Errors
+///
+/// `OutOfMemory`.
 pub fn marks_of(alloc: Global, count: usize, mark: bool) -> Result<List<bool>, OutOfMemory>
     ensures { IfOk result (λ marks. marks ≡ replicate count mark) }
 {

@@ -25,6 +25,10 @@ pub struct DefDrops {
 }
 
 /// The destructor of each definition, and which definitions need drop.
+///
+/// # Errors
+///
+/// `OutOfMemory`.
 pub fn def_drops(alloc: Global, program: &Program) -> Result<DefDrops, OutOfMemory>
     requires ids { IdsInTable program.now }
     requires few { length program.now.functions < 2 ^ 32 }
@@ -46,6 +50,10 @@ pub fn def_drops(alloc: Global, program: &Program) -> Result<DefDrops, OutOfMemo
 }
 
 /// Which types need drop, and which function is the destructor of each definition: what the program is to keep (`Program::keep_drops`).
+///
+/// # Errors
+///
+/// `OutOfMemory`.
 pub fn drop_facts(alloc: Global, program: &Program) -> Result<DropFacts, OutOfMemory>
     requires ids { IdsInTable program.now }
     requires few { length program.now.functions < 2 ^ 32 }

@@ -75,6 +75,10 @@ fn empty_lists(alloc: Global, count: usize) -> Result<Vec<List<u32>>, OutOfMemor
 }
 
 /// Of each definition those that hold it by value with no other definition between.
+///
+/// # Errors
+///
+/// `OutOfMemory`.
 pub fn holders_of(alloc: Global, program: &Program) -> Result<List<List<u32>>, OutOfMemory>
     requires ids { IdsInTable program.now }
     ensures holders { IfOk result (λ lists. AreHolders (shapes_of (crate_of program.now)) lists) }

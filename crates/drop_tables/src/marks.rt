@@ -74,6 +74,10 @@ fn type_holds(program: &Program, id: TyId, known: &[bool], marks: &[bool]) -> bo
 }
 
 /// For each type of the table, whether it is a marked definition or holds one by value.
+///
+/// # Errors
+///
+/// `OutOfMemory`.
 pub fn types_holding(
     alloc: Global,
     program: &Program,
@@ -95,6 +99,10 @@ fn either(a: bool, b: bool) -> bool
 }
 
 /// For each definition, whether it has a mark of its own or holds a marked definition by value.
+///
+/// # Errors
+///
+/// `OutOfMemory`.
 pub fn defs_holding(
     alloc: Global,
     program: &Program,

@@ -60,6 +60,10 @@ fn marked(alloc: Global, marks: &[bool]) -> Result<Vec<u32>, OutOfMemory>
 
 /// The marks after so many rounds, in each of which the definitions that hold a marked one by value are marked. A round looks only at those
 /// that were marked in the round before, so each definition is looked at once.
+///
+/// # Errors
+///
+/// `OutOfMemory`.
 pub fn spread(
     alloc: Global,
     holders: &[List<u32>],

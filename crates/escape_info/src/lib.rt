@@ -79,6 +79,10 @@ fn place_needs_drop(program: &Program, body: &Body, place: &Place) -> bool
 }
 
 /// One row, in which the borrowed locals are marked.
+///
+/// # Errors
+///
+/// `OutOfMemory`.
 pub fn address_taken(alloc: Global, program: &Program, body: &Body) -> Result<BitRows, OutOfMemory>
     requires knows { KnowsDrops program.now }
     requires ids { IdsInTable program.now }

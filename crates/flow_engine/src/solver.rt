@@ -77,6 +77,10 @@ fn send_all<A: Analysis>(
 
 /// The least solution of the problem: the least list in which each block's fact is at least its `start` and, for each edge into it, at
 /// least `flow` of that edge and of the fact where the edge begins.
+///
+/// # Errors
+///
+/// `OutOfMemory`.
 pub fn solve<A: Analysis>(
     alloc: Global,
     analysis: &A,

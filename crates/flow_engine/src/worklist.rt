@@ -42,6 +42,10 @@ pub(crate) struct Worklist {
 
 impl Worklist {
     /// All of so many blocks wait; the last is the next.
+    ///
+    /// # Errors
+    ///
+    /// `OutOfMemory`.
     pub fn all(alloc: Global, blocks: u32) -> Result<Worklist, OutOfMemory>
         ensures { IfOk result (λ made. made.waits.items ≡ replicate blocks true) }
     {

@@ -8,7 +8,7 @@ use dead_store::pruned;
 use escape_info::address_taken;
 use liveness::live;
 use mir_cfg::preds;
-use mir_syntax::{Body, List, OutOfMemory, Program, Stmt};
+use mir_syntax::{Body, FlatBody, List, OutOfMemory, Program, Stmt};
 use std::alloc::Global;
 use trim_locals::trimmed;
 
@@ -26,6 +26,10 @@ fn set_bits(alloc: Global, rows: &BitRows, row: u32, bits: u32) -> Result<Vec<u3
 }
 
 /// Of each block the locals that are live at its start. None at all where the body isn't ready.
+///
+/// # Errors
+///
+/// `OutOfMemory`.
 pub fn live_starts(
     alloc: Global,
     program: &Program,
@@ -47,6 +51,10 @@ pub fn live_starts(
 }
 
 /// The borrowed locals. None where the body isn't ready.
+///
+/// # Errors
+///
+/// `OutOfMemory`.
 pub fn borrowed_locals(
     alloc: Global,
     program: &Program,
@@ -63,6 +71,10 @@ pub fn borrowed_locals(
 }
 
 /// Of each block the blocks that go to it. None at all where the body isn't ready.
+///
+/// # Errors
+///
+/// `OutOfMemory`.
 pub fn sources(
     alloc: Global,
     program: &Program,
@@ -75,6 +87,10 @@ pub fn sources(
 }
 
 /// The pruned body, if the body is ready.
+///
+/// # Errors
+///
+/// `OutOfMemory`.
 pub fn pruned_if_ready(
     alloc: Global,
     program: &Program,
@@ -90,6 +106,10 @@ pub fn pruned_if_ready(
 }
 
 /// The trimmed body, if the body is ready.
+///
+/// # Errors
+///
+/// `OutOfMemory`.
 pub fn trimmed_if_ready(
     alloc: Global,
     program: &Program,
@@ -102,6 +122,10 @@ pub fn trimmed_if_ready(
 }
 
 /// The locals that the assignments of a block write, in their order.
+///
+/// # Errors
+///
+/// `OutOfMemory`.
 pub fn written(alloc: Global, body: &Body, block: usize) -> Result<Vec<u32>, OutOfMemory> {
     let mut locals = Vec::new(alloc);
     let Some(block) = body.blocks.get(block) else {
@@ -113,4 +137,25 @@ pub fn written(alloc: Global, body: &Body, block: usize) -> Result<Vec<u32>, Out
         }
     }
     Ok(locals)
+}
+
+/// The body in one table, if the body is ready.
+pub fn flat_if_ready(
+    alloc: Global,
+    program: &Program,
+    body: Body,
+) -> Result<Option<FlatBody>, OutOfMemory> {
+    if !is_ready(program, &body) {
+        return Ok(None);
+    }
+    Ok(Some(FlatBody::of(alloc, body)?))
+}
+
+/// How many statements each block of a body in one table has.
+pub fn stmt_counts(alloc: Global, flat: &FlatBody) -> Result<Vec<usize>, OutOfMemory> {
+    let mut counts = Vec::new(alloc);
+    for block in 0..flat.blocks() {
+        counts.push(flat.stmts(block).len())?;
+    }
+    Ok(counts)
 }

@@ -17,6 +17,10 @@ pub struct Made {
 }
 
 /// A program without items, whose table has `u8`, and which knows that nothing needs drop.
+///
+/// # Errors
+///
+/// `OutOfMemory`.
 pub fn program(alloc: Global) -> Result<Made, OutOfMemory>
     ensures knows { IfOk result (λ made. KnowsDrops made.program) }
     ensures ids { IfOk result (λ made. IdsInTable made.program) }
@@ -122,6 +126,10 @@ fn terminator(alloc: Global, end: End) -> Result<Term, OutOfMemory> {
 }
 
 /// A block of these statements and this end.
+///
+/// # Errors
+///
+/// `OutOfMemory`.
 pub fn block(alloc: Global, lines: &[Line], end: End) -> Result<Block, OutOfMemory> {
     let mut stmts = List::new(alloc);
     for line in lines {
@@ -134,6 +142,10 @@ pub fn block(alloc: Global, lines: &[Line], end: End) -> Result<Block, OutOfMemo
 }
 
 /// A body of so many locals of a type, and of these blocks.
+///
+/// # Errors
+///
+/// `OutOfMemory`.
 pub fn body(
     alloc: Global,
     ty: TyId,
@@ -152,6 +164,10 @@ pub fn body(
 }
 
 /// So many blocks that each go to the next one, and a last one that returns a copy of the second local.
+///
+/// # Errors
+///
+/// `OutOfMemory`.
 pub fn chain(alloc: Global, ty: TyId, count: u32) -> Result<Body, OutOfMemory> {
     let mut blocks = List::new(alloc);
     for next in 0..count {

@@ -1,6 +1,6 @@
 use crate::{
-    End, Line, body, borrowed_locals, chain, live_starts, program, pruned_if_ready, sources,
-    trimmed_if_ready, written,
+    End, Line, body, borrowed_locals, chain, flat_if_ready, live_starts, program, pruned_if_ready,
+    sources, stmt_counts, trimmed_if_ready, written,
 };
 use mir_syntax::OutOfMemory;
 use std::alloc::Global;
@@ -156,5 +156,33 @@ fn edges_and_loans_are_told(rt: HostRuntime) -> Result<(), Fail> {
     let lending = body(alloc, made.byte, 6, plan.as_slice())?;
     let lent = borrowed_locals(alloc, &made.program, &lending)?;
     assert_eq!(rt; lent.as_slice(), [1, 2, 3].as_slice());
+    Ok(())
+}
+
+#[test]
+fn a_body_in_one_table_has_the_same_blocks(rt: HostRuntime) -> Result<(), Fail> {
+    let alloc = rt.alloc();
+    let made = program(alloc)?;
+    let (none, choice, answer) = ([].as_slice(), [Line::Constant(2)], [Line::Constant(0)]);
+    let plan = [
+        (none, End::Choose(1, 2, 1)),
+        (choice.as_slice(), End::Goto(3)),
+        (choice.as_slice(), End::Goto(3)),
+        (none, End::Choose(2, 5, 4)),
+        (answer.as_slice(), End::Goto(6)),
+        (answer.as_slice(), End::Goto(6)),
+        (none, End::Return),
+    ];
+    let body = body(alloc, made.byte, 3, plan.as_slice())?;
+    let Some(flat) = flat_if_ready(alloc, &made.program, body)? else {
+        assert!(rt; false);
+        return Ok(());
+    };
+    let copy = flat.copy(alloc)?;
+    let counts = stmt_counts(alloc, &copy)?;
+    assert_eq!(rt; counts.as_slice(), [0, 1, 1, 0, 1, 1, 0].as_slice());
+    let back = copy.to_body(alloc)?;
+    assert_eq!(rt; back.blocks.len(), 7);
+    assert_eq!(rt; written(alloc, &back, 4)?.as_slice(), [0].as_slice());
     Ok(())
 }

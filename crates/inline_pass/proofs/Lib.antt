@@ -7,3 +7,4 @@ pub mod equal
 pub mod refines
 pub mod valid
 pub mod Whole
+mod Asked

@@ -16,7 +16,8 @@ ghost use Rattle.inline_pass.specs.Code.{shifted, bare_kept, bare_handed, bare_b
 
 use crate::copies::{Behind, local_place};
 use mir_syntax::{
-    Block, Body, List, Operand, OutOfMemory, Place, Program, Proj, Rvalue, Stmt, Term, TyId,
+    Block, Body, FlatBody, List, Operand, OutOfMemory, Place, Program, Proj, Rvalue, Stmt, Term,
+    TyId,
 };
 use std::alloc::Global;
 use std::mem;
@@ -91,15 +92,17 @@ fn hand(
 fn copy_blocks(
     alloc: Global,
     blocks: &mut List<Block>,
-    callee: &[Block],
+    callee: &FlatBody,
     behind: Behind,
     dest: &Place,
     next: u32,
 ) -> Result<(), OutOfMemory>
-    ensures { OnOk result (blocks.new ≡ blocks.old ++ map (bare_block behind.locals behind.blocks dest.now next) callee.now) }
+    ensures { OnOk result (blocks.new ≡ blocks.old ++ map (bare_block behind.locals behind.blocks dest.now next) callee.now.blocks) }
 {
-    for block in callee {
-        blocks.push(behind.block(alloc, block, dest, next)?)?;
+    for block in 0..callee.blocks() {
+        let stmts = callee.stmts(block);
+        let term = callee.term(block);
+        blocks.push(behind.block(alloc, stmts, term, dest, next)?)?;
     }
     Ok(())
 }
@@ -162,7 +165,7 @@ fn put_body(
     body: &mut Body,
     block: u32,
     call: Call,
-    callee: &Body,
+    callee: &FlatBody,
     kept: TyId,
 ) -> Result<(), OutOfMemory>
     requires block { block < length body.old.blocks }
@@ -176,9 +179,9 @@ fn put_body(
         locals: body.locals.len() as u32,
         blocks: body.blocks.len() as u32,
     };
-    let local = behind.locals + callee.locals.len() as u32;
+    let local = behind.locals + callee.locals().len() as u32;
     let next = call.next;
-    push_locals(&mut body.locals, callee.locals.as_slice(), &call.dest, kept)?;
+    push_locals(&mut body.locals, callee.locals(), &call.dest, kept)?;
     let dest = enter_at(
         alloc,
         body.blocks.as_mut_slice(),
@@ -187,23 +190,16 @@ fn put_body(
         local,
         call,
     )?;
-    copy_blocks(
-        alloc,
-        &mut body.blocks,
-        callee.blocks.as_slice(),
-        behind,
-        &dest,
-        next,
-    )
+    copy_blocks(alloc, &mut body.blocks, callee, behind, &dest, next)
 }
 
 /// The type of a local that keeps a call's destination: a reference to the callee's result.
-fn kept_ty(program: &Program, callee: &Body) -> TyId
+fn kept_ty(program: &Program, callee: &FlatBody) -> TyId
     requires { Inlinable program.now callee.now }
     ensures stands { (id : TyId) × (slice_get callee.now.locals 0 ≡ Some id) × (at_id (trees_of program.now.types) result ≡ ref_mut (at_id (trees_of program.now.types) id)) }
     ensures in_table { result.0 < length program.now.types }
 {
-    program.ref_mut(callee.locals.as_slice()[0])
+    program.ref_mut(callee.locals()[0])
 }
 
 /// The same for the blocks of a body.
@@ -220,7 +216,7 @@ pub(crate) fn replace(
     program: &Program,
     body: &mut Body,
     block: u32,
-    callee: &Body,
+    callee: &FlatBody,
 ) -> Result<(), OutOfMemory>
     requires inlinable { Inlinable program.now callee.now }
     requires block { block < length body.old.blocks }

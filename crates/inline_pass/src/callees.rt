@@ -7,8 +7,8 @@ ghost use Rattle.mir_syntax.specs.Crate.{body_of};
 ghost use Rattle.inline_pass.specs.Takes.{most_cost, takes, taken_in, Inlinable, AllInlinable};
 ghost use Rattle.inline_pass.specs.Code.{taken_at};
 
-use call_graph::cost;
-use mir_syntax::{Block, Body, Callee, FnId, Inline, Program, Term};
+use call_graph::cost_flat;
+use mir_syntax::{Block, Callee, FlatBody, FnId, Inline, Program, Term};
 
 /// The bodies that may be inlined into a function.
 pub trait CalleeBodies {
@@ -19,7 +19,7 @@ pub trait CalleeBodies {
     ghost qualifies: { Self → ℕ → Bool };
 
     /// The body of a function that is asked for.
-    fn body(&self, g: FnId) -> Option<&Body>
+    fn body(&self, g: FnId) -> Option<&FlatBody>
         ensures { option_copied result ≡ lent self.now g.0 };
 
     /// Whether a function whose body is lent is plain enough to be inlined more freely.
@@ -40,16 +40,16 @@ fn most_cost(large: bool, free: bool) -> u64
     }
 }
 
-/// Whether a body is inlined that is lent for a function with this attribute.
-fn takes<C: CalleeBodies>(large: bool, inline: Inline, bodies: &C, g: FnId, body: &Body) -> bool
-    requires { C.lent bodies.now g.0 ≢ None }
-    ensures { (trees : ListOf Tree) → result ≡ takes large inline (C.qualifies bodies.now g.0) (body_of trees body.now) }
+/// Whether a body is inlined into a caller that is large or isn't, by the attribute of its function and by whether that one qualifies to be
+/// inlined more freely.
+pub fn takes(large: bool, inline: Inline, qualifies: bool, body: &FlatBody) -> bool
+    ensures { (trees : ListOf Tree) → result ≡ takes large inline qualifies (body_of trees body.now) }
 {
     match inline {
         Inline::Always => true,
         Inline::Never => false,
-        Inline::Hint => cost(body) <= most_cost(large, true),
-        Inline::Plain => cost(body) <= most_cost(large, bodies.qualif(g)),
+        Inline::Hint => cost_flat(body) <= most_cost(large, true),
+        Inline::Plain => cost_flat(body) <= most_cost(large, qualifies),
     }
 }
 
@@ -59,13 +59,13 @@ fn taken<'a, C: CalleeBodies>(
     large: bool,
     bodies: &'a C,
     g: FnId,
-) -> Option<&'a Body>
+) -> Option<&'a FlatBody>
     ensures taken { option_map (body_of (trees_of program.now.types)) (option_copied result) ≡ taken_in program.now large (C.lent bodies.now) (C.qualifies bodies.now) g.0 }
     ensures lent { IfSome result (λ body. Some body.now ≡ C.lent bodies.now g.0) }
 {
     let function = program.functions.get(g.0 as usize)?;
     let body = bodies.body(g)?;
-    if takes(large, function.inline, bodies, g, body) {
+    if takes(large, function.inline, bodies.qualif(g), body) {
         Some(body)
     } else {
         None
@@ -78,7 +78,7 @@ fn callee_of<'a, C: CalleeBodies>(
     large: bool,
     bodies: &'a C,
     term: &Term,
-) -> Option<&'a Body>
+) -> Option<&'a FlatBody>
     requires { AllInlinable program.now (C.lent bodies.now) }
     ensures taken { option_map (body_of (trees_of program.now.types)) (option_copied result) ≡ taken_at (taken_in program.now large (C.lent bodies.now) (C.qualifies bodies.now)) term.now }
     ensures inlinable { IfSome result (λ body. Inlinable program.now body.now) }
@@ -96,7 +96,7 @@ pub(crate) fn callee_at<'a, C: CalleeBodies>(
     bodies: &'a C,
     blocks: &[Block],
     block: u32,
-) -> Option<&'a Body>
+) -> Option<&'a FlatBody>
     requires lent { AllInlinable program.now (C.lent bodies.now) }
     requires block { block < length blocks.now }
     ensures taken { (k : AnyBlock) → slice_get blocks.now block ≡ Some k → option_map (body_of (trees_of program.now.types)) (option_copied result) ≡ taken_at (taken_in program.now large (C.lent bodies.now) (C.qualifies bodies.now)) k.term }

@@ -177,21 +177,26 @@ impl Behind {
         Ok(())
     }
 
-    /// The copy of a block, given the destination of the call and the block to which it returns.
+    /// The copy of a block of these statements and this terminator, given the destination of the call and the block to which it returns.
+    ///
+    /// # Errors
+    ///
+    /// `OutOfMemory`.
     pub fn block(
         self,
         alloc: Global,
-        block: &Block,
+        stmts: &[Stmt],
+        term: &Term,
         dest: &Place,
         next: u32,
     ) -> Result<Block, OutOfMemory>
-        ensures { IfOk result (λ copy. copy ≡ bare_block self.locals self.blocks dest.now next block.now) }
+        ensures { IfOk result (λ copy. copy ≡ bare_block self.locals self.blocks dest.now next (record { stmts = stmts.now; term = term.now })) }
     {
-        let mut stmts = self.stmts(alloc, block.stmts.as_slice())?;
-        self.put_result(alloc, &mut stmts, &block.term, dest)?;
+        let mut copies = self.stmts(alloc, stmts)?;
+        self.put_result(alloc, &mut copies, term, dest)?;
         Ok(Block {
-            stmts,
-            term: self.term(alloc, &block.term, next)?,
+            stmts: copies,
+            term: self.term(alloc, term, next)?,
         })
     }
 }

@@ -78,8 +78,11 @@ fn inline_from<C: CalleeBodies>(
 }
 
 /// The body in which calls are replaced by the bodies of the functions that they call, as far as these are taken and there is room: its own
-/// calls, those of the bodies that are inlined for them, and those of the bodies inlined for these. `Err` is for want of memory alone, and the
-/// body is spent then.
+/// calls, those of the bodies that are inlined for them, and those of the bodies inlined for these.
+///
+/// # Errors
+///
+/// `OutOfMemory`; the body is spent then.
 pub fn spliced<C: CalleeBodies>(
     alloc: Global,
     program: &Program,

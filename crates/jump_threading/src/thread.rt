@@ -84,8 +84,11 @@ pub(crate) fn with_copies(alloc: Global, body: Body, edges: &[Edge]) -> Result<B
     Ok(body)
 }
 
-/// The body in which a jump to a block whose switch is known goes to a copy of that block, and the copy on to the switch's target. `Err` is for
-/// want of memory alone, and the body is spent then.
+/// The body in which a jump to a block whose switch is known goes to a copy of that block, and the copy on to the switch's target.
+///
+/// # Errors
+///
+/// `OutOfMemory`; the body is spent then.
 pub fn threaded(alloc: Global, program: &Program, body: Body) -> Result<Body, OutOfMemory>
     requires knows { KnowsDrops program.now }
     requires ids { IdsInTable program.now }

@@ -130,6 +130,10 @@ fn starts(alloc: Global, program: &Program, body: &Body) -> Result<BitRows, OutO
 }
 
 /// The live locals of a body whose edges lead to its blocks.
+///
+/// # Errors
+///
+/// `OutOfMemory`.
 pub fn live(alloc: Global, program: &Program, body: &Body) -> Result<LiveRows, OutOfMemory>
     requires knows { KnowsDrops program.now }
     requires ids { IdsInTable program.now }

@@ -102,6 +102,10 @@ fn read_stmts(
 }
 
 /// A block, with the faults of its statements and its terminator noted on their lines.
+///
+/// # Errors
+///
+/// `OutOfMemory`.
 pub fn read_block(
     alloc: Global,
     scope: &Scope,

@@ -120,6 +120,10 @@ fn variant_by_last(
 }
 
 /// What a path builds: a struct, or else a variant of the enum before its last name.
+///
+/// # Errors
+///
+/// `OutOfMemory`.
 pub fn built_by(
     scope: &Scope,
     program: &Program,

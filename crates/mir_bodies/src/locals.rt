@@ -52,6 +52,10 @@ impl Locals {
     }
 
     /// Puts a declaration at the end. Where there is no memory the locals are spent.
+    ///
+    /// # Errors
+    ///
+    /// `OutOfMemory`.
     pub fn with(self, local: u32, ty: TyId) -> Result<Locals, OutOfMemory>
         ensures { IfOk result (λ locals. locals ≡ self ++ (local, ty) ∷ []) }
     {

@@ -16,6 +16,10 @@ use mir_tree::{NamedText, OperandText};
 use std::alloc::Global;
 
 /// An operand, with faults noted as for its place.
+///
+/// # Errors
+///
+/// `OutOfMemory`.
 pub fn read_operand(
     alloc: Global,
     scope: &Scope,
@@ -60,6 +64,10 @@ pub fn read_operand(
 }
 
 /// The operands of a list.
+///
+/// # Errors
+///
+/// `OutOfMemory`.
 pub fn read_operands(
     alloc: Global,
     scope: &Scope,
@@ -90,6 +98,10 @@ pub fn read_operands(
 }
 
 /// The operands of a list, without the names that stand before them.
+///
+/// # Errors
+///
+/// `OutOfMemory`.
 pub fn read_named(
     alloc: Global,
     scope: &Scope,

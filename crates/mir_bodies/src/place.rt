@@ -45,6 +45,10 @@ pub fn either(a: bool, b: bool) -> bool
 }
 
 /// The number of the variant with a name.
+///
+/// # Errors
+///
+/// `OutOfMemory`.
 pub fn variant_number(variants: &[Variant], name: &[u8]) -> Result<Option<u32>, OutOfMemory>
     ensures { IfOk result (λ number. number ≡ place_in (map name_of variants.now) name.now) }
 {
@@ -290,6 +294,10 @@ fn step(
 
 /// A place, and whether a field in it is written with another type than the definition's. S14 is noted where its local isn't declared, S13
 /// where a downcast names no variant of the type before it, S12 where the path of a type isn't known.
+///
+/// # Errors
+///
+/// `OutOfMemory`.
 pub fn read_place(
     alloc: Global,
     scope: &Scope,

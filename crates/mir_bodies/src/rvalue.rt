@@ -203,6 +203,10 @@ fn borrow(mutable: bool, place: Place) -> Rvalue
 }
 
 /// An rvalue, with faults noted as for its parts.
+///
+/// # Errors
+///
+/// `OutOfMemory`.
 pub fn read_rvalue(
     alloc: Global,
     scope: &Scope,

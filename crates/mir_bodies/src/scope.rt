@@ -18,6 +18,10 @@ pub struct Labels {
 
 impl Labels {
     /// The labels of these blocks.
+    ///
+    /// # Errors
+    ///
+    /// `OutOfMemory`.
     pub fn new(alloc: Global, blocks: &[BlockText]) -> Result<Labels, OutOfMemory>
         ensures { IfOk result (λ labels. AreLabels labels (map label_of blocks.now)) }
     {

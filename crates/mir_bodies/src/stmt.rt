@@ -56,6 +56,10 @@ fn read_assign(
 }
 
 /// A statement, or none for `nop`; faults are noted as for its parts.
+///
+/// # Errors
+///
+/// `OutOfMemory`.
 pub fn read_stmt(
     alloc: Global,
     scope: &Scope,

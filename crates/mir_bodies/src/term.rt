@@ -195,6 +195,10 @@ fn read_assert(
 }
 
 /// A terminator, with faults noted as for its parts, S11 where a call names no function, and S15 where a block isn't there.
+///
+/// # Errors
+///
+/// `OutOfMemory`.
 pub fn read_term(
     alloc: Global,
     scope: &Scope,

@@ -8,6 +8,10 @@ use smallvec::SmallVec;
 use std::alloc::Global;
 
 /// The blocks that a block goes to, in its terminator's order and one for each edge.
+///
+/// # Errors
+///
+/// `OutOfMemory`.
 pub fn succs(alloc: Global, block: &Block) -> Result<SmallVec<u32, 4, Global>, OutOfMemory>
     ensures { IfOk result (λ list. list.items ≡ targets block.now.term) }
 {
@@ -68,6 +72,10 @@ fn add_edges(lists: &mut Vec<List<u32>>, from: u32, to: &[u32]) -> Result<(), Ou
 }
 
 /// For each block the blocks that go to it, in their order and one for each edge.
+///
+/// # Errors
+///
+/// `OutOfMemory`.
 pub fn preds(alloc: Global, body: &Body) -> Result<List<List<u32>>, OutOfMemory>
     requires closed { Closed (terms_of body.now) }
     requires few { length body.now.blocks < 2 ^ 30 }

@@ -27,6 +27,10 @@ fn find_all(found: &mut BitRows, opened: &mut Vec<u32>, blocks: &[u32]) -> Resul
 }
 
 /// One row, in which the blocks are marked to which a path leads from bb0.
+///
+/// # Errors
+///
+/// `OutOfMemory`.
 pub fn reachable(alloc: Global, body: &Body) -> Result<BitRows, OutOfMemory>
     requires some_block { 0 < length body.now.blocks }
     requires closed { Closed (terms_of body.now) }

@@ -178,6 +178,10 @@ fn push_fields(
 
 /// The flat form of a value of a type: a scalar's integer, a tuple's or struct's fields in order, an enum's variant number and then that
 /// variant's fields. `None` where it is no value of the type.
+///
+/// # Errors
+///
+/// `OutOfMemory`.
 pub fn flat(
     alloc: Global,
     program: &Program,

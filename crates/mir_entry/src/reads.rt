@@ -239,6 +239,10 @@ pub enum Arguments<'a> {
 }
 
 /// The values of arguments, one after the other.
+///
+/// # Errors
+///
+/// `OutOfMemory`.
 pub fn read_arguments<'a>(
     alloc: Global,
     program: &Program,

@@ -49,6 +49,10 @@ impl ReadBlocks {
 }
 
 /// Blocks, with the faults of their parts noted on their lines.
+///
+/// # Errors
+///
+/// `OutOfMemory`.
 pub fn read_blocks(
     alloc: Global,
     scope: &Scope,

@@ -168,6 +168,10 @@ fn note_clash(
 
 /// Notes S10 on the line of each item whose path stands twice: a struct or an enum, or a function, of the same path stands before it, or
 /// an enum with such a variant before a struct, or the other way round.
+///
+/// # Errors
+///
+/// `OutOfMemory`.
 pub fn note_clashes(
     alloc: Global,
     strings: &Names,

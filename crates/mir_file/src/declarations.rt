@@ -63,6 +63,10 @@ fn read_declarations(
 
 /// The locals that a function declares, its arguments first. S12 is noted where a path in a type isn't known, and S14 where a local is declared
 /// again.
+///
+/// # Errors
+///
+/// `OutOfMemory`.
 pub fn read_locals(
     alloc: Global,
     strings: &Names,

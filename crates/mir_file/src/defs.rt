@@ -68,6 +68,10 @@ fn read_def(
 }
 
 /// The structs and enums of a file. S10 is noted where a name stands twice in one of them, and S12 where the path of a type isn't known.
+///
+/// # Errors
+///
+/// `OutOfMemory`.
 pub fn read_defs(
     alloc: Global,
     strings: &Names,

@@ -46,6 +46,10 @@ fn new_draft(alloc: Global) -> Draft
 }
 
 /// Reads all of a file but its functions. Faults of its paths, definitions and outside functions are noted.
+///
+/// # Errors
+///
+/// `OutOfMemory`.
 pub fn read_front(
     alloc: Global,
     strings: &Names,

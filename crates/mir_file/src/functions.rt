@@ -149,6 +149,10 @@ fn read_item(
 }
 
 /// The functions of a file, over a program with its definitions. Their faults are noted on their lines. Each item is let go once it is read.
+///
+/// # Errors
+///
+/// `OutOfMemory`.
 pub fn read_functions(
     alloc: Global,
     strings: &Names,

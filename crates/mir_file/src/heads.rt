@@ -39,6 +39,10 @@ fn first_line(lines: &[u32]) -> u32
 }
 
 /// Reads the head of a function. Its faults are noted: S12 of the types, S14 of the locals, S15 of the blocks' order.
+///
+/// # Errors
+///
+/// `OutOfMemory`.
 pub fn read_head(
     alloc: Global,
     strings: &Names,

@@ -42,6 +42,10 @@ fn set_lines(lines: &mut List<u32>, texts: &[mir_tree::Lined<ArgText>])
 }
 
 /// The line of the first declaration of each of so many locals, from `_0` on; 0 where there is none.
+///
+/// # Errors
+///
+/// `OutOfMemory`.
 pub fn local_lines(alloc: Global, count: usize, function: &FnText) -> Result<List<u32>, OutOfMemory>
     ensures { IfOk result (λ found. found ≡ read_lines.local_lines (map (lined arg_rule) function.now.args.items ++ map (lined arg_rule) function.now.lets) 0 count) }
 {

@@ -44,6 +44,10 @@ fn types_of(
 }
 
 /// The types of the locals of a function from `_0` on, as many as it declares: that of the first declaration, and `()` where there is none.
+///
+/// # Errors
+///
+/// `OutOfMemory`.
 pub fn local_types(
     alloc: Global,
     program: &mut Program,

@@ -64,6 +64,10 @@ fn read_extern(
 }
 
 /// The outside functions of a file. S12 is noted where the path of a type isn't known.
+///
+/// # Errors
+///
+/// `OutOfMemory`.
 pub fn read_outsides(
     alloc: Global,
     strings: &Names,

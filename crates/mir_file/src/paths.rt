@@ -86,6 +86,10 @@ fn with_item(
 }
 
 /// The paths of a file's items.
+///
+/// # Errors
+///
+/// `OutOfMemory`.
 pub fn read_paths(
     alloc: Global,
     strings: &Names,

@@ -78,6 +78,10 @@ fn resolve_items(
 
 /// What the tree of a file names: the program and the lines of its parts, or the first fault of its names. Each derivation that the tree is one
 /// of names the same. The tree is used up: each item is let go once its function is read.
+///
+/// # Errors
+///
+/// `Names` with the first fault of the names (S10 to S15); `OutOfMemory`.
 pub fn resolve_file(alloc: Global, strings: &Names, file: FileText) -> Result<Resolved, Unresolved>
     ensures named { IfOk result (λ read. (items : List LinedItem) → IsTreeOf file items → crate_of read.program ≡ crate_named strings.now (file_of items)) }
     ensures lined { IfOk result (λ read. (items : List LinedItem) → IsTreeOf file items → read.lines ≡ lines_named (names_of strings.now (file_of items)) items) }

@@ -8,6 +8,7 @@ use mir_text::Symbol;
 use mir_tree::{ArgText, Items, Lined};
 use std::alloc::Global;
 
+/// The argument with its line.
 pub fn with_line(line: u32, arg: ArgText) -> Lined<ArgText>
     ensures { result ≡ spec.with_line line arg }
 {
@@ -15,6 +16,10 @@ pub fn with_line(line: u32, arg: ArgText) -> Lined<ArgText>
 }
 
 /// `_local : type`, where the type nests no deeper than `depth`.
+///
+/// # Errors
+///
+/// `Fault` with the first fault, where no such part stands at the front; `OutOfMemory`.
 #[tactic(auto, unfolding(crate::specs::Decls::arg_at))]
 pub fn read_arg_at<'a>(
     alloc: Global,
@@ -70,6 +75,10 @@ impl<'l> ReadItem for ArgReader<'l> {
 }
 
 /// Parses `arg,*` and the parenthesis that closes it, and answers what stands past that.
+///
+/// # Errors
+///
+/// `Fault` with the first fault, where no such part stands at the front; `OutOfMemory`.
 pub fn read_args<'a>(
     alloc: Global,
     lines: &[u32],

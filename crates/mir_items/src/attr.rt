@@ -65,6 +65,10 @@ fn read_attr_end(symbols: &[Symbol]) -> Result<(Inline, &[Symbol]), ParseRefused
 }
 
 /// Parses an attribute, if one comes next.
+///
+/// # Errors
+///
+/// `Fault` with the first fault, where no such part stands at the front.
 #[tactic(auto, unfolding(crate::specs::Attrs::attr))]
 pub fn read_attr(symbols: &[Symbol]) -> Result<(Inline, &[Symbol]), ParseRefused>
     ensures read { Gives (λ f. (f.0, f.1.now)) result (spec.attr symbols.now) }

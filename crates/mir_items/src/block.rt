@@ -54,6 +54,10 @@ fn read_blocks<'a>(
 }
 
 /// Parses the blocks of a function and the brace that closes it, and answers what stands past that.
+///
+/// # Errors
+///
+/// `Fault` with the first fault, where no such part stands at the front; `OutOfMemory`.
 #[tactic(auto, unfolding(crate::specs::Functions::fn_blocks))]
 pub fn read_fn_blocks<'a>(
     alloc: Global,

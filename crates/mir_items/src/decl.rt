@@ -184,6 +184,10 @@ fn read_decl_turn<'a>(
 }
 
 /// Parses declarations, as far as they go: their `let` lines go to the end of a list, and what stands past them is answered.
+///
+/// # Errors
+///
+/// `Fault` with the first fault, where no such part stands at the front; `OutOfMemory`.
 #[cycle(decls)]
 #[tactic(auto, unfolding(crate::specs::Decls::decls_from))]
 pub fn read_decls<'a>(

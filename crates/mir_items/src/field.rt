@@ -86,6 +86,10 @@ pub(crate) fn read_struct_end<'a>(
 }
 
 /// Parses `field,*` and the brace that closes it, and answers what stands past that.
+///
+/// # Errors
+///
+/// `Fault` with the first fault, where no such part stands at the front; `OutOfMemory`.
 pub fn parse_fields<'a>(
     alloc: Global,
     symbols: &'a [Symbol],
@@ -99,6 +103,10 @@ pub fn parse_fields<'a>(
 }
 
 /// Parses what stands behind a struct's path (`;`, `( type,* ) ;` or `{ field,* }`), and answers what stands past that.
+///
+/// # Errors
+///
+/// `Fault` with the first fault, where no such part stands at the front; `OutOfMemory`.
 pub fn parse_struct_end<'a>(
     alloc: Global,
     symbols: &'a [Symbol],

@@ -103,6 +103,10 @@ pub fn parse_item(
 /// Parses a whole file. `lines` are the lines of the symbols, in step with them.
 ///
 /// A fault tells which symbol it is at, and where the innermost item, argument, `let` line, statement or terminator began that is open there.
+///
+/// # Errors
+///
+/// `Fault` with the first fault (S04 to S09), where the symbols are those of no good file; `OutOfMemory`.
 pub fn parse_file(
     alloc: Global,
     symbols: &[Symbol],

@@ -90,6 +90,10 @@ fn read_fn_front<'a>(
 }
 
 /// Parses a function, and answers what stands past it.
+///
+/// # Errors
+///
+/// `Fault` with the first fault, where no such part stands at the front; `OutOfMemory`.
 #[tactic(auto, unfolding(crate::specs::Functions::fn_item))]
 pub fn read_fn<'a>(
     alloc: Global,

@@ -13,6 +13,10 @@ use mir_tree::{ItemText, PathText, TypeText};
 use std::alloc::Global;
 
 /// `fn`
+///
+/// # Errors
+///
+/// `Fault` with the first fault, where no such part stands at the front.
 #[tactic(auto, unfolding(crate::specs::Items::fn_word))]
 pub fn read_fn_word(symbols: &[Symbol]) -> Result<&[Symbol], ParseRefused>
     ensures read { Gives (λ f. (tt, f.now)) result (spec.fn_word symbols.now) }
@@ -25,6 +29,10 @@ pub fn read_fn_word(symbols: &[Symbol]) -> Result<&[Symbol], ParseRefused>
 }
 
 /// A struct past its first word.
+///
+/// # Errors
+///
+/// `Fault` with the first fault, where no such part stands at the front; `OutOfMemory`.
 #[tactic(auto, unfolding(crate::specs::Items::struct_item))]
 pub fn read_struct<'a>(
     alloc: Global,
@@ -39,6 +47,10 @@ pub fn read_struct<'a>(
 }
 
 /// An enum past its first word.
+///
+/// # Errors
+///
+/// `Fault` with the first fault, where no such part stands at the front; `OutOfMemory`.
 #[tactic(auto, unfolding(crate::specs::Items::enum_item))]
 pub fn read_enum<'a>(
     alloc: Global,
@@ -82,6 +94,10 @@ fn read_result_end<'a>(
 }
 
 /// `path (`
+///
+/// # Errors
+///
+/// `Fault` with the first fault, where no such part stands at the front; `OutOfMemory`.
 #[tactic(auto, unfolding(crate::specs::Items::path_open))]
 pub fn read_path_open<'a>(
     alloc: Global,
@@ -96,6 +112,10 @@ pub fn read_path_open<'a>(
 }
 
 /// An outside function past `extern`.
+///
+/// # Errors
+///
+/// `Fault` with the first fault, where no such part stands at the front; `OutOfMemory`.
 #[tactic(auto, unfolding(crate::specs::Items::extern_item))]
 pub fn read_extern<'a>(
     alloc: Global,

@@ -81,6 +81,10 @@ pub(crate) fn read_variants<'a>(
 }
 
 /// Parses `variant,*` and the brace that closes it, and answers what stands past that.
+///
+/// # Errors
+///
+/// `Fault` with the first fault, where no such part stands at the front; `OutOfMemory`.
 pub fn parse_variants<'a>(
     alloc: Global,
     symbols: &'a [Symbol],

@@ -108,6 +108,10 @@ fn read_slash(past: &[u8]) -> Result<(Found, &[u8]), u8>
 }
 
 /// What stands at the front of a text that begins with a byte, and what follows it.
+///
+/// # Errors
+///
+/// The code of the fault, where no piece stands there: 1, 2 or 3, as in `LexFault`.
 #[inline(always)]
 #[tactic(auto, unfolding(crate::specs::Tokens::found_at))]
 pub fn read_found<'a>(bytes: &'a [u8], first: u8, past: &'a [u8]) -> Result<(Found, &'a [u8]), u8>

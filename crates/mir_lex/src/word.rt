@@ -133,6 +133,7 @@ fn word_place(text: &[u8]) -> Option<u8>
     place(&WORDS, 0, text)
 }
 
+/// Whether a name may go on with the byte: a letter, a digit or `_`.
 pub fn is_name_byte(byte: u8) -> bool
     ensures { result ≡ text.is_name_byte byte }
 {

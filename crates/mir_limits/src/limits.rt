@@ -24,6 +24,10 @@ fn functions_line(lines: &Lines) -> Option<u32>
 
 /// What is answered of all that passes a limit: the limit of least number, and of that the first line. `None` exactly where the program, of
 /// which the drops are known, is within the limits.
+///
+/// # Errors
+///
+/// `OutOfMemory`.
 pub fn limit_fault(
     alloc: Global,
     program: &Program,

@@ -18,6 +18,10 @@ use mir_syntax::{Place, Program};
 use std::alloc::Global;
 
 /// Where a call's result goes.
+///
+/// # Errors
+///
+/// `Undefined` where the meaning is undefined; `OutOfMemory`.
 pub fn dest_of(alloc: Global, here: Here<'_>, memory: &Memory, place: &Place) -> Result<Dest, Stop>
     requires formed { IsTrue (path_formed place.now.proj) }
     requires knows { KnowsDrops here.program.now }
@@ -35,6 +39,10 @@ pub fn dest_of(alloc: Global, here: Here<'_>, memory: &Memory, place: &Place) ->
 }
 
 /// Writes a call's result, where its destination is still there.
+///
+/// # Errors
+///
+/// `Undefined` where the meaning is undefined.
 pub fn store(program: &Program, memory: &mut Memory, dest: &Dest, value: Datum) -> Result<(), Stop>
     requires { KnowsDrops program.now }
     ensures { Gives result (sem.store (shapes_in program.now) (memory_of memory.old) (dest_in program.now dest.now) (value_of value)) (λ _. memory_of memory.new) }

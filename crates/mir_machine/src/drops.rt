@@ -26,6 +26,10 @@ use std::alloc::Global;
 use std::mem;
 
 /// A drop begins with the visit of its place.
+///
+/// # Errors
+///
+/// `Undefined` where the meaning is undefined; `OutOfMemory`.
 pub fn begin(
     alloc: Global,
     here: Here<'_>,
@@ -87,6 +91,10 @@ impl Machine {
     }
 
     /// Goes on with the items that are left; where none is, the place becomes blank and the drop is done.
+    ///
+    /// # Errors
+    ///
+    /// `Undefined` where the meaning is undefined; `OutOfMemory`.
     pub fn work_on(
         &mut self,
         alloc: Global,
@@ -170,6 +178,10 @@ impl Machine {
     }
 
     /// A step of the drop of a place.
+    ///
+    /// # Errors
+    ///
+    /// `Undefined` where the meaning is undefined; `OutOfMemory`.
     pub fn drop_step(
         &mut self,
         alloc: Global,
@@ -196,6 +208,10 @@ impl Machine {
     }
 
     /// A destructor has returned: the fields of its place come next, as they are now.
+    ///
+    /// # Errors
+    ///
+    /// `Undefined` where the meaning is undefined; `OutOfMemory`.
     pub fn destroyed(&mut self, alloc: Global, program: &Program) -> Result<(), Stop>
         requires { KnowsDrops program.now }
         ensures goes { Gives result

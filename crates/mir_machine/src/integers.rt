@@ -62,6 +62,10 @@ pub fn flag(holds: bool) -> u128
 }
 
 /// The integers of a message's operands.
+///
+/// # Errors
+///
+/// `Undefined` where the meaning is undefined; `OutOfMemory`.
 pub fn integers(
     alloc: Global,
     here: Here<'_>,

@@ -41,6 +41,10 @@ pub struct Machine {
 
 impl Machine {
     /// A new frame of a function, on top of the one that stood there.
+    ///
+    /// # Errors
+    ///
+    /// `Undefined` where the meaning is undefined; `OutOfMemory`.
     pub fn enter(
         &mut self,
         alloc: Global,

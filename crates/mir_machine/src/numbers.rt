@@ -10,6 +10,10 @@ use mir_syntax::List;
 use std::alloc::Global;
 
 /// The bits of numbers.
+///
+/// # Errors
+///
+/// `Undefined` where the meaning is undefined; `OutOfMemory`.
 pub fn numbers_in(alloc: Global, values: &[Datum]) -> Result<List<u128>, Stop>
     ensures { Gives result (sem.numbers_in (map value_of values.now)) (λ numbers. numbers) }
 {

@@ -36,6 +36,10 @@ fn seen(state: State) -> Result<RunResult, OutOfMemory>
 }
 
 /// A run of so many steps, or of fewer where it stops.
+///
+/// # Errors
+///
+/// `OutOfMemory`.
 pub fn run(
     alloc: Global,
     program: &Program,

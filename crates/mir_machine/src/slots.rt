@@ -44,6 +44,10 @@ fn first(locals: &[TyId]) -> &[TyId]
 }
 
 /// The locals of a new frame: the arguments, and all others blank.
+///
+/// # Errors
+///
+/// `OutOfMemory`.
 pub fn new_slots(
     alloc: Global,
     program: &Program,

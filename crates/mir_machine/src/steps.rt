@@ -97,6 +97,10 @@ fn stepped_as(outcome: &Outcome) -> Stepped
 
 impl State {
     /// The start of a run.
+    ///
+    /// # Errors
+    ///
+    /// `OutOfMemory`.
     pub fn new(
         alloc: Global,
         program: &Program,
@@ -150,6 +154,10 @@ impl State {
 }
 
 /// One step; a run that has stopped or is spent stays as it is.
+///
+/// # Errors
+///
+/// `OutOfMemory`; the run is spent then, and stays so.
 pub fn step(alloc: Global, program: &Program, state: &mut State) -> Result<Stepped, OutOfMemory>
     requires formed { IsTrue (is_formed (crate_of program.now)) }
     requires knows { KnowsDrops program.now }

@@ -344,6 +344,10 @@ impl Machine {
     }
 
     /// One step.
+    ///
+    /// # Errors
+    ///
+    /// `OutOfMemory`; the machine is spent then.
     pub fn advance(&mut self, alloc: Global, program: &Program) -> Result<Outcome, OutOfMemory>
         requires formed { IsTrue (is_formed (crate_of program.now)) }
         requires knows { KnowsDrops program.now }

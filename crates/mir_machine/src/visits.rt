@@ -117,6 +117,10 @@ fn push_def(
 }
 
 /// Puts the visits of the fields of a place in front; of an enum those of the variant that is active.
+///
+/// # Errors
+///
+/// `OutOfMemory`.
 pub fn push_visits(
     alloc: Global,
     program: &Program,

@@ -100,6 +100,10 @@ fn fields_blank(
 }
 
 /// A hole for a scalar, a reference, an enum and a struct with a destructor of its own, else the fields' blanks.
+///
+/// # Errors
+///
+/// `OutOfMemory`.
 pub fn blank(alloc: Global, program: &Program, id: TyId) -> Result<Datum, OutOfMemory>
     requires { KnowsDrops program.now }
     ensures { IfOk result (λ datum. value_of datum ≡ sem.blank (shapes_in program.now) (type_in program.now id)) }
@@ -108,6 +112,10 @@ pub fn blank(alloc: Global, program: &Program, id: TyId) -> Result<Datum, OutOfM
 }
 
 /// The blanks of the fields of a variant.
+///
+/// # Errors
+///
+/// `OutOfMemory`.
 pub fn variant_blank(
     alloc: Global,
     program: &Program,

@@ -30,6 +30,7 @@ pub fn is_whole(datum: &Datum) -> bool
     }
 }
 
+/// Whether no hole stands anywhere in any of them.
 #[cycle(whole)]
 pub fn all_whole(fields: &[Datum]) -> bool
     ensures { result ≡ whole (listed (map value_of fields.now)) }
@@ -42,6 +43,11 @@ pub fn all_whole(fields: &[Datum]) -> bool
     true
 }
 
+/// An equal pointer.
+///
+/// # Errors
+///
+/// `OutOfMemory`.
 pub fn copied_pointer(alloc: Global, pointer: &Pointer) -> Result<Pointer, OutOfMemory>
     ensures { IfOk result (λ copy. addr_of copy ≡ addr_of pointer.now) }
 {
@@ -52,6 +58,11 @@ pub fn copied_pointer(alloc: Global, pointer: &Pointer) -> Result<Pointer, OutOf
     })
 }
 
+/// An equal value.
+///
+/// # Errors
+///
+/// `OutOfMemory`.
 #[cycle(copied)]
 pub fn copied(alloc: Global, datum: &Datum) -> Result<Datum, OutOfMemory>
     ensures { IfOk result (λ copy. value_of copy ≡ value_of datum.now) }
@@ -67,6 +78,11 @@ pub fn copied(alloc: Global, datum: &Datum) -> Result<Datum, OutOfMemory>
     }
 }
 
+/// Equal values, in their order.
+///
+/// # Errors
+///
+/// `OutOfMemory`.
 #[cycle(copied)]
 pub fn all_copied(alloc: Global, fields: &[Datum]) -> Result<List<Datum>, OutOfMemory>
     ensures { IfOk result (λ copy. map value_of copy ≡ map value_of fields.now) }

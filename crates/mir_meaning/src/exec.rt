@@ -138,6 +138,10 @@ fn set_variant(
 }
 
 /// One statement. An assignment evaluates first and resolves its place then.
+///
+/// # Errors
+///
+/// `Undefined` where the meaning is undefined; `OutOfMemory`.
 pub fn exec(alloc: Global, here: Here<'_>, memory: &mut Memory, stmt: &Stmt) -> Result<(), Stop>
     requires formed { IsTrue (stmt_whole stmt.now) }
     requires knows { KnowsDrops here.program.now }

@@ -20,6 +20,7 @@ pub struct Here<'p> {
 }
 
 impl<'p> Here<'p> {
+    /// The type of a place, if it has one.
     pub fn type_of(self, place: &Place) -> Option<TyId>
         requires { IsTrue (path_formed place.now.proj) }
         ensures { option_map (type_in self.entry.program.now) result ≡ sem.type_of (here_of self.entry) place.now }

@@ -54,6 +54,7 @@ fn newest(stores: &[Store], frame: u64) -> Option<usize>
 }
 
 impl Memory {
+    /// A memory without a frame.
     pub fn new(alloc: Global) -> Memory
         ensures { memory_of result ≡ [] }
     {
@@ -103,6 +104,10 @@ impl Memory {
     }
 
     /// A new frame with its locals.
+    ///
+    /// # Errors
+    ///
+    /// `OutOfMemory`.
     pub fn open(&mut self, frame: u64, slots: List<Datum>) -> Result<(), OutOfMemory>
         ensures { OnOk result (memory_of self.new ≡ open_frame (memory_of self.old) frame (map value_of slots)) }
     {

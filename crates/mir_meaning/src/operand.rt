@@ -70,6 +70,10 @@ fn read_move(
 }
 
 /// What an operand gives; a move leaves the blank of the type.
+///
+/// # Errors
+///
+/// `Undefined` where the meaning is undefined; `OutOfMemory`.
 pub fn read(
     alloc: Global,
     here: Here<'_>,
@@ -88,6 +92,10 @@ pub fn read(
 }
 
 /// From left to right, each move taking effect at once.
+///
+/// # Errors
+///
+/// `Undefined` where the meaning is undefined; `OutOfMemory`.
 pub fn read_all(
     alloc: Global,
     here: Here<'_>,
@@ -105,6 +113,7 @@ pub fn read_all(
     Ok(values)
 }
 
+/// The pattern of a scalar; `None` for any other value and for a hole.
 #[tactic(auto, using(crate::proofs::Operands::parts_number))]
 pub fn number_of(datum: &Datum) -> Option<u128>
     ensures { result ≡ number_in (value_of datum.now) }
@@ -118,6 +127,11 @@ pub fn number_of(datum: &Datum) -> Option<u128>
     }
 }
 
+/// Reads an operand as the pattern of a scalar.
+///
+/// # Errors
+///
+/// `Undefined` where the operand can't be read or is no scalar; `OutOfMemory`.
 pub fn read_number(
     alloc: Global,
     here: Here<'_>,

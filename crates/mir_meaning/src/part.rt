@@ -97,6 +97,7 @@ impl<'m> Part<'m> {
         }
     }
 
+    /// Whether it is a hole itself.
     #[tactic(auto, using(crate::proofs::Values::fields_hole))]
     pub fn is_hole(self) -> bool
         ensures { result ≡ is_hole (part_of self.entry) }
@@ -107,6 +108,11 @@ impl<'m> Part<'m> {
         }
     }
 
+    /// An equal value, apart from the memory.
+    ///
+    /// # Errors
+    ///
+    /// `OutOfMemory`.
     pub fn copied(self, alloc: Global) -> Result<Datum, OutOfMemory>
         ensures { IfOk result (λ copy. value_of copy ≡ part_of self.entry) }
     {

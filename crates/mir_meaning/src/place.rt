@@ -25,6 +25,11 @@ pub struct Spot<'m, 'p> {
     pub part: Option<Part<'m>>,
 }
 
+/// A path, and behind it another.
+///
+/// # Errors
+///
+/// `OutOfMemory`.
 pub fn joined(alloc: Global, front: &[Proj], back: &[Proj]) -> Result<List<Proj>, OutOfMemory>
     ensures { IfOk result (λ path. path ≡ front.now ++ back.now) }
 {
@@ -36,6 +41,10 @@ pub fn joined(alloc: Global, front: &[Proj], back: &[Proj]) -> Result<List<Proj>
 
 impl<'m, 'p> Spot<'m, 'p> {
     /// The address, apart from the memory.
+    ///
+    /// # Errors
+    ///
+    /// `OutOfMemory`.
     pub fn pointer(self, alloc: Global) -> Result<Pointer, OutOfMemory>
         requires { IsTrue (path_formed (self.front.now ++ self.back.now)) }
         ensures { IfOk result (λ pointer. addr_of pointer ≡ spot_of self.entry) }

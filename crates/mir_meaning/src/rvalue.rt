@@ -200,6 +200,10 @@ fn build(
 }
 
 /// The value of an rvalue.
+///
+/// # Errors
+///
+/// `Undefined` where the meaning is undefined; `OutOfMemory`.
 pub fn eval(
     alloc: Global,
     here: Here<'_>,

@@ -57,6 +57,10 @@ fn path_of<'p>(alloc: Global, front: &[Proj], back: &'p [Proj]) -> Result<Path<'
 
 impl<'m, 'p> Spot<'m, 'p> {
     /// The address, apart from the memory. Its path is copied only where a pointer into a part was followed.
+    ///
+    /// # Errors
+    ///
+    /// `OutOfMemory`.
     pub fn target(self, alloc: Global) -> Result<Target<'p>, OutOfMemory>
         ensures { IfOk result (λ target. target_of target ≡ spot_of self.entry) }
     {
@@ -69,6 +73,7 @@ impl<'m, 'p> Spot<'m, 'p> {
 }
 
 impl Memory {
+    /// Writes a value where the target stands; where that isn't there, nothing changes.
     pub fn put_at(&mut self, target: &Target<'_>, value: Datum)
         requires { IsTrue (path_formed (target_of target.now).path) }
         ensures { memory_of self.new ≡ sem.write (memory_of self.old) (target_of target.now) (value_of value) }

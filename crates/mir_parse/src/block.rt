@@ -73,6 +73,10 @@ fn read_block<'a>(
 
 /// Parses a block, and answers what stands past it. `lines` are the lines of the symbols, in step with them; where it is shorter, the line
 /// is 0. A fault inside a statement or a terminator tells where that began.
+///
+/// # Errors
+///
+/// `Fault` with the first fault, where no such part stands at the front; `OutOfMemory`.
 pub fn parse_block<'a>(
     alloc: Global,
     symbols: &'a [Symbol],

@@ -56,6 +56,10 @@ pub fn no_reading(symbols: &[Symbol]) -> SyntaxFault
 }
 
 /// The symbols are refused since nothing goes on with the first.
+///
+/// # Errors
+///
+/// Always: `Fault` at the first symbol.
 pub fn refuse<X: Drop>(symbols: &[Symbol]) -> Result<X, ParseRefused>
     ensures { result ≡ Err (ParseRefused.Fault (spec.no_reading symbols.now)) }
 {
@@ -63,6 +67,10 @@ pub fn refuse<X: Drop>(symbols: &[Symbol]) -> Result<X, ParseRefused>
 }
 
 /// The symbols are refused with a code at the first.
+///
+/// # Errors
+///
+/// Always: `Fault` with the code at the first symbol.
 pub fn refuse_with<X: Drop>(code: u8, symbols: &[Symbol]) -> Result<X, ParseRefused>
     ensures { result ≡ Err (ParseRefused.Fault (spec.fault_at code symbols.now)) }
 {

@@ -268,6 +268,10 @@ pub(crate) fn read_ended_line<'a>(
 
 /// Parses a statement or a terminator as far as it goes, without its semicolon, and answers what stands past it. One before a semicolon goes
 /// up to that.
+///
+/// # Errors
+///
+/// `Fault` with the first fault, where no such part stands at the front; `OutOfMemory`.
 pub fn parse_line<'a>(
     alloc: Global,
     symbols: &'a [Symbol],

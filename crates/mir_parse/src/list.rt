@@ -80,6 +80,10 @@ fn closing(bracket: Bracket, symbols: &[Symbol]) -> Option<&[Symbol]>
 }
 
 /// Behind an item of a list: whether the items end.
+///
+/// # Errors
+///
+/// `Fault` where neither a comma nor the closing sign stands there.
 #[tactic(auto, unfolding(crate::specs::Lists::after_item))]
 pub(crate) fn after_item(
     bracket: Bracket,

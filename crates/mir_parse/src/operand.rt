@@ -229,6 +229,10 @@ pub(crate) fn read_nameds<'a>(
 }
 
 /// Parses a constant behind the word `const`, and answers what stands past it.
+///
+/// # Errors
+///
+/// `Fault` with the first fault, where no constant stands at the front.
 pub fn parse_value(symbols: &[Symbol]) -> Result<(ValueText, &[Symbol]), ParseRefused>
     ensures derives { IfOk result (λ f. IsParsed value_put value_rule ValueFits symbols.now f.0 f.1.now) }
     ensures refuses { NoneStands value_put ValueFits Any symbols.now result }
@@ -239,6 +243,10 @@ pub fn parse_value(symbols: &[Symbol]) -> Result<(ValueText, &[Symbol]), ParseRe
 }
 
 /// Parses an operand, and answers what stands past it.
+///
+/// # Errors
+///
+/// `Fault` with the first fault, where no such part stands at the front; `OutOfMemory`.
 pub fn parse_operand<'a>(
     alloc: Global,
     symbols: &'a [Symbol],

@@ -66,6 +66,10 @@ pub(crate) fn read_path<'a>(
 }
 
 /// Parses a path (`name ( "::" name )*`), as far as it goes, and answers what stands past it.
+///
+/// # Errors
+///
+/// `Fault` with the first fault, where no such part stands at the front; `OutOfMemory`.
 pub fn parse_path<'a>(
     alloc: Global,
     symbols: &'a [Symbol],

@@ -272,6 +272,10 @@ fn read_base_inside<'a>(
 }
 
 /// Parses a place that nests at most `depth` deep, itself counted, and answers what stands past it.
+///
+/// # Errors
+///
+/// `Fault` with the first fault, where no such part stands at the front; `OutOfMemory`.
 pub fn parse_place<'a>(
     alloc: Global,
     symbols: &'a [Symbol],

@@ -289,6 +289,10 @@ pub(crate) fn read_rvalue<'a>(
 }
 
 /// Parses an rvalue as far as it goes, and answers what stands past it. An rvalue before a semicolon goes up to that.
+///
+/// # Errors
+///
+/// `Fault` with the first fault, where no such part stands at the front; `OutOfMemory`.
 pub fn parse_rvalue<'a>(
     alloc: Global,
     symbols: &'a [Symbol],

@@ -7,6 +7,10 @@ use crate::fault::{refuse, refuse_with};
 use mir_text::Symbol;
 
 /// `,`
+///
+/// # Errors
+///
+/// `Fault` where another symbol stands there.
 #[tactic(auto, unfolding(crate::specs::Signs::comma))]
 pub fn read_comma(symbols: &[Symbol]) -> Result<&[Symbol], ParseRefused>
     ensures read { Gives (λ f. (tt, f.now)) result (spec.comma symbols.now) }
@@ -19,6 +23,10 @@ pub fn read_comma(symbols: &[Symbol]) -> Result<&[Symbol], ParseRefused>
 }
 
 /// `(`
+///
+/// # Errors
+///
+/// `Fault` where another symbol stands there.
 #[tactic(auto, unfolding(crate::specs::Signs::open_paren))]
 pub fn read_open_paren(symbols: &[Symbol]) -> Result<&[Symbol], ParseRefused>
     ensures read { Gives (λ f. (tt, f.now)) result (spec.open_paren symbols.now) }
@@ -31,6 +39,10 @@ pub fn read_open_paren(symbols: &[Symbol]) -> Result<&[Symbol], ParseRefused>
 }
 
 /// `)`
+///
+/// # Errors
+///
+/// `Fault` where another symbol stands there.
 #[tactic(auto, unfolding(crate::specs::Signs::close))]
 pub fn read_close(symbols: &[Symbol]) -> Result<&[Symbol], ParseRefused>
     ensures read { Gives (λ f. (tt, f.now)) result (spec.close symbols.now) }
@@ -43,6 +55,10 @@ pub fn read_close(symbols: &[Symbol]) -> Result<&[Symbol], ParseRefused>
 }
 
 /// `{`
+///
+/// # Errors
+///
+/// `Fault` where another symbol stands there.
 #[tactic(auto, unfolding(crate::specs::Signs::open_brace))]
 pub fn read_open_brace(symbols: &[Symbol]) -> Result<&[Symbol], ParseRefused>
     ensures read { Gives (λ f. (tt, f.now)) result (spec.open_brace symbols.now) }
@@ -55,6 +71,10 @@ pub fn read_open_brace(symbols: &[Symbol]) -> Result<&[Symbol], ParseRefused>
 }
 
 /// `}`
+///
+/// # Errors
+///
+/// `Fault` where another symbol stands there.
 #[tactic(auto, unfolding(crate::specs::Signs::close_brace))]
 pub fn read_close_brace(symbols: &[Symbol]) -> Result<&[Symbol], ParseRefused>
     ensures read { Gives (λ f. (tt, f.now)) result (spec.close_brace symbols.now) }
@@ -67,6 +87,10 @@ pub fn read_close_brace(symbols: &[Symbol]) -> Result<&[Symbol], ParseRefused>
 }
 
 /// `[`
+///
+/// # Errors
+///
+/// `Fault` where another symbol stands there.
 #[tactic(auto, unfolding(crate::specs::Signs::open_bracket))]
 pub fn read_open_bracket(symbols: &[Symbol]) -> Result<&[Symbol], ParseRefused>
     ensures read { Gives (λ f. (tt, f.now)) result (spec.open_bracket symbols.now) }
@@ -79,6 +103,10 @@ pub fn read_open_bracket(symbols: &[Symbol]) -> Result<&[Symbol], ParseRefused>
 }
 
 /// `]`
+///
+/// # Errors
+///
+/// `Fault` where another symbol stands there.
 #[tactic(auto, unfolding(crate::specs::Signs::close_bracket))]
 pub fn read_close_bracket(symbols: &[Symbol]) -> Result<&[Symbol], ParseRefused>
     ensures read { Gives (λ f. (tt, f.now)) result (spec.close_bracket symbols.now) }
@@ -91,6 +119,10 @@ pub fn read_close_bracket(symbols: &[Symbol]) -> Result<&[Symbol], ParseRefused>
 }
 
 /// `;`
+///
+/// # Errors
+///
+/// `Fault` where another symbol stands there.
 #[tactic(auto, unfolding(crate::specs::Signs::semicolon))]
 pub fn read_semicolon(symbols: &[Symbol]) -> Result<&[Symbol], ParseRefused>
     ensures read { Gives (λ f. (tt, f.now)) result (spec.semicolon symbols.now) }
@@ -103,6 +135,10 @@ pub fn read_semicolon(symbols: &[Symbol]) -> Result<&[Symbol], ParseRefused>
 }
 
 /// `:`
+///
+/// # Errors
+///
+/// `Fault` where another symbol stands there.
 #[tactic(auto, unfolding(crate::specs::Signs::colon))]
 pub fn read_colon(symbols: &[Symbol]) -> Result<&[Symbol], ParseRefused>
     ensures read { Gives (λ f. (tt, f.now)) result (spec.colon symbols.now) }
@@ -115,6 +151,10 @@ pub fn read_colon(symbols: &[Symbol]) -> Result<&[Symbol], ParseRefused>
 }
 
 /// `::`
+///
+/// # Errors
+///
+/// `Fault` where another symbol stands there.
 #[tactic(auto, unfolding(crate::specs::Signs::colons))]
 pub fn read_colons(symbols: &[Symbol]) -> Result<&[Symbol], ParseRefused>
     ensures read { Gives (λ f. (tt, f.now)) result (spec.colons symbols.now) }
@@ -127,6 +167,10 @@ pub fn read_colons(symbols: &[Symbol]) -> Result<&[Symbol], ParseRefused>
 }
 
 /// `.`
+///
+/// # Errors
+///
+/// `Fault` where another symbol stands there.
 #[tactic(auto, unfolding(crate::specs::Signs::dot))]
 pub fn read_dot(symbols: &[Symbol]) -> Result<&[Symbol], ParseRefused>
     ensures read { Gives (λ f. (tt, f.now)) result (spec.dot symbols.now) }
@@ -139,6 +183,10 @@ pub fn read_dot(symbols: &[Symbol]) -> Result<&[Symbol], ParseRefused>
 }
 
 /// `=`
+///
+/// # Errors
+///
+/// `Fault` where another symbol stands there.
 #[tactic(auto, unfolding(crate::specs::Signs::equals))]
 pub fn read_equals(symbols: &[Symbol]) -> Result<&[Symbol], ParseRefused>
     ensures read { Gives (λ f. (tt, f.now)) result (spec.equals symbols.now) }
@@ -151,6 +199,10 @@ pub fn read_equals(symbols: &[Symbol]) -> Result<&[Symbol], ParseRefused>
 }
 
 /// `->`
+///
+/// # Errors
+///
+/// `Fault` where another symbol stands there.
 #[tactic(auto, unfolding(crate::specs::Signs::arrow))]
 pub fn read_arrow(symbols: &[Symbol]) -> Result<&[Symbol], ParseRefused>
     ensures read { Gives (λ f. (tt, f.now)) result (spec.arrow symbols.now) }
@@ -163,6 +215,10 @@ pub fn read_arrow(symbols: &[Symbol]) -> Result<&[Symbol], ParseRefused>
 }
 
 /// `return`
+///
+/// # Errors
+///
+/// `Fault` where another symbol stands there.
 #[tactic(auto, unfolding(crate::specs::Signs::returns))]
 pub fn read_returns(symbols: &[Symbol]) -> Result<&[Symbol], ParseRefused>
     ensures read { Gives (λ f. (tt, f.now)) result (spec.returns symbols.now) }
@@ -175,6 +231,10 @@ pub fn read_returns(symbols: &[Symbol]) -> Result<&[Symbol], ParseRefused>
 }
 
 /// `otherwise`
+///
+/// # Errors
+///
+/// `Fault` where another symbol stands there.
 #[tactic(auto, unfolding(crate::specs::Signs::otherwise))]
 pub fn read_otherwise(symbols: &[Symbol]) -> Result<&[Symbol], ParseRefused>
     ensures read { Gives (λ f. (tt, f.now)) result (spec.otherwise symbols.now) }
@@ -187,6 +247,10 @@ pub fn read_otherwise(symbols: &[Symbol]) -> Result<&[Symbol], ParseRefused>
 }
 
 /// `unwind`
+///
+/// # Errors
+///
+/// `Fault` where another symbol stands there.
 #[tactic(auto, unfolding(crate::specs::Signs::unwind))]
 pub fn read_unwind(symbols: &[Symbol]) -> Result<&[Symbol], ParseRefused>
     ensures read { Gives (λ f. (tt, f.now)) result (spec.unwind symbols.now) }
@@ -198,6 +262,11 @@ pub fn read_unwind(symbols: &[Symbol]) -> Result<&[Symbol], ParseRefused>
     }
 }
 
+/// A name, by its number.
+///
+/// # Errors
+///
+/// `Fault` where another symbol stands there.
 #[tactic(auto, unfolding(crate::specs::Signs::name))]
 pub fn read_name(symbols: &[Symbol]) -> Result<(u32, &[Symbol]), ParseRefused>
     ensures read { Gives (λ f. (f.0, f.1.now)) result (spec.name symbols.now) }
@@ -210,6 +279,10 @@ pub fn read_name(symbols: &[Symbol]) -> Result<(u32, &[Symbol]), ParseRefused>
 }
 
 /// The name with a number.
+///
+/// # Errors
+///
+/// `Fault` where another symbol stands there.
 #[tactic(auto, unfolding(crate::specs::Signs::this_name))]
 pub fn read_this_name(name: u32, symbols: &[Symbol]) -> Result<&[Symbol], ParseRefused>
     ensures read { Gives (λ f. (tt, f.now)) result (spec.this_name name symbols.now) }
@@ -227,6 +300,11 @@ pub fn read_this_name(name: u32, symbols: &[Symbol]) -> Result<&[Symbol], ParseR
     }
 }
 
+/// A string, by its number.
+///
+/// # Errors
+///
+/// `Fault` where another symbol stands there.
 #[tactic(auto, unfolding(crate::specs::Signs::string))]
 pub fn read_string(symbols: &[Symbol]) -> Result<(u32, &[Symbol]), ParseRefused>
     ensures read { Gives (λ f. (f.0, f.1.now)) result (spec.string symbols.now) }
@@ -238,6 +316,11 @@ pub fn read_string(symbols: &[Symbol]) -> Result<(u32, &[Symbol]), ParseRefused>
     }
 }
 
+/// A local, by its number.
+///
+/// # Errors
+///
+/// `Fault` where another symbol stands there.
 #[tactic(auto, unfolding(crate::specs::Signs::local))]
 pub fn read_local(symbols: &[Symbol]) -> Result<(u32, &[Symbol]), ParseRefused>
     ensures read { Gives (λ f. (f.0, f.1.now)) result (spec.local symbols.now) }
@@ -250,6 +333,11 @@ pub fn read_local(symbols: &[Symbol]) -> Result<(u32, &[Symbol]), ParseRefused>
     }
 }
 
+/// The number of a block.
+///
+/// # Errors
+///
+/// `Fault` where another symbol stands there.
 #[tactic(auto, unfolding(crate::specs::Signs::block))]
 pub fn read_block_number(symbols: &[Symbol]) -> Result<(u32, &[Symbol]), ParseRefused>
     ensures read { Gives (λ f. (f.0, f.1.now)) result (spec.block symbols.now) }
@@ -263,6 +351,10 @@ pub fn read_block_number(symbols: &[Symbol]) -> Result<(u32, &[Symbol]), ParseRe
 }
 
 /// The number of a field, a scope or a set variant.
+///
+/// # Errors
+///
+/// `Fault` where another symbol stands there.
 #[tactic(auto, unfolding(crate::specs::Signs::small_number))]
 pub fn read_small_number(symbols: &[Symbol]) -> Result<(u32, &[Symbol]), ParseRefused>
     ensures read { Gives (λ f. (f.0, f.1.now)) result (spec.small_number symbols.now) }

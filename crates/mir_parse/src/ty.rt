@@ -239,6 +239,10 @@ fn read_types<'a>(
 }
 
 /// Parses a type that nests at most `depth` deep, itself counted, and answers what stands past it.
+///
+/// # Errors
+///
+/// `Fault` with the first fault, where no such part stands at the front; `OutOfMemory`.
 pub fn parse_type<'a>(
     alloc: Global,
     symbols: &'a [Symbol],
@@ -253,6 +257,10 @@ pub fn parse_type<'a>(
 }
 
 /// Parses `type,*` and the parenthesis that closes it, and answers what stands past that. Each type nests at most `depth` deep.
+///
+/// # Errors
+///
+/// `Fault` with the first fault, where no such part stands at the front; `OutOfMemory`.
 pub fn parse_types<'a>(
     alloc: Global,
     symbols: &'a [Symbol],

@@ -145,8 +145,11 @@ fn put_alone<K: Sink>(
     output.flush(sink);
 }
 
-/// Prints the canonical text of a program. `Failed` comes only where the sink's count of faults rose, and then a front of the text is
-/// written. No memory is taken.
+/// Prints the canonical text of a program. No memory is taken.
+///
+/// # Errors
+///
+/// `Failed`, only where the sink's count of faults rose; a front of the text is written then.
 #[tactic(auto, using(crate::proofs::Printing::prints_whole, crate::proofs::Printing::prints_front), unfolding(crate::specs::Seen::crate_in))]
 pub fn print_program<K: Sink>(program: &Program, sink: &mut K) -> Result<(), Failed>
     ensures { Prints (K.written sink.old) (K.written sink.new) (K.faults sink.old) (K.faults sink.new) (text (crate_of program.now)) result }
@@ -160,8 +163,11 @@ pub fn print_program<K: Sink>(program: &Program, sink: &mut K) -> Result<(), Fai
     }
 }
 
-/// Prints the canonical text of a function with another body in place of its own, as `print_program` prints it. `Failed` comes only where
-/// the sink's count of faults rose, and then a front of the text is written. No memory is taken.
+/// Prints the canonical text of a function with another body in place of its own, as `print_program` prints it. No memory is taken.
+///
+/// # Errors
+///
+/// `Failed`, only where the sink's count of faults rose; a front of the text is written then.
 #[tactic(auto, using(crate::proofs::Printing::prints_whole, crate::proofs::Printing::prints_front), unfolding(crate::specs::Seen::crate_in))]
 pub fn print_function<K: Sink>(
     program: &Program,

@@ -23,6 +23,7 @@ use Rattle.mir_renaming.proofs.Items.{step_drops}
 use Rattle.mir_relate.specs.Alike.{AllSame}
 use Rattle.mir_relate.specs.Frames.{Change, target, Pass, lowest, opened, Agrees, Twin, Below, Base, Core}
 use Rattle.mir_relate.specs.Pass.{Valids, GentleTo, Laws, Goes, Answers, Related}
+use Rattle.mir_relate.proofs.Wholes.{all_plain}
 use Rattle.mir_relate.proofs.Leaves.{some_val}
 use Rattle.mir_relate.proofs.Opens.{opened_at, opened_parts, opened_old, linked_open}
 use Rattle.mir_relate.proofs.Others.{other_step}
@@ -136,14 +137,14 @@ module _ (X : Change) (P : Pass) (V : Valids X) (Inv : State → Type 0) (laws :
       agree : (vs : List Value) → Tights vs vs → Agrees X (new_control e.function 0 None) (new_control e.function 0 None) (open_frame [] 0 vs) (open_frame [] 0 vs)
       agree vs t b' x ty v w eb' ex p q = tight_agree D v w ty (tight_in vs vs x v w t (sym (open_same [] 0 vs x) ∙ p) (sym (open_same [] 0 vs x) ∙ q))
 
-  start_own : (e : Entry) (answers : List ℕ) → AllPlain e.args → length e.args ≤ X.body1.args → e.function ≡ X.f → (n : ℕ) × Core X P n (state_of e answers (new_slots D X.body2.locals e.args)) (state_of e answers (new_slots D X.body1.locals e.args))
+  start_own : (e : Entry) (answers : List ℕ) → AllPlain e.args → length e.args ≡ X.body1.args → e.function ≡ X.f → (n : ℕ) × Core X P n (state_of e answers (new_slots D X.body2.locals e.args)) (state_of e answers (new_slots D X.body1.locals e.args))
   unfolding state_of open_frame
   start_own e answers h few p =
       let ws = new_slots D X.body2.locals e.args in
       let vs = new_slots D X.body1.locals e.args in
       let j' = opened nothing 0 0 P.place in
-      let l' = linked_open nothing 0 0 P.place none1 none2 [] [] ws vs no_memory laws.frames.once (λ x y q v k. laws.frames.slots j' e.args e.args (same_args j' e.args h) few x y q v k) in
-      let (n, own) = laws.frames.begins nothing 0 0 None None [] [] e.args e.args (same_args nothing e.args h) few none1 none2 l' in (
+      let l' = linked_open nothing 0 0 P.place none1 none2 [] [] ws vs no_memory laws.frames.once (λ x y q v k. laws.frames.slots j' e.args e.args (same_args j' e.args h) (omega (arith, few)) x y q v k) in
+      let (n, own) = laws.frames.begins nothing 0 0 None None [] [] e.args e.args (same_args nothing e.args h) (record { whole = all_plain e.args h; all = few }) none1 none2 l' in (
         n,
         record {
           lent = j';
@@ -153,7 +154,7 @@ module _ (X : Change) (P : Pass) (V : Valids X) (Inv : State → Type 0) (laws :
         },
       )
 
-  pub start_core : (e : Entry) (b : TypedBody) (answers : List ℕ) → slice_get X.source.bodies e.function ≡ Some b → AllPlain e.args → length e.args ≤ b.args → (n : ℕ) × Core X P n (start (target X) e answers) (start X.source e answers)
+  pub start_core : (e : Entry) (b : TypedBody) (answers : List ℕ) → slice_get X.source.bodies e.function ≡ Some b → AllPlain e.args → length e.args ≡ b.args → (n : ℕ) × Core X P n (start (target X) e answers) (start X.source e answers)
   unfolding state_of
   start_core e b answers eb h few = go (same_or_not e.function X.f)
     where
@@ -162,13 +163,13 @@ module _ (X : Change) (P : Pass) (V : Valids X) (Inv : State → Type 0) (laws :
 
       go : ((nat_eq e.function X.f ≡ true) × (e.function ≡ X.f)) ⊎ ((nat_eq e.function X.f ≡ false) × (e.function ≡ X.f → ⊥)) → (n : ℕ) × Core X P n (start (target X) e answers) (start X.source e answers)
       go (inl p) =
-          let (n, c) = start_own e answers h (subst (λ (b : TypedBody). length e.args ≤ b.args) (some_val (sym eb ∙ ap (slice_get X.source.bodies) p.1 ∙ X.at1)) few) p.1 in
+          let (n, c) = start_own e answers h (subst (λ (b : TypedBody). length e.args ≡ b.args) (some_val (sym eb ∙ ap (slice_get X.source.bodies) p.1 ∙ X.at1)) few) p.1 in
           (n, states (Some X.body2) (Some X.body1) (ap (slice_get X.bodies) p.1 ∙ X.at2) (ap (slice_get X.source.bodies) p.1 ∙ X.at1) n c)
       go (inr p) = (0, states (Some b) (Some b) (X.others e.function p.1 ∙ eb) eb 0 (start_other e answers b h p.1 eb))
 
   -- ---- crates
 
-  pub law : (target' source : Crate) → code_of source ≡ X.source → code_of target' ≡ target X → target'.defs ≡ source.defs → target'.outsides ≡ source.outsides → map header target'.functions ≡ map header source.functions → ((e : Entry) → IsEntry X.source e → AllPlain e.args) → ((e : Entry) (k : IsEntry X.source e) → length e.args ≤ k.body.args) → ((e : Entry) → IsEntry X.source e → (answers : List ℕ) → Inv (start X.source e answers)) → ((e : Entry) → IsEntry X.source e → (answers : List ℕ) → Typed X.source V.valid1 (start X.source e answers)) → ((e : Entry) → IsEntry X.source e → (answers : List ℕ) → Typed (target X) V.valid2 (start (target X) e answers)) → Refines target' source
+  pub law : (target' source : Crate) → code_of source ≡ X.source → code_of target' ≡ target X → target'.defs ≡ source.defs → target'.outsides ≡ source.outsides → map header target'.functions ≡ map header source.functions → ((e : Entry) → IsEntry X.source e → AllPlain e.args) → ((e : Entry) (k : IsEntry X.source e) → length e.args ≡ k.body.args) → ((e : Entry) → IsEntry X.source e → (answers : List ℕ) → Inv (start X.source e answers)) → ((e : Entry) → IsEntry X.source e → (answers : List ℕ) → Typed X.source V.valid1 (start X.source e answers)) → ((e : Entry) → IsEntry X.source e → (answers : List ℕ) → Typed (target X) V.valid2 (start (target X) e answers)) → Refines target' source
   law target' source is1 is2 d o h plain few inv ty1 ty2 =
       refines_by target' source Rel (subst (λ C. Simulation (code_of target') C Rel) (sym is1) (subst (λ C. Simulation C X.source Rel) (sym is2) simulation)) d o h
       (λ e k answers. subst (λ C. (n : ℕ) × Rel n (start (code_of target') e answers) (start C e answers)) (sym is1) (subst (λ C. (n : ℕ) × Rel n (start C e answers) (start X.source e answers)) (sym is2) (first e (subst (λ C. IsEntry C e) is1 k) answers)))

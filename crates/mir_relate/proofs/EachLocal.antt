@@ -168,6 +168,6 @@ module _ (X : Change) (W : Words) where
         kept = kept_law;
         once = home_once W.lent;
         slots = λ j vs ws hv few x y e v k. subst (λ y. SomeRel j v (slice_get (new_slots D X.body2.locals ws) y)) (home_some W.lent x y e).1 (slots_same D X.body2.locals X.body1.locals lasts.same_locals j vs ws hv.0 x v k);
-        begins = λ j k2 k1 d2 d1 m2 m1 vs ws hv few f1 f2 l. (0, (refl, begins j k2 k1 d2 d1 m2 m1 vs ws hv.0 few f1 f2));
+        begins = λ j k2 k1 d2 d1 m2 m1 vs ws hv ar f1 f2 l. (0, (refl, begins j k2 k1 d2 d1 m2 m1 vs ws hv.0 (let a = ar.all in omega (arith, a)) f1 f2));
         resumes = λ n s2 s1 r m2 m1 c2 c1 gs ds cs2 v w x q q2 p2 p1 l wt be l1 l2 lo dt hv wh k ge. resumed n s2 s1 r m2 m1 c2 c1 gs ds cs2 v w x q (subst (MemTy D r.typed1.types) (sym p1) (close_ty X.source V.valid1 r.typed1.types s1.memory s1.top.frame r.typed1.mem)) l wt be l1 l2 dt hv k ge;
       }

@@ -15,7 +15,7 @@ use Rattle.mir_renaming.proofs.Ghosts.{value_mono}
 use Rattle.mir_renaming.proofs.Slots.{slots_rel, value_in}
 use Rattle.mir_renaming.proofs.Agree.{tight_agree}
 use Rattle.mir_renaming.proofs.Tight.{slots_tight, tight_in}
-use Rattle.mir_relate.specs.Alike.{AllSame}
+use Rattle.mir_relate.specs.Alike.{AllSame, AllWhole}
 use Rattle.mir_relate.specs.Mild.{Gentle}
 use Rattle.mir_relate.specs.Frames.{Change, target, Pass, opened, Agrees, Below, Base}
 use Rattle.mir_relate.specs.Pass.{KnowsAll, Valids, GentleTo, FrameLaws, Goes}
@@ -55,7 +55,7 @@ module _ (X : Change) (P : Pass) (V : Valids X) (Inv : State → Type 0) (laws :
       below k x g y (inl p) = (let e = p.1 in omega (arith, e))
       below k x g y (inr p) = (let lt = b.fresh2 k x g y p.1 in omega (arith, lt))
 
-  module _ (G : TypeMap) (j : Renaming) (s2 s1 : State) (m2 m1 : Memory) (b : Base j s2 s1) (l : Linked j j m2 m1) (c2 c1 : Control) (d2 d1 : Option Dest) (ks : KnowsAll X G (c1 ∷ s1.callers)) (below : Below X P j d2 d1 s2.next s1.next (c2 ∷ s2.callers) (c1 ∷ s1.callers) m2 m1) (vs ws : List Value) (hv : AllSame j vs ws) where
+  module _ (G : TypeMap) (j : Renaming) (s2 s1 : State) (m2 m1 : Memory) (b : Base j s2 s1) (l : Linked j j m2 m1) (c2 c1 : Control) (d2 d1 : Option Dest) (ks : KnowsAll X G (c1 ∷ s1.callers)) (below : Below X P j d2 d1 s2.next s1.next (c2 ∷ s2.callers) (c1 ∷ s1.callers) m2 m1) (vs ws : List Value) (hv : AllSame j vs ws) (wh : AllWhole vs) where
     fresh : (x : ℕ) → j s1.next x ≡ None
     fresh x = b.fresh1 s1.next x (omega arith)
 
@@ -109,15 +109,15 @@ module _ (X : Change) (P : Pass) (V : Valids X) (Inv : State → Type 0) (laws :
         agree b' x t v w eb' ex p q = tight_agree D v w t (tight_in ts us x v w (slots_tight D bo.locals vs ws hv.1) (sym (open_same m1 s1.next ts x) ∙ p) (sym (open_same m2 s2.next us x) ∙ q))
 
     -- of the changed one
-    own_frame : length vs ≤ X.body1.args → Goes X P (entered D s2 m2 c2 X.f ws d2 X.body2) (on (record s1 { memory = open_frame m1 s1.next (new_slots D X.body1.locals vs); top = new_control X.f s1.next d1; callers = c1 ∷ s1.callers; next = suc s1.next }))
+    own_frame : length vs ≡ X.body1.args → Goes X P (entered D s2 m2 c2 X.f ws d2 X.body2) (on (record s1 { memory = open_frame m1 s1.next (new_slots D X.body1.locals vs); top = new_control X.f s1.next d1; callers = c1 ∷ s1.callers; next = suc s1.next }))
     unfolding entered
     own_frame few =
         let us = new_slots D X.body2.locals ws in
         let ts = new_slots D X.body1.locals vs in
         let up = opened_up j s2.next s1.next P.place fresh b.fresh2 in
         let j' = opened j s2.next s1.next P.place in
-        let l' = linked_open j s2.next s1.next P.place fresh b.fresh2 m2 m1 us ts l laws.once (λ x y e v q. laws.slots j' vs ws (values_up j j' up vs ws hv.0, hv.1) few x y e v q) in
-        let (n, own) = laws.begins j s2.next s1.next d2 d1 m2 m1 vs ws hv few fresh b.fresh2 l' in (
+        let l' = linked_open j s2.next s1.next P.place fresh b.fresh2 m2 m1 us ts l laws.once (λ x y e v q. laws.slots j' vs ws (values_up j j' up vs ws hv.0, hv.1) (omega (arith, few)) x y e v q) in
+        let (n, own) = laws.begins j s2.next s1.next d2 d1 m2 m1 vs ws hv (record { whole = wh; all = few }) fresh b.fresh2 l' in (
           n,
           _,
           refl,
@@ -129,7 +129,7 @@ module _ (X : Change) (P : Pass) (V : Valids X) (Inv : State → Type 0) (laws :
           },
         )
 
-    pub enter_goes : (g : ℕ) (x : Next) → ((b : TypedBody) → slice_get X.source.bodies g ≡ Some b → length vs ≤ b.args) → enter X.source s1 m1 c1 g vs d1 ≡ Some x → Goes X P (enter (target X) s2 m2 c2 g ws d2) x
+    pub enter_goes : (g : ℕ) (x : Next) → ((b : TypedBody) → slice_get X.source.bodies g ≡ Some b → length vs ≡ b.args) → enter X.source s1 m1 c1 g vs d1 ≡ Some x → Goes X P (enter (target X) s2 m2 c2 g ws d2) x
     unfolding enter entered
     enter_goes g x few e = go (same_or_not g X.f)
       where

@@ -19,8 +19,8 @@ use Rattle.mir_syntax.specs.Parts.{has_deref}
 use Rattle.mir_renaming.specs.Renaming.{Renaming}
 use Rattle.mir_syntax.proofs.Binds.{bind_some}
 use Rattle.mir_renaming.proofs.Statements.{only_true}
-use Rattle.mir_renaming.proofs.Types.{TypeMap, AddrTy, HasTy, MemTy, write_ty, resolve_ty, eval_ty, dest_ty, read_at_ty, StmtTy, is_scalar}
-use Rattle.mir_renaming.proofs.Typed.{Typed, TermTy, CalleeTy, AskTy}
+use Rattle.mir_renaming.proofs.Types.{TypeMap, AddrTy, HasTy, MemTy, write_ty, resolve_ty, eval_ty, dest_ty, read_at_ty, value_at_ty, StmtTy, is_scalar}
+use Rattle.mir_renaming.proofs.Typed.{Typed, TermTy, CalleeTy, AskTy, close_ty}
 use Rattle.mir_renaming.proofs.Frames.{open_other, close_other}
 use Rattle.mir_renaming.proofs.Walks.{walk_plain}
 use Rattle.mir_renaming.proofs.Items.{step_parts, DropPlain, Own, Owns, Drops, begun_own}
@@ -60,17 +60,17 @@ module _ (X : Change) (V : Valids X) where
   E = X.source.shapes
 
   -- a store of a whole value at a fair place
-  store_gentle : (G : TypeMap) (n k : ℕ) (m m' : Memory) (d : Dest) (t : Tree) (v : Value) → n ≤ k → FairDest E k t d → AddrTy E G d.addr t → HasTy E G t v → whole v ≡ true → store E m d v ≡ Some m' → Gentle E G n m' m
+  store_gentle : (G : TypeMap) (n k : ℕ) (m m' : Memory) (d : Dest) (t : Tree) (v : Value) → n ≤ k → MemTy E G m → FairDest E k t d → AddrTy E G d.addr t → HasTy E G t v → whole v ≡ true → store E m d v ≡ Some m' → Gentle E G n m' m
   unfolding store
-  store_gentle G n k m m' d t v le fd at hv wh e =
+  store_gentle G n k m m' d t v le mt fd at hv wh e =
       let (old, e1, k1) = bind_some e in
       let (ok, same) = only_true (allows E d.guard old) (write m d.addr v) m' k1 in
-      subst (λ m'. Gentle E G n m' m) same (gentle_write E G n m d.addr v old t at e1 hv (fair old ok fd))
+      subst (λ m'. Gentle E G n m' m) same (gentle_write E G n m d.addr v old t at e1 hv (fair old e1 ok fd))
     where
-      fair : (old : Value) → allows E d.guard old ≡ true → FairDest E k t d → (n ≤ d.addr.frame) ⊎ (needs_drop E t ≡ false) ⊎ (full E t old ≡ true) × (whole v ≡ true)
-      fair old ok (inl q) = inl (omega (arith, le, q))
-      fair old ok (inr (inl nd)) = inr (inl nd)
-      fair old ok (inr (inr g)) = inr (inr (subst (λ g. allows E g old ≡ true) g ok, wh))
+      fair : (old : Value) → value_at m d.addr ≡ Some old → allows E d.guard old ≡ true → FairDest E k t d → (n ≤ d.addr.frame) ⊎ (needs_drop E t ≡ false) ⊎ (full E t old ≡ true) × (whole v ≡ true) × HasTy E G t old
+      fair old ev ok (inl q) = inl (omega (arith, le, q))
+      fair old ev ok (inr (inl nd)) = inr (inl nd)
+      fair old ev ok (inr (inr g)) = inr (inr (subst (λ g. allows E g old ≡ true) g ok, wh, value_at_ty E G m d.addr t old mt at ev))
 
   -- ---- what a frame reads and writes
 
@@ -100,7 +100,7 @@ module _ (X : Change) (V : Valids X) where
           let at = resolve_ty E G bok bo.locals f lok m1 p a t q.1 et e in
           (gentle_then E G f m0 m1 (write m1 a (blank E t)) q.0 (gentle_write E G f m1 a (blank E t) v t at ev (bok t) (fair (has_deref p.proj) refl)), write_ty E G m1 a t (blank E t) q.1 at (bok t))
         where
-          fair : (b : Bool) → has_deref p.proj ≡ b → (f ≤ a.frame) ⊎ (needs_drop E t ≡ false) ⊎ (full E t v ≡ true) × (whole (blank E t) ≡ true)
+          fair : (b : Bool) → has_deref p.proj ≡ b → (f ≤ a.frame) ⊎ (needs_drop E t ≡ false) ⊎ (full E t v ≡ true) × (whole (blank E t) ≡ true) × HasTy E G t v
           fair true h = inr (inl (ok h t et))
           fair false h = inl (let z = plain_frame H m1 p a h e in omega (arith, z))
 
@@ -131,6 +131,9 @@ module _ (X : Change) (V : Valids X) where
       all_gentle : (os : List Operand) (r : List Value × Memory) → AllMoves H os → MemTy E G m0 → read_all H m0 os ≡ Some r → Gentle E G f r.1 m0
       all_gentle os r mo mt e = (all_alone S Q os (all_spend os mo) m0 m0 r (start mt) e).0
 
+      all_typed : (os : List Operand) (r : List Value × Memory) → AllMoves H os → MemTy E G m0 → read_all H m0 os ≡ Some r → MemTy E G r.1
+      all_typed os r mo mt e = (all_alone S Q os (all_spend os mo) m0 m0 r (start mt) e).1
+
       exec_gentle : (st : TypedStmt) → StmtMoves H st → StmtTy E G bok bo.locals f lok st → (m' : Memory) → MemTy E G m0 → exec H m0 st ≡ Some m' → Gentle E G f m' m0
       unfolding exec write_unless
       exec_gentle (assign p x) mo (t, pt, xt) m' mt e =
@@ -138,7 +141,7 @@ module _ (X : Change) (V : Valids X) where
           let (d, e2, k2) = bind_some k1 in
           let q = eval_alone S Q x (rvalue_spends x mo) m0 m0 v (start mt) e1 in
           let (vt, mt') = eval_ty E G bok bo.locals f lok m0 x t v mt xt e1 in
-          gentle_then E G f m0 v.1 m' q.0 (store_gentle G f f v.1 m' d t v.0 (omega arith) (dest_fair H v.1 p t d pt e2) (dest_ty E G bok bo.locals f lok v.1 p t d mt' pt e2) vt (eval_whole E G bok bo.locals f lok m0 x t v xt e1) k2)
+          gentle_then E G f m0 v.1 m' q.0 (store_gentle G f f v.1 m' d t v.0 (omega arith) mt' (dest_fair H v.1 p t d pt e2) (dest_ty E G bok bo.locals f lok v.1 p t d mt' pt e2) vt (eval_whole E G bok bo.locals f lok m0 x t v xt e1) k2)
       exec_gentle (storage_live x) mo ty m' mt e = let (t, et, same) = set_blank_is H m0 m' x e in subst (λ m'. Gentle E G f m' m0) same (gentle_above E G f m0 (record { frame = f; local = x; path = [] }) (blank E t) (omega arith))
       exec_gentle (storage_dead x) mo ty m' mt e = let (t, et, same) = set_blank_is H m0 m' x e in subst (λ m'. Gentle E G f m' m0) same (gentle_above E G f m0 (record { frame = f; local = x; path = [] }) (blank E t) (omega arith))
       exec_gentle (set_discriminant p i) mo ty m' mt e =
@@ -189,11 +192,11 @@ module _ (X : Change) (V : Valids X) where
     answered_good tr an c None x hm fs e = good_at x (fail tr) e tt
     answered_good tr an c (Some m') x hm fs e = good_at x _ e ((λ n l1 l2. gentle_less E G F n m' s.memory l1 (hm m' refl)), fs)
 
-    ask_good : (m : Memory) (c : Control) (d : Dest) (o : ℕ) (args : List ℕ) (t : Tree) (answers : List ℕ) (x : Next) → Gentle E G F m s.memory → FairDests C c.function c.dest s.callers → FairDest E F t d → AddrTy E G d.addr t → AskTy t → ask E s m c d o args t answers ≡ Some x → Good x
+    ask_good : (m : Memory) (c : Control) (d : Dest) (o : ℕ) (args : List ℕ) (t : Tree) (answers : List ℕ) (x : Next) → Gentle E G F m s.memory → MemTy E G m → FairDests C c.function c.dest s.callers → FairDest E F t d → AddrTy E G d.addr t → AskTy t → ask E s m c d o args t answers ≡ Some x → Good x
     unfolding ask
-    ask_good m c d o args (scalar t) [] x ge fs f a q e = good_at x (stop no_answer) e tt
-    ask_good m c d o args (scalar t) (n ∷ rest) x ge fs f a q e = answered_good _ rest c _ x (λ m' e1. gentle_then E G F s.memory m m' ge (store_gentle G F F m m' d (scalar t) (number (wrap t n)) (omega arith) f a refl refl e1)) fs e
-    ask_good m c d o args t answers x ge fs f a q e = answered_good _ answers c _ x (λ m' e1. gentle_then E G F s.memory m m' ge (store_gentle G F F m m' d t nil (omega arith) f a (unit q) refl e1)) fs e
+    ask_good m c d o args (scalar t) [] x ge mt fs f a q e = good_at x (stop no_answer) e tt
+    ask_good m c d o args (scalar t) (n ∷ rest) x ge mt fs f a q e = answered_good _ rest c _ x (λ m' e1. gentle_then E G F s.memory m m' ge (store_gentle G F F m m' d (scalar t) (number (wrap t n)) (omega arith) mt f a refl refl e1)) fs e
+    ask_good m c d o args t answers x ge mt fs f a q e = answered_good _ answers c _ x (λ m' e1. gentle_then E G F s.memory m m' ge (store_gentle G F F m m' d t nil (omega arith) mt f a (unit q) refl e1)) fs e
       where
         unit : (is_scalar t ≡ true) ⊎ (t ≡ empty) → fields_of E t ≡ Some empty
         unit (inr z) = ap (fields_of E) z
@@ -227,7 +230,7 @@ module _ (X : Change) (V : Valids X) where
     return_good v t bo eb rt hv wh None (c ∷ cs) at fs os x e = destroyed_good (close_frame s.memory F) cs c x (λ n l1 l2. closed n l1) fs.1 os.0 e
     return_good v t bo eb rt hv wh (Some d) (c ∷ cs) at fs os x e =
         let (m', e1, k1) = bind_some e in
-        good_at x _ k1 ((λ n l1 l2. gentle_then E G n s.memory (close_frame s.memory F) m' (closed n l1) (store_gentle G n c.frame (close_frame s.memory F) m' d t v l2 (fs.0 d refl bo t eb rt) (at d refl) hv wh e1)), fs.1)
+        good_at x _ k1 ((λ n l1 l2. gentle_then E G n s.memory (close_frame s.memory F) m' (closed n l1) (store_gentle G n c.frame (close_frame s.memory F) m' d t v l2 (close_ty C V.valid1 G s.memory F h.mem) (fs.0 d refl bo t eb rt) (at d refl) hv wh e1)), fs.1)
 
     here : (n : ℕ) → n ≤ F → n ≤ F → Gentle E G n s.memory s.memory
     here n l1 l2 = gentle_none E G n s.memory
@@ -267,19 +270,19 @@ module _ (X : Change) (V : Valids X) where
       check_good m true words os u x ge e = on_good m (to_block u s.top) x ge fd e
       check_good m false words os u x ge e = let (r, e1, k1) = bind_some e in good_at x (stop (aborted words r.0)) k1 tt
 
-      call_good : (m : Memory) (u : ℕ) (d : Dest) (g : Callee) (os : List Operand) (vs : List Value) (t : Tree) (x : Next) → CalleeTy C HF g os t → Gentle E G F m s.memory → FairDest E F t d → AddrTy E G d.addr t → call C s m (to_block u s.top) d g vs ≡ Some x → Good x
+      call_good : (m : Memory) (u : ℕ) (d : Dest) (g : Callee) (os : List Operand) (vs : List Value) (t : Tree) (x : Next) → CalleeTy C HF g os t → Gentle E G F m s.memory → MemTy E G m → FairDest E F t d → AddrTy E G d.addr t → call C s m (to_block u s.top) d g vs ≡ Some x → Good x
       unfolding call
-      call_good m u d (callee.Local g) os vs t x (b, eg, rt, ho) ge f at e =
+      call_good m u d (callee.Local g) os vs t x (b, eg, rt, ho) ge mt f at e =
           enter_good m (to_block u s.top) g.0 vs (Some d) x ge fd (λ d' z b' t' eb' rt'. (
           let same : d ≡ d' = some_val z in
           let bodies : b' ≡ b = some_val (sym eb' ∙ eg) in
           let types : t ≡ t' = some_val (sym rt ∙ ap (λ (b : TypedBody). slice_get b.locals 0) (sym bodies) ∙ rt') in
           subst (λ t. FairDest E F t d') types (subst (FairDest E F t) same f))) e
-      call_good m u d (callee.Outside o) os vs t x (out, eo, rt, ho) ge f at e =
+      call_good m u d (callee.Outside o) os vs t x (out, eo, rt, ho) ge mt f at e =
           let (out', e1, k1) = bind_some e in
           let (ns, e2, k2) = bind_some k1 in
           let same : t ≡ out'.result = sym rt ∙ ap (λ (o : TypedOutside). o.result) (some_val (sym eo ∙ e1)) in
-          ask_good m (to_block u s.top) d o.0 ns out'.result s.answers x ge fd (subst (λ t. FairDest E F t d) same f) (subst (AddrTy E G d.addr) same at) (V.valid1.asks o.0 out' e1) k2
+          ask_good m (to_block u s.top) d o.0 ns out'.result s.answers x ge mt fd (subst (λ t. FairDest E F t d) same f) (subst (AddrTy E G d.addr) same at) (V.valid1.asks o.0 out' e1) k2
 
       finish_good : (t : Term) (x : Next) → TermMoves HF t → TermTy C HF t → DropPlain t → finish C HF s t ≡ Some x → Good x
       unfolding finish local_addr
@@ -300,7 +303,7 @@ module _ (X : Change) (V : Valids X) where
       finish_good (Call p g os u) x mo (t, pt, ct) hd e =
           let (d, e1, k1) = bind_some e in
           let (r, e2, k2) = bind_some k1 in
-          call_good r.1 u d g os r.0 t x ct (all_gentle G bo F lokF s.memory os r mo h.mem e2) (dest_fair HF s.memory p t d pt e1) (dest_ty E G bokF bo.locals F lokF s.memory p t d h.mem pt e1) k2
+          call_good r.1 u d g os r.0 t x ct (all_gentle G bo F lokF s.memory os r mo h.mem e2) (all_typed G bo F lokF s.memory os r mo h.mem e2) (dest_fair HF s.memory p t d pt e1) (dest_ty E G bokF bo.locals F lokF s.memory p t d h.mem pt e1) k2
       finish_good (Assert o c words os u) x mo ty hd e =
           let (r, e1, k1) = bind_some e in
           check_good r.1 (nat_eq r.0 (flag c)) words os u x (number_gentle G bo F lokF s.memory o r mo.0 h.mem e1) k1

@@ -44,7 +44,7 @@ pub gentle_above : (D : List Shape) (G : TypeMap) (n1 : ℕ) (m1 : Memory) (a : 
 gentle_above D G n1 m1 a v le = gentle_same D G n1 (write m1 a v) m1 (λ h x t l ty. write_other m1 a v h x (λ p q. absurd (omega (arith, l, le, p))))
 
 -- a write in a frame above, or a fair one
-pub gentle_write : (D : List Shape) (G : TypeMap) (n1 : ℕ) (m1 : Memory) (a : Addr) (v old : Value) (u : Tree) → AddrTy D G a u → value_at m1 a ≡ Some old → HasTy D G u v → (n1 ≤ a.frame) ⊎ (needs_drop D u ≡ false) ⊎ (full D u old ≡ true) × (whole v ≡ true) → Gentle D G n1 (write m1 a v) m1
+pub gentle_write : (D : List Shape) (G : TypeMap) (n1 : ℕ) (m1 : Memory) (a : Addr) (v old : Value) (u : Tree) → AddrTy D G a u → value_at m1 a ≡ Some old → HasTy D G u v → (n1 ≤ a.frame) ⊎ (needs_drop D u ≡ false) ⊎ (full D u old ≡ true) × (whole v ≡ true) × HasTy D G u old → Gentle D G n1 (write m1 a v) m1
 unfolding value_at
 gentle_write D G n1 m1 a v old u at eo hv (inl le) = gentle_above D G n1 m1 a v le
 gentle_write D G n1 m1 a v old u at eo hv (inr fair) = record { mild = λ h x t o l ty e. go h x t o ty e (root_or_not a h x) }

@@ -235,6 +235,6 @@ module _ (X : Change) (B : ℕ → Option ℕ) (At : Positions) (V : Valids X) (
     kept = kept_law X B At;
     once = same.once;
     slots = same.slots;
-    begins = λ j k2 k1 d2 d1 m2 m1 vs ws hv few f1 f2 l. (same.starts.0, (refl, begins X B At same j k2 k1 d2 d1 f1 f2, agrees X B At same j k2 k1 d2 d1 f1 f2 m2 m1 vs ws hv few));
+    begins = λ j k2 k1 d2 d1 m2 m1 vs ws hv ar f1 f2 l. (same.starts.0, (refl, begins X B At same j k2 k1 d2 d1 f1 f2, agrees X B At same j k2 k1 d2 d1 f1 f2 m2 m1 vs ws hv (let a = ar.all in omega (arith, a))));
     resumes = λ n s2 s1 r m2 m1 c2 c1 gs ds cs2 v w x q q2 p2 p1 l wt be l1 l2 lo dt hv wh k ge. resumed n s2 s1 r m2 m1 c2 c1 gs ds cs2 v w x q l wt be l1 l2 dt hv k ge;
   }

@@ -26,7 +26,7 @@ use Rattle.mir_relate.specs.Alike.{Between, Sides, AllRead}
 use Rattle.mir_relate.specs.Leaves.{Leaves}
 use Rattle.mir_relate.specs.Frames.{Change, target, Pass, lowest, VisitRel, AgreesBy, Visiting, Below, Core}
 use Rattle.mir_relate.specs.Mild.{Gentle}
-use Rattle.mir_relate.specs.Pass.{Valids, AllMoves, StmtMoves, TermMoves, FewTerm, GentleTo, FrameLaws, Laws, Goes, Answers, Related}
+use Rattle.mir_relate.specs.Pass.{Valids, AllMoves, StmtMoves, TermMoves, ArgsTerm, GentleTo, FrameLaws, Laws, Goes, Answers, Related}
 use Rattle.mir_relate.specs.Renumbered.{PlaceSame, OperandsSame, StmtSame, Gone}
 use Rattle.mir_relate.specs.Simulation.{keep_on}
 use Rattle.mir_relate.proofs.BodyLaw.{goes_answer}
@@ -216,13 +216,13 @@ module _ {X : Change} {B : ℕ → Option ℕ} {At : Positions} (same : Mirrors 
         (λ d e vs tg. inr (record s1.top { dropping = Some d }, [], s1.callers, refl, r.core.base.top1, r.core.base.top2, omega arith, (refl, (n, dropping_at hb d e vs tg), tt, ag), be))
         d d2 x (begun_own X.source s1 r.drops X.body1 eb p u1 s1.top.dropping d hd refl e1) tys vs0 tg0 pty k1)
 
-    end_goes : (t t2 : Term) → ((k : TypedBlock) → slice_get X.body1.blocks s1.top.block ≡ Some k → (k.term ≡ t) × (slice_get k.stmts s1.top.at ≡ None)) → TermAs (Homes B) (To At) t t2 → TermMoves H1 t → TermTy X.source H1 t → FewTerm X.source t → DropPlain t → (x : Next) → finish X.source H1 s1 t ≡ Some x → Flat x → GentleTo X G f1 s1.memory x → Goes X P (finish (target X) S.target s2 t2) x
+    end_goes : (t t2 : Term) → ((k : TypedBlock) → slice_get X.body1.blocks s1.top.block ≡ Some k → (k.term ≡ t) × (slice_get k.stmts s1.top.at ≡ None)) → TermAs (Homes B) (To At) t t2 → TermMoves H1 t → TermTy X.source H1 t → ArgsTerm X.source t → DropPlain t → (x : Next) → finish X.source H1 s1 t ≡ Some x → Flat x → GentleTo X G f1 s1.memory x → Goes X P (finish (target X) S.target s2 t2) x
     end_goes t t2 hk h mo ty few hd x e fl ge = go t t2 hk h mo ty few hd e
       where
-        by_likewise : (t t2 : Term) → TermAs (Homes B) (To At) t t2 → is_drop t ≡ false → TermMoves H1 t → TermTy X.source H1 t → FewTerm X.source t → finish X.source H1 s1 t ≡ Some x → Goes X P (finish (target X) S.target s2 t2) x
+        by_likewise : (t t2 : Term) → TermAs (Homes B) (To At) t t2 → is_drop t ≡ false → TermMoves H1 t → TermTy X.source H1 t → ArgsTerm X.source t → finish X.source H1 s1 t ≡ Some x → Goes X P (finish (target X) S.target s2 t2) x
         by_likewise t t2 h nd mo ty few e = own.same_step_goes X P V Inv frames n s2 s1 r [] s1.callers refl lo be S Q left refl first refl refl X.body1 eb (λ h x y v e q. (st.only h x y e).0) (λ h x y lt e. (let z = (st.only h x y e).0 in omega (arith, z, lt))) t t2 x few (likewise t t2 h nd mo ty) e fl ge
 
-        go : (t t2 : Term) → ((k : TypedBlock) → slice_get X.body1.blocks s1.top.block ≡ Some k → (k.term ≡ t) × (slice_get k.stmts s1.top.at ≡ None)) → TermAs (Homes B) (To At) t t2 → TermMoves H1 t → TermTy X.source H1 t → FewTerm X.source t → DropPlain t → finish X.source H1 s1 t ≡ Some x → Goes X P (finish (target X) S.target s2 t2) x
+        go : (t t2 : Term) → ((k : TypedBlock) → slice_get X.body1.blocks s1.top.block ≡ Some k → (k.term ≡ t) × (slice_get k.stmts s1.top.at ≡ None)) → TermAs (Homes B) (To At) t t2 → TermMoves H1 t → TermTy X.source H1 t → ArgsTerm X.source t → DropPlain t → finish X.source H1 s1 t ≡ Some x → Goes X P (finish (target X) S.target s2 t2) x
         go (Drop p u1) (Drop q u2) hk h mo ty few hd e = drop_goes (λ k ek. (let (t, z) = hk k ek in (ap is_drop t, z))) p q u1 u2 h.0 h.1 hd x e
         go (Goto u1) t2 hk h mo ty few hd e = by_likewise (Goto u1) t2 h refl mo ty few e
         go (Switch o arms u1) t2 hk h mo ty few hd e = by_likewise (Switch o arms u1) t2 h refl mo ty few e

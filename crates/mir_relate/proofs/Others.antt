@@ -22,9 +22,9 @@ use Rattle.mir_renaming.proofs.Typed.{MaybeDrop, VisitsTy, TermTy}
 use Rattle.mir_renaming.proofs.Ghosts.{Flat}
 use Rattle.mir_renaming.proofs.Agree.{whole_tight}
 use Rattle.mir_renaming.proofs.Among.{all_operand, all_operands}
-use Rattle.mir_relate.specs.Pass.{MoveOk, KnowsAll, Valids, FewArgs, FewTerm, AllMoves, StmtMoves, TermMoves, FrameLaws, Goes, Related, GentleTo}
+use Rattle.mir_relate.specs.Pass.{MoveOk, KnowsAll, Valids, AllArgs, ArgsTerm, AllMoves, StmtMoves, TermMoves, FrameLaws, Goes, Related, GentleTo}
 use Rattle.mir_renaming.proofs.Items.{OwnDrop, begun_own, DropPlain, step_parts}
-use Rattle.mir_relate.specs.Alike.{Between, GotMemory, Sides, AllSame, Reads, AllRead}
+use Rattle.mir_relate.specs.Alike.{Between, GotMemory, Sides, AllSame, Reads, AllRead, AllWhole}
 use Rattle.mir_relate.specs.Frames.{Change, target, Pass, VisitRel, DropRel, DropsRel, DestsRel, Agrees, Twin, Below}
 use Rattle.mir_relate.proofs.Alike.{number_read, all_read, integers_read}
 use Rattle.mir_relate.proofs.Kept as kept
@@ -34,6 +34,7 @@ use Rattle.mir_relate.proofs.Near as near
 use Rattle.mir_relate.proofs.Itself as itself
 use Rattle.mir_relate.proofs.Visits as visits
 use Rattle.mir_relate.proofs.Leaves.{some_val}
+use Rattle.mir_relate.proofs.Wholes.{all_whole}
 use Rattle.mir_relate.proofs.Stacks.{knows_all}
 use Rattle.mir_relate.proofs.Enter.{goes_at, goes_by, enter_goes, enter_gentle}
 use Rattle.mir_relate.proofs.Returns.{closed2, closed1, return_goes}
@@ -123,13 +124,13 @@ module _ (X : Change) (P : Pass) (V : Valids X) (Inv : State → Type 0) (laws :
       answered_goes _ _ answers answers u _ _ x ge (ap (λ t'. record { outside = o; args = ns; answer = None } ∷ t') r.core.base.trace) refl
       (λ m q. left_store X P V Inv laws G j s2 s1 s2.top s1.top r.core.base r.core.linked al ag be ks m2 m1 m d1 d2 at nil nil h hd ty (tt, tt) q) e
 
-  call_goes : (m2 m1 : Memory) (u : ℕ) (d2 d1 : Dest) (g : Callee) (os : List Operand) (vs ws : List Value) (at : Tree) (x : Next) → GentleTo X G s1.top.frame s1.memory x → FewArgs X.source g os → length vs ≡ length os → Left m2 m1 → DestRel j d1 d2 → AddrTy D G d1.addr at → AllSame j vs ws → call X.source s1 m1 (to_block u s1.top) d1 g vs ≡ Some x → Goes X P (call (target X) s2 m2 (to_block u s2.top) d2 g ws) x
+  call_goes : (m2 m1 : Memory) (u : ℕ) (d2 d1 : Dest) (g : Callee) (os : List Operand) (vs ws : List Value) (at : Tree) (x : Next) → GentleTo X G s1.top.frame s1.memory x → AllArgs X.source g os → length vs ≡ length os → Left m2 m1 → DestRel j d1 d2 → AddrTy D G d1.addr at → AllSame j vs ws → AllWhole vs → call X.source s1 m1 (to_block u s1.top) d1 g vs ≡ Some x → Goes X P (call (target X) s2 m2 (to_block u s2.top) d2 g ws) x
   unfolding call
-  call_goes m2 m1 u d2 d1 (callee.Local g) os vs ws at x ge few long h hd ty hv e =
+  call_goes m2 m1 u d2 d1 (callee.Local g) os vs ws at x ge few long h hd ty hv wh e =
       enter_goes X P V Inv laws G j s2 s1 m2 m1 r.core.base h.0 (to_block u s2.top) (to_block u s1.top) (Some d2) (Some d1) ks
       (below_this m2 m1 (to_block u s2.top) (to_block u s1.top) (Some d2) (Some d1) refl refl refl refl (twin_at X P V Inv laws G j s2 s1 s2.top s1.top r.core.base r.core.linked al ag be ks u 0 None None tt) (agrees_left X P V Inv laws G j s2 s1 s2.top s1.top r.core.base r.core.linked al ag be ks m2 m1 h) hd h (enter_gentle X G s1.top.frame s1.memory s1 m1 (to_block u s1.top) g.0 vs (Some d1) x r.core.base.top1 e ge))
-      vs ws hv g.0 x (λ b eb. (let f = few b eb in omega (arith, f, long))) e
-  call_goes m2 m1 u d2 d1 (callee.Outside o) os vs ws at x ge few long h hd ty hv e =
+      vs ws hv wh g.0 x (λ b eb. long ∙ few b eb) e
+  call_goes m2 m1 u d2 d1 (callee.Outside o) os vs ws at x ge few long h hd ty hv wh e =
       let (out, e1, k1) = bind_some e in
       let (ns, e2, k2) = bind_some k1 in
       goes_by X P _ _ x (some_bind _ e1 (some_bind _ (numbers_same j vs ws ns hv.0 e2) (ap (λ an. ask D s2 m2 (to_block u s2.top) d2 o.0 ns out.result an) r.core.base.answers))) (ask_goes m2 m1 u d2 d1 o.0 ns out.result at s1.answers x ge h hd ty k2)
@@ -242,7 +243,7 @@ module _ (X : Change) (P : Pass) (V : Valids X) (Inv : State → Type 0) (laws :
     begun_goes p u None (Some e') d p1 dr q = absurd dr
     begun_goes p u (Some d') None d p1 dr q = absurd dr
 
-    finish_goes : (t : Term) (x : Next) → FewTerm X.source t → TermMoves H1 t → TermTy X.source H1 t → DropPlain t → finish X.source H1 s1 t ≡ Some x → Flat x → GentleTo X G s1.top.frame s1.memory x → Goes X P (finish (target X) H2 s2 t) x
+    finish_goes : (t : Term) (x : Next) → ArgsTerm X.source t → TermMoves H1 t → TermTy X.source H1 t → DropPlain t → finish X.source H1 s1 t ≡ Some x → Flat x → GentleTo X G s1.top.frame s1.memory x → Goes X P (finish (target X) H2 s2 t) x
     unfolding finish closed2 closed1
     finish_goes (Goto u) x fw ok ty hd e fl ge = to_block_goes s2.memory s1.memory u x ge start e
     finish_goes (Switch o arms u) x fw ok ty hd e fl ge =
@@ -252,7 +253,7 @@ module _ (X : Change) (P : Pass) (V : Valids X) (Inv : State → Type 0) (laws :
     finish_goes Return x fw ok ty hd e fl ge =
         let (v, e1, k1) = bind_some e in
         let ((w, g1, rel), at) = text.read_at_rel D bo.locals bo.locals s1.top.frame s2.top.frame j j low s2.memory s1.memory (local_addr s1.top.frame 0) (local_addr s2.top.frame 0) v zero r.core.linked.mem e1 in
-        goes_by X P _ _ x (some_bind _ g1 refl) (return_goes X P V Inv laws n s2 s1 r (λ h x y v e q. (al.only h x y e).0) (λ h x y lt e. (let same = (al.only h x y e).0 in omega (arith, same, lt))) be bo eb v w x (rel, whole_tight j v w rel (read_at_whole s1.memory (local_addr s1.top.frame 0) v e1)) (read_at_whole s1.memory (local_addr s1.top.frame 0) v e1) k1 fl ge)
+        goes_by X P _ _ x (some_bind _ g1 refl) (return_goes X P V Inv laws n s2 s1 r (λ h x y v e q. (al.only h x y e).0) (λ h x y lt e. (let same = (al.only h x y e).0 in omega (arith, same, lt))) be bo eb v w x (rel, whole_tight j v w rel (read_at_whole s1.memory (local_addr s1.top.frame 0) v e1)) e1 k1 fl ge)
       where
         zero : AddrRel j (local_addr s1.top.frame 0) (local_addr s2.top.frame 0)
         zero = zero_rel j s1.top.frame s2.top.frame (al.roots 0)
@@ -267,14 +268,14 @@ module _ (X : Change) (P : Pass) (V : Valids X) (Inv : State → Type 0) (laws :
         let (d2, g1, dr) = kept.dest_as D bo.locals bo.locals s1.top.frame s2.top.frame j j low G bok lok Q keeps s2.memory s1.memory p p d (place_as p) first e1 in
         let (q', g2, hv, h) = all_read S Q os os (reads_all os ok) s2.memory s1.memory q first e2 in
         let at = dest_ty D G bok bo.locals s1.top.frame lok s1.memory p t d r.typed1.mem pt e1 in
-        goes_by X P _ _ x (some_bind _ g1 (some_bind _ g2 refl)) (call_goes q'.1 q.1 u d2 d g os q.0 q'.0 t x ge fw (read_long H1 os s1.memory q e2) (left q'.1 q.1 h) dr at hv k2)
+        goes_by X P _ _ x (some_bind _ g1 (some_bind _ g2 refl)) (call_goes q'.1 q.1 u d2 d g os q.0 q'.0 t x ge fw (read_long H1 os s1.memory q e2) (left q'.1 q.1 h) dr at hv (all_whole H1 s1.memory os q e2) k2)
     finish_goes (Assert o c words os u) x fw ok ty hd e fl ge =
         let (q, e1, k1) = bind_some e in
         let (q', g1, same, h) = number_read S Q o o (reads_one o ok.0) s2.memory s1.memory q first e1 in
         goes_by X P _ _ x (some_bind _ g1 (ap (λ i. check H2 s2 q'.1 (nat_eq i (flag c)) words os u) (sym same))) (check_goes q'.1 q.1 (nat_eq q.0 (flag c)) words os u x ge h ok.1 k1)
 
     -- a statement, or the terminator
-    perform_goes : (t : Term) (o : Option TypedStmt) (x : Next) → FewTerm X.source t → TermMoves H1 t → TermTy X.source H1 t → DropPlain t → ((st : TypedStmt) → o ≡ Some st → StmtMoves H1 st × StmtTy D G bok bo.locals s1.top.frame lok st) → perform X.source H1 s1 t o ≡ Some x → Flat x → GentleTo X G s1.top.frame s1.memory x → Goes X P (perform (target X) H2 s2 t o) x
+    perform_goes : (t : Term) (o : Option TypedStmt) (x : Next) → ArgsTerm X.source t → TermMoves H1 t → TermTy X.source H1 t → DropPlain t → ((st : TypedStmt) → o ≡ Some st → StmtMoves H1 st × StmtTy D G bok bo.locals s1.top.frame lok st) → perform X.source H1 s1 t o ≡ Some x → Flat x → GentleTo X G s1.top.frame s1.memory x → Goes X P (perform (target X) H2 s2 t o) x
     unfolding perform
     perform_goes t None x fw ok ty hd st e fl ge = finish_goes t x fw ok ty hd e fl ge
     perform_goes t (Some st) x fw ok ty hd sk e fl ge =

@@ -17,18 +17,18 @@ use Rattle.mir_syntax.proofs.Binds.{bind_some, some_bind}
 use Rattle.mir_renaming.proofs.Statements.{Linked}
 use Rattle.mir_renaming.proofs.Types.{TypeMap}
 use Rattle.mir_renaming.proofs.Ghosts.{Flat}
-use Rattle.mir_relate.specs.Alike.{Between, Sides, Same, AllSame, Reads, AllRead}
+use Rattle.mir_relate.specs.Alike.{Between, Sides, Same, AllSame, Reads, AllRead, AllWhole}
 use Rattle.mir_relate.specs.Leaves.{Leaves}
 use Rattle.mir_relate.specs.Mild.{Gentle}
 use Rattle.mir_relate.specs.Frames.{Change, target, Pass, lowest, Below, Core}
-use Rattle.mir_relate.specs.Pass.{KnowsAll, Valids, FewArgs, FewTerm, GentleTo, FrameLaws, Goes, Related}
+use Rattle.mir_relate.specs.Pass.{KnowsAll, Valids, AllArgs, ArgsTerm, GentleTo, FrameLaws, Goes, Related}
 use Rattle.mir_relate.proofs.Alike.{number_read, all_read, integers_read}
 use Rattle.mir_relate.proofs.Stacks.{knows_all, knows_later, below_kept}
 use Rattle.mir_relate.proofs.Enter.{goes_at, goes_by, enter_goes, enter_gentle}
 use Rattle.mir_relate.proofs.Mild.{gentle_less, gentle_on}
 use Rattle.mir_relate.proofs.Returns.{return_goes, closed1, closed2}
 use Rattle.mir_relate.proofs.Others.{read_long, numbers_same}
-use Rattle.mir_relate.proofs.Wholes.{read_at_whole}
+use Rattle.mir_relate.proofs.Wholes.{read_at_whole, all_whole}
 
 -- the lowest control of a group, whatever the place of the highest
 low_frame : (c c' : Control) (gs : List Control) → c'.frame ≡ c.frame → (lowest c' gs).frame ≡ (lowest c gs).frame
@@ -162,11 +162,11 @@ module _ (X : Change) (P : Pass) (V : Valids X) (Inv : State → Type 0) (laws :
     below_this : (A : Memory → Type 0) (m2 m1 : Memory) → A m1 → (u2 u1 : ℕ) (d2 d1 : Dest) → Q m2 m1 → GoalIf A d2 d1 u2 u1 → Gentle D G s1.top.frame m1 s1.memory → Below X P j (Some d2) (Some d1) s2.next s1.next (to_block u2 s2.top ∷ s2.callers) (to_block u1 s1.top ∷ s1.callers) m2 m1
     below_this A m2 m1 am u2 u1 d2 d1 q gl ge = inr (to_block u1 s1.top, gs, ds, ap (λ cs. to_block u1 s1.top ∷ cs) split, r.core.base.top1, r.core.base.top2, low_at (to_block u1 s1.top) refl, gl.waits m2 m1 q am, below_at m2 m1 (to_block u2 s2.top) (to_block u1 s1.top) refl refl refl refl (left m2 m1 q) ge)
 
-    call_goes : (A : Memory → Type 0) (m2 m1 : Memory) → A m1 → (u2 u1 : ℕ) (d2 d1 : Dest) (g : Callee) (os : List Operand) (vs ws : List Value) (x : Next) → GentleTo X G s1.top.frame s1.memory x → FewArgs X.source g os → length vs ≡ length os → Q m2 m1 → GoalIf A d2 d1 u2 u1 → AllSame j vs ws → call X.source s1 m1 (to_block u1 s1.top) d1 g vs ≡ Some x → Goes X P (call (target X) s2 m2 (to_block u2 s2.top) d2 g ws) x
+    call_goes : (A : Memory → Type 0) (m2 m1 : Memory) → A m1 → (u2 u1 : ℕ) (d2 d1 : Dest) (g : Callee) (os : List Operand) (vs ws : List Value) (x : Next) → GentleTo X G s1.top.frame s1.memory x → AllArgs X.source g os → length vs ≡ length os → Q m2 m1 → GoalIf A d2 d1 u2 u1 → AllSame j vs ws → AllWhole vs → call X.source s1 m1 (to_block u1 s1.top) d1 g vs ≡ Some x → Goes X P (call (target X) s2 m2 (to_block u2 s2.top) d2 g ws) x
     unfolding call
-    call_goes A m2 m1 am u2 u1 d2 d1 (callee.Local g) os vs ws x ge few long q gl hv e =
-        enter_goes X P V Inv laws G j s2 s1 m2 m1 r.core.base (left m2 m1 q).0 (to_block u2 s2.top) (to_block u1 s1.top) (Some d2) (Some d1) knows (below_this A m2 m1 am u2 u1 d2 d1 q gl (enter_gentle X G s1.top.frame s1.memory s1 m1 (to_block u1 s1.top) g.0 vs (Some d1) x r.core.base.top1 e ge)) vs ws hv g.0 x (λ b eb. (let f = few b eb in omega (arith, f, long))) e
-    call_goes A m2 m1 am u2 u1 d2 d1 (callee.Outside o) os vs ws x ge few long q gl hv e =
+    call_goes A m2 m1 am u2 u1 d2 d1 (callee.Local g) os vs ws x ge few long q gl hv wh e =
+        enter_goes X P V Inv laws G j s2 s1 m2 m1 r.core.base (left m2 m1 q).0 (to_block u2 s2.top) (to_block u1 s1.top) (Some d2) (Some d1) knows (below_this A m2 m1 am u2 u1 d2 d1 q gl (enter_gentle X G s1.top.frame s1.memory s1 m1 (to_block u1 s1.top) g.0 vs (Some d1) x r.core.base.top1 e ge)) vs ws hv wh g.0 x (λ b eb. long ∙ few b eb) e
+    call_goes A m2 m1 am u2 u1 d2 d1 (callee.Outside o) os vs ws x ge few long q gl hv wh e =
         let (out, e1, k1) = bind_some e in
         let (ns, e2, k2) = bind_some k1 in
         goes_by X P _ _ x (some_bind _ e1 (some_bind _ (numbers_same j vs ws ns hv.0 e2) (ap (λ an. ask D s2 m2 (to_block u2 s2.top) d2 o.0 ns out.result an) r.core.base.answers))) (ask_goes A m2 m1 am u2 u1 d2 d1 o.0 ns out.result s1.answers x ge q gl k2)
@@ -189,7 +189,7 @@ module _ (X : Change) (P : Pass) (V : Valids X) (Inv : State → Type 0) (laws :
           go [] e q b = subst (λ cs. Below X P j s2.top.dest s1.top.dest s2.top.frame s1.top.frame s2.callers cs s2.memory s1.memory) (sym q) b
           go (g ∷ gs) e q b = absurd (grind arith)
 
-      pub step_if_goes : (t u : Term) (x : Next) → FewTerm X.source t → SameStepIf t u → finish X.source S.source s1 t ≡ Some x → Flat x → GentleTo X G s1.top.frame s1.memory x → Goes X P (finish (target X) S.target s2 u) x
+      pub step_if_goes : (t u : Term) (x : Next) → ArgsTerm X.source t → SameStepIf t u → finish X.source S.source s1 t ≡ Some x → Flat x → GentleTo X G s1.top.frame s1.memory x → Goes X P (finish (target X) S.target s2 u) x
       unfolding finish closed1 closed2
       step_if_goes (Goto u1) (Goto u2) x few h e fl ge = to_goes s2.memory s1.memory u2 u1 x ge first h e
       step_if_goes (Switch o arms1 u1) (Switch p arms2 u2) x few (ho, he) e fl ge =
@@ -200,19 +200,19 @@ module _ (X : Change) (P : Pass) (V : Valids X) (Inv : State → Type 0) (laws :
           let (v, e1, k1) = bind_some e in
           let (w, g1, hv) = h.1 v e1 in
           goes_by X P _ _ x (some_bind _ g1 (ap (λ i. return_to D s2 (close_frame s2.memory i) s2.top.dest s2.callers w) frame2))
-          (return_goes X P V Inv laws n s2 s1 r only none (alone h.0) bo eb v w x hv (read_at_whole s1.memory (local_addr S.source.frame 0) v e1) (ap (λ i. return_to D s1 (close_frame s1.memory i) s1.top.dest s1.callers v) (sym frame1) ∙ k1) fl ge)
+          (return_goes X P V Inv laws n s2 s1 r only none (alone h.0) bo eb v w x hv (subst (λ i. read_at s1.memory (local_addr i 0) ≡ Some v) frame1 e1) (ap (λ i. return_to D s1 (close_frame s1.memory i) s1.top.dest s1.callers v) (sym frame1) ∙ k1) fl ge)
       step_if_goes Unreachable u x few h e fl ge = absurd (grind arith)
       step_if_goes (Call p g os u1) (Call p' g' ps u2) x few (hg, ho, hd) e fl ge =
           let (d1, e1, k1) = bind_some e in
           let (a, e2, k2) = bind_some k1 in
           let (d2, g1, gl) = hd d1 e1 in
           let (a', g2, hv, q) = all_read S Q os ps ho s2.memory s1.memory a first e2 in
-          goes_by X P _ _ x (some_bind _ g1 (some_bind _ g2 (ap (λ g. call (target X) s2 a'.1 (to_block u2 s2.top) d2 g a'.0) (sym hg)))) (call_goes (Spent os) a'.1 a.1 (a.0, e2) u2 u1 d2 d1 g os a.0 a'.0 x ge few (read_long S.source os s1.memory a e2) q gl (subst (λ i. AllSame i a.0 a'.0) lent hv) k2)
+          goes_by X P _ _ x (some_bind _ g1 (some_bind _ g2 (ap (λ g. call (target X) s2 a'.1 (to_block u2 s2.top) d2 g a'.0) (sym hg)))) (call_goes (Spent os) a'.1 a.1 (a.0, e2) u2 u1 d2 d1 g os a.0 a'.0 x ge few (read_long S.source os s1.memory a e2) q gl (subst (λ i. AllSame i a.0 a'.0) lent hv) (all_whole S.source s1.memory os a e2) k2)
       step_if_goes (Assert o c words os u1) (Assert p c' words' ps u2) x few (hp, hc, hw, ho, he) e fl ge =
           let (a, e1, k1) = bind_some e in
           let (a', g1, same, q) = number_read S Q o p hp s2.memory s1.memory a first e1 in
           goes_by X P _ _ x (some_bind _ g1 (ap₂ (λ c words. check S.target s2 a'.1 (nat_eq a'.0 (flag c)) words ps u2) (sym hc) (sym hw) ∙ ap (λ i. check S.target s2 a'.1 (nat_eq i (flag c)) words ps u2) (sym same))) (check_goes a'.1 a.1 (nat_eq a.0 (flag c)) words os ps u2 u1 x ge q ho (λ z. he a.0 z a'.1 a.1 q e1) k1)
       step_if_goes t u x few h e fl ge = absurd h
 
-      pub same_step_goes : (t u : Term) (x : Next) → FewTerm X.source t → SameStep t u → finish X.source S.source s1 t ≡ Some x → Flat x → GentleTo X G s1.top.frame s1.memory x → Goes X P (finish (target X) S.target s2 u) x
+      pub same_step_goes : (t u : Term) (x : Next) → ArgsTerm X.source t → SameStep t u → finish X.source S.source s1 t ≡ Some x → Flat x → GentleTo X G s1.top.frame s1.memory x → Goes X P (finish (target X) S.target s2 u) x
       same_step_goes t u x few h e fl ge = step_if_goes t u x few (same_step_if t u h) e fl ge

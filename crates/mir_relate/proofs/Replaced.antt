@@ -27,7 +27,7 @@ use Rattle.valid_runs.proofs.Codes.{valid_code, body_there, body_back}
 use Rattle.valid_runs.proofs.Starts.{args_plain, start_typed}
 use Rattle.valid_runs.proofs.Shown.{Known, start_known}
 use Rattle.mir_relate.proofs.Needs.{needs_ok}
-use Rattle.mir_relate.proofs.Rules.{deref_indirect, plain, calm_sets, bodies_other, headers_set, calls_few, one_destroyed, few_entry}
+use Rattle.mir_relate.proofs.Rules.{deref_indirect, plain, calm_sets, bodies_other, headers_set, calls_all, one_destroyed, all_entry}
 use Rattle.mir_relate.specs.Frames.{Change, target, Pass}
 use Rattle.mir_relate.proofs.BodyLaw.{law}
 
@@ -106,7 +106,7 @@ module _ (C : Crate) (valid : Valid C) (f : ℕ) (g : TypedFunction) (there : sl
     plain = plain C valid;
     stmts = stmts_ok;
     terms = terms_ok;
-    calls = calls_few C valid;
+    calls = calls_all C valid;
     destroys = one_destroyed C valid;
   }
 
@@ -128,7 +128,7 @@ module _ (C : Crate) (valid : Valid C) (f : ℕ) (g : TypedFunction) (there : sl
   replaced P laws =
       let v1 = valid_code C valid in
       let apart = apart_in C valid in
-      law change P valids Runs laws crate2 C refl same_code refl refl same_headers (λ e k. args_plain (code_of C) e k) (λ e k. few_entry C e k)
+      law change P valids Runs laws crate2 C refl same_code refl refl same_headers (λ e k. args_plain (code_of C) e k) (λ e k. all_entry C valid e k)
       (λ e k answers. start_known (code_of C) apart v1 e k answers (start_typed (code_of C) v1 (shapes_tupled C) e k answers))
       (λ e k answers. start_typed (code_of C) v1 (shapes_tupled C) e k answers)
       (λ e k answers. start_typed (target change) valids.valid2 (shapes_tupled C) e (subst (λ K. IsEntry K e) same_code (is_entry crate2 C refl same_headers e k)) answers)

@@ -5,11 +5,11 @@ use Rattle.mir_syntax.specs.Shapes.{Shape}
 use Rattle.mir_syntax.specs.Crate.{TypedBody}
 use Rattle.mir_semantics.specs.Values.{Value, whole}
 use Rattle.mir_semantics.specs.Memory.{Memory, local_at, close_frame}
-use Rattle.mir_semantics.specs.Step.{Dest, Control, State, returned, Next, stop, return_to}
+use Rattle.mir_semantics.specs.Step.{Dest, Control, State, returned, Next, stop, local_addr, read_at, return_to}
 use Rattle.mir_renaming.specs.Renaming.{Renaming}
 use Rattle.mir_syntax.proofs.Binds.{bind_some, some_bind}
 use Rattle.mir_renaming.proofs.Statements.{Linked}
-use Rattle.mir_renaming.proofs.Types.{TypeMap, AddrTy}
+use Rattle.mir_renaming.proofs.Types.{TypeMap, AddrTy, HasTy, read_at_ty}
 use Rattle.mir_renaming.proofs.Typed.{FrameTy, FramesTy, MaybeDrop}
 use Rattle.mir_renaming.proofs.Frames.{close_other}
 use Rattle.mir_renaming.proofs.Ghosts.{plain_same, Flat}
@@ -18,6 +18,7 @@ use Rattle.mir_relate.specs.Alike.{Same}
 use Rattle.mir_relate.specs.Frames.{Change, Pass, DestsRel, Agrees, Twin, Below, Base}
 use Rattle.mir_relate.specs.Pass.{KnowsAll, Valids, GentleTo, FrameLaws, Goes, Related}
 use Rattle.mir_relate.proofs.Leaves.{some_val, leaves_close}
+use Rattle.mir_relate.proofs.Wholes.{read_at_whole}
 use Rattle.mir_relate.proofs.Opens.{linked_close}
 use Rattle.mir_relate.proofs.Mild.{gentle_same, gentle_on, gentle_closed}
 use Rattle.mir_relate.proofs.Stacks.{knows_all, below_kept}
@@ -80,9 +81,16 @@ module _ (X : Change) (P : Pass) (V : Valids X) (Inv : State → Type 0) (laws :
     dest_typed : (d : Dest) → s1.top.dest ≡ Some d → (t : Tree) × AddrTy D G d.addr t
     dest_typed d e = let (t, rt) = V.valid1.result s1.top.function bo eb in (t, r.typed1.top.dest d e bo eb t rt)
 
-    pub return_goes : (v w : Value) (x : Next) → Same j v w → whole v ≡ true → return_to D s1 closed1 s1.top.dest s1.callers v ≡ Some x → Flat x → GentleTo X G s1.top.frame s1.memory x → Goes X P (return_to D s2 closed2 s2.top.dest s2.callers w) x
+    result_typed : (v : Value) → read_at s1.memory (local_addr s1.top.frame 0) ≡ Some v → (d : Dest) → s1.top.dest ≡ Some d → (t : Tree) × AddrTy D G d.addr t × HasTy D G t v
+    unfolding local_addr
+    result_typed v rd d e =
+        let (t, rt) = V.valid1.result s1.top.function bo eb in
+        let lok = r.typed1.top.locals bo eb in
+        (t, r.typed1.top.dest d e bo eb t rt, read_at_ty D G (V.valid1.blank_ok G) bo.locals s1.top.frame lok s1.memory (record { frame = s1.top.frame; local = 0; path = [] }) t v r.typed1.mem (record { local = t; is = lok 0 t rt; path = refl }) rd)
+
+    pub return_goes : (v w : Value) (x : Next) → Same j v w → read_at s1.memory (local_addr s1.top.frame 0) ≡ Some v → return_to D s1 closed1 s1.top.dest s1.callers v ≡ Some x → Flat x → GentleTo X G s1.top.frame s1.memory x → Goes X P (return_to D s2 closed2 s2.top.dest s2.callers w) x
     unfolding return_to closed2 closed1
-    return_goes v w x hv wh e fl ge = go s2.callers refl (below_closed s2.callers s1.callers s2.top.dest s1.top.dest ks be)
+    return_goes v w x hv rd e fl ge = go s2.callers refl (below_closed s2.callers s1.callers s2.top.dest s1.top.dest ks be)
       where
         ended : (cs1 : List Control) → cs1 ≡ [] → return_to D s1 closed1 s1.top.dest cs1 v ≡ Some x → Goes X P (Some (stop (returned w))) x
         ended [] p e =
@@ -97,4 +105,4 @@ module _ (X : Change) (P : Pass) (V : Valids X) (Inv : State → Type 0) (laws :
             (back_goes c2 c1 cs2 ds s2.top.dest s1.top.dest v w x (subst (KnowsAll X G) q ks) (subst (FramesTy X.source V.valid1 G) q r.typed1.callers).0 (subst (Owns X.source) q r.drops.callers) dest_typed l1 l2 a g dr b hv (gentle_closed X G s1.top.frame c1.frame s1.memory x l1 ge) (subst (λ cs. return_to D s1 closed1 s1.top.dest cs v ≡ Some x) q e))
         go (c2 ∷ cs2) p (inr (c1, gs, ds, q, l1, l2, lo, wt, b)) =
             goes_by X P _ _ x (ap (λ cs. return_to D s2 closed2 s2.top.dest cs w) p)
-            (laws.resumes n s2 s1 r closed2 closed1 c2 c1 gs ds cs2 v w x q p refl refl linked_closed wt b l1 l2 lo dest_typed hv wh (subst (λ cs. return_to D s1 closed1 s1.top.dest cs v ≡ Some x) q e) (gentle_closed X G s1.top.frame c1.frame s1.memory x l1 ge))
+            (laws.resumes n s2 s1 r closed2 closed1 c2 c1 gs ds cs2 v w x q p refl refl linked_closed wt b l1 l2 lo dest_typed hv (record { no_hole = read_at_whole s1.memory (local_addr s1.top.frame 0) v rd; typed = result_typed v rd }) (subst (λ cs. return_to D s1 closed1 s1.top.dest cs v ≡ Some x) q e) (gentle_closed X G s1.top.frame c1.frame s1.memory x l1 ge))

@@ -1,5 +1,5 @@
 -- What the layer asks of the rules, in a valid crate.
-use Rattle.std.proofs.Common.{◌≡◌, refl, sym, ap, ◌∙◌, subst, ℕ, zero, suc, ◌≤◌, Bool, true, false, List, [], ◌∷◌, length, take, drop, map, set, Some, slice_get, arith}
+use Rattle.std.proofs.Common.{◌≡◌, refl, sym, ap, ◌∙◌, subst, ℕ, zero, suc, ◌<◌, ◌≤◌, Bool, true, false, List, [], ◌∷◌, length, take, drop, map, set, Some, slice_get, arith}
 use Rattle.mir_syntax.specs.declared.body.Proj.{Proj}
 use Rattle.mir_syntax.specs.declared.body.Proj.TheVariants.{Field, Downcast, Deref}
 use Rattle.mir_syntax.specs.declared.body.Place.{Place}
@@ -19,7 +19,7 @@ use Rattle.mir_syntax.proofs.Binds.{bind_some}
 use Rattle.mir_rules.proofs.Lists.{and_true-right}
 use Rattle.mir_rules.proofs.Statements.{Sets}
 use Rattle.mir_rules.proofs.Terminators.{OwnTyped}
-use Rattle.mir_rules.proofs.ValidCrates.{stmt_at, term_at}
+use Rattle.mir_rules.proofs.ValidCrates.{stmt_at, term_at, args_below, body_formed_at}
 use Rattle.mir_rules.proofs.Destructors.{destructor_found}
 use Rattle.mir_semantics.specs.Values.{Value, listed}
 use Rattle.mir_semantics.specs.Step.{body_in, code_of}
@@ -28,7 +28,7 @@ use Rattle.mir_semantics.specs.Entry.{IsEntry, is_by, is_def, has_type}
 use Rattle.mir_semantics.specs.Refines.{header}
 use Rattle.mir_renaming.proofs.Items.{DropPlain}
 use Rattle.valid_runs.proofs.Codes.{body_back}
-use Rattle.mir_relate.specs.Pass.{FewTerm}
+use Rattle.mir_relate.specs.Pass.{ArgsTerm}
 
 -- ---- places without a dereference
 
@@ -70,76 +70,78 @@ module _ (C : Crate) (valid : Valid C) where
   tree_is : (a b : Tree) → Some a ≡ Some b → a ≡ b
   tree_is a b e = grind arith
 
-  few_operands : (locals : List Tree) (n : ℕ) (ls : List Tree) (os : List Operand) (us : Tree) → operands_ty (shapes_of C) locals os ≡ Some us → us ≡ tuple_of (take n ls) → length os ≤ n
+  all_operands : (locals : List Tree) (n : ℕ) (ls : List Tree) (os : List Operand) (us : Tree) → n ≤ length ls → operands_ty (shapes_of C) locals os ≡ Some us → us ≡ tuple_of (take n ls) → length os ≡ n
   unfolding operands_ty
-  few_operands locals n ls [] us e s = omega arith
-  few_operands locals zero ls (o ∷ os) us e s =
+  all_operands locals zero ls [] us l e s = refl
+  all_operands locals (suc n) [] [] us l e s = absurd (omega (arith, l))
+  all_operands locals (suc n) (u ∷ ls) [] us l e s = absurd (let z : empty ≡ more u (tuple_of (take n ls)) = tree_is empty us e ∙ s in grind arith)
+  all_operands locals zero ls (o ∷ os) us l e s =
       let (u, e1, k1) = bind_some e in
       let (vs, e2, k2) = bind_some k1 in
       absurd (let z : more u vs ≡ empty = tree_is (more u vs) us k2 ∙ s in grind arith)
-  few_operands locals (suc n) [] (o ∷ os) us e s =
+  all_operands locals (suc n) [] (o ∷ os) us l e s = absurd (omega (arith, l))
+  all_operands locals (suc n) (t ∷ ls) (o ∷ os) us l e s =
       let (u, e1, k1) = bind_some e in
       let (vs, e2, k2) = bind_some k1 in
-      absurd (let z : more u vs ≡ empty = tree_is (more u vs) us k2 ∙ s in grind arith)
-  few_operands locals (suc n) (l ∷ ls) (o ∷ os) us e s =
-      let (u, e1, k1) = bind_some e in
-      let (vs, e2, k2) = bind_some k1 in
-      let z : more u vs ≡ more l (tuple_of (take n ls)) = tree_is (more u vs) us k2 ∙ s in
-      let h = few_operands locals n ls os vs e2 (grind arith) in
-      omega (arith, h)
+      let z : more u vs ≡ more t (tuple_of (take n ls)) = tree_is (more u vs) us k2 ∙ s in
+      ap suc (all_operands locals n ls os vs (omega (arith, l)) e2 (grind arith))
 
-  own_few : (locals : List Tree) (t : Term) → OwnTyped C (shapes_of C) locals t → FewTerm (code_of C) t
-  own_few locals (Call p (callee.Local f) os t) h = λ b eb.
+  rest_long : (xs : List Tree) (n : ℕ) → n < length xs → n ≤ length (drop 1 xs)
+  rest_long [] n l = absurd (omega (arith, l))
+  rest_long (x ∷ xs) n l = omega (arith, l)
+
+  own_all : (locals : List Tree) (t : Term) → OwnTyped C (shapes_of C) locals t → ArgsTerm (code_of C) t
+  own_all locals (Call p (callee.Local f) os t) h = λ b eb.
       (let (g, e1, k1) = bind_some h.wanted in
       let (g2, at, same) = body_back C.functions f.0 b eb in
       let one : g ≡ g2 = (let z : Some g ≡ Some g2 = sym e1 ∙ at in grind arith) in
-      let l = few_operands locals g.body.args (drop 1 g.body.locals) os h.types h.operands (sym (tree_is (tuple_of (rules.args_of g.body)) h.types k1)) in
-      let q : g.body.args ≡ b.args = ap (λ (g : TypedFunction). g.body.args) one ∙ ap (λ (b : TypedBody). b.args) same in
-      omega (arith, l, q))
-  own_few locals (Call p (callee.Outside o) os t) h = tt
-  own_few locals (Goto t) h = tt
-  own_few locals (Switch o as' t) h = tt
-  own_few locals Return h = tt
-  own_few locals Unreachable h = tt
-  own_few locals (Drop p t) h = tt
-  own_few locals (Assert o e x os t) h = tt
+      let below = args_below C g.body (body_formed_at C valid f.0 g e1) in
+      let l = all_operands locals g.body.args (drop 1 g.body.locals) os h.types (rest_long g.body.locals g.body.args below) h.operands (sym (tree_is (tuple_of (rules.args_of g.body)) h.types k1)) in
+      l ∙ ap (λ (g : TypedFunction). g.body.args) one ∙ ap (λ (b : TypedBody). b.args) same)
+  own_all locals (Call p (callee.Outside o) os t) h = tt
+  own_all locals (Goto t) h = tt
+  own_all locals (Switch o as' t) h = tt
+  own_all locals Return h = tt
+  own_all locals Unreachable h = tt
+  own_all locals (Drop p t) h = tt
+  own_all locals (Assert o e x os t) h = tt
 
-  pub calls_few : (f : ℕ) (b : TypedBody) (i : ℕ) (k : TypedBlock) → slice_get (code_of C).bodies f ≡ Some b → slice_get b.blocks i ≡ Some k → FewTerm (code_of C) k.term
-  calls_few f b i k e1 e2 =
+  pub calls_all : (f : ℕ) (b : TypedBody) (i : ℕ) (k : TypedBlock) → slice_get (code_of C).bodies f ≡ Some b → slice_get b.blocks i ≡ Some k → ArgsTerm (code_of C) k.term
+  calls_all f b i k e1 e2 =
       let (g, at, same) = body_back C.functions f b e1 in
       let e2' : slice_get g.body.blocks i ≡ Some k = ap (λ (b : TypedBody). slice_get b.blocks i) same ∙ e2 in
-      own_few g.body.locals k.term (term_at C valid f i g k at e2').own
+      own_all g.body.locals k.term (term_at C valid f i g k at e2').own
 
-  pub one_destroyed : (t : Tree) (f : ℕ) (b : TypedBody) → destructor_of (shapes_of C) t ≡ Some f → slice_get (code_of C).bodies f ≡ Some b → 1 ≤ b.args
+  pub one_destroyed : (t : Tree) (f : ℕ) (b : TypedBody) → destructor_of (shapes_of C) t ≡ Some f → slice_get (code_of C).bodies f ≡ Some b → 1 ≡ b.args
   one_destroyed (named d) f b e eb =
       let (g, at, is) = destructor_found C d f e in
       let (g2, at2, same) = body_back C.functions f b eb in
       let one : g ≡ g2 = (let z : Some g ≡ Some g2 = sym at ∙ at2 in grind arith) in
-      let q : b.args ≡ 1 = sym (ap (λ (g : TypedFunction). g.body.args) one ∙ ap (λ (b : TypedBody). b.args) same) ∙ is.args in
-      omega (arith, q)
+      sym is.args ∙ ap (λ (g : TypedFunction). g.body.args) one ∙ ap (λ (b : TypedBody). b.args) same
   one_destroyed (scalar s) f b e eb = absurd (grind arith)
   one_destroyed empty f b e eb = absurd (grind arith)
   one_destroyed (more t u) f b e eb = absurd (grind arith)
   one_destroyed (ref t) f b e eb = absurd (grind arith)
   one_destroyed (ref_mut t) f b e eb = absurd (grind arith)
 
--- an entry has no more arguments than its function
-few_values : (of_def : ℕ → Value → Bool) (n : ℕ) (ls : List Tree) (vs : List Value) → is_by of_def (tuple_of (take n ls)) (listed vs) ≡ true → length vs ≤ n
-few_values of_def n ls [] e = omega arith
-few_values of_def zero ls (v ∷ vs) e = absurd (grind arith)
-few_values of_def (suc n) [] (v ∷ vs) e = absurd (grind arith)
-few_values of_def (suc n) (l ∷ ls) (v ∷ vs) e =
-    let h = few_values of_def n ls vs (and_true-right (is_by of_def l v) (is_by of_def (tuple_of (take n ls)) (listed vs)) e) in
-    omega (arith, h)
+-- an entry has the arguments of its function
+all_values : (of_def : ℕ → Value → Bool) (n : ℕ) (ls : List Tree) (vs : List Value) → n ≤ length ls → is_by of_def (tuple_of (take n ls)) (listed vs) ≡ true → length vs ≡ n
+all_values of_def zero ls [] l e = refl
+all_values of_def zero ls (v ∷ vs) l e = absurd (grind arith)
+all_values of_def (suc n) [] vs l e = absurd (omega (arith, l))
+all_values of_def (suc n) (t ∷ ls) [] l e = absurd (grind arith)
+all_values of_def (suc n) (t ∷ ls) (v ∷ vs) l e = ap suc (all_values of_def n ls vs (omega (arith, l)) (and_true-right (is_by of_def t v) (is_by of_def (tuple_of (take n ls)) (listed vs)) e))
 
-few_typed : (D : List Shape) (n : ℕ) (ls : List Tree) (vs : List Value) → has_type D (tuple_of (drop 1 (take (suc n) ls))) (listed vs) ≡ true → length vs ≤ n
+all_typed : (D : List Shape) (n : ℕ) (ls : List Tree) (vs : List Value) → n < length ls → has_type D (tuple_of (drop 1 (take (suc n) ls))) (listed vs) ≡ true → length vs ≡ n
 unfolding has_type
-few_typed D n [] [] e = omega arith
-few_typed D n [] (v ∷ vs) e = absurd (grind arith)
-few_typed D n (l ∷ ls) vs e = few_values (is_def D (length D)) n ls vs e
+all_typed D n [] vs l e = absurd (omega (arith, l))
+all_typed D n (t ∷ ls) vs l e = all_values (is_def D (length D)) n ls vs (omega (arith, l)) e
 
-pub few_entry : (C : Crate) (e : Entry) (k : IsEntry (code_of C) e) → length e.args ≤ k.body.args
-few_entry C e k = few_typed (shapes_of C) k.body.args k.body.locals e.args k.typed
+pub all_entry : (C : Crate) → Valid C → (e : Entry) (k : IsEntry (code_of C) e) → length e.args ≡ k.body.args
+all_entry C valid e k =
+    let (g, at, same) = body_back C.functions e.function k.body k.there in
+    let below : k.body.args < length k.body.locals = subst (λ (b : TypedBody). b.args < length b.locals) same (args_below C g.body (body_formed_at C valid e.function g at)) in
+    all_typed (shapes_of C) k.body.args k.body.locals e.args below k.typed
 
 -- ---- the list of functions with another in a place
 

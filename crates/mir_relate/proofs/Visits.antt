@@ -180,7 +180,7 @@ module _ (X : Change) (P : Pass) (V : Valids X) (Inv : State → Type 0) (G : Ty
     visit_goes d e i k is js v w (Some g) x eg r tg h vs ty pl rel f q =
         enter_goes X P V Inv laws G j s2 s1 s2.memory s1.memory base l (record s2.top { dropping = Some (record e { items = k ∷ js }) }) (record s1.top { dropping = Some (record d { items = i ∷ is }) }) None None ks
         (holds (record d { items = i ∷ is }) (record e { items = k ∷ js }) (record { place = r.place; items = (h, vs) }) tg)
-        (pointer i.addr ∷ []) (pointer k.addr ∷ []) ((h.addr, tt), (tt, tt)) g x (λ b eb. V.destroys i.ty g b eg eb) q
+        (pointer i.addr ∷ []) (pointer k.addr ∷ []) ((h.addr, tt), (tt, tt)) (refl, tt) g x (λ b eb. V.destroys i.ty g b eg eb) q
 
     unless_goes : (d e : Dropping) (i k : Visit) (is js : List Visit) (v w : Value) (c : Bool) (x : Next) → Visiting j d e → T d.target e.target → VisitRel j i k → VisitsRel j is js → AddrTy D G d.place.addr d.place.ty → d.place.addr.frame ≡ c1.frame → ValueRel j v w → (is_hole v ≡ true → is_hole w ≡ true) → visit_unless X.source s1 d i is v c ≡ Some x → Goes X P (visit_unless (target X) s2 e k js w c) x
     unfolding visit_unless

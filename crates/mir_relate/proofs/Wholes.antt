@@ -1,5 +1,5 @@
 -- What is read and evaluated has no holes.
-use Rattle.std.proofs.Common.{◌≡◌, refl, sym, subst, ℕ, Bool, true, false, if◌then◌else◌, List, [], ◌∷◌, Some, slice_get}
+use Rattle.std.proofs.Common.{◌≡◌, refl, sym, subst, ℕ, Bool, true, false, if◌then◌else◌, List, [], ◌∷◌, Some, slice_get, arith}
 use Rattle.mir_syntax.specs.declared.body.Const.{Const}
 use Rattle.mir_syntax.specs.declared.body.Const.TheVariants as constant
 use Rattle.mir_syntax.specs.declared.body.Operand.{Operand}
@@ -8,13 +8,15 @@ use Rattle.mir_syntax.specs.Tree.{Tree}
 use Rattle.mir_syntax.specs.Shapes.{Shape}
 use Rattle.mir_syntax.specs.Crate.{TypedRvalue, «use», binary, overflow, unary, cast, discriminant, tuple, build}
 use Rattle.mir_syntax.specs.Crate as rvalue
-use Rattle.mir_semantics.specs.Values.{Addr, Value, variant, listed, whole, blank}
+use Rattle.mir_semantics.specs.Values.{Addr, Value, number, nil, cons, variant, pointer, hole, listed, whole, blank}
 use Rattle.mir_semantics.specs.Memory.{Memory}
 use Rattle.mir_semantics.specs.Step.{Here, const_value, read_at, read, read_all, built, built_by, eval}
 use Rattle.mir_syntax.proofs.Binds.{bind_some}
-use Rattle.std.proofs.lemmas.Bool.{and_from}
+use Rattle.std.proofs.lemmas.Bool.{and_from, and_parts}
+use Rattle.mir_renaming.proofs.Ghosts.{is_plain, AllPlain}
 use Rattle.mir_renaming.proofs.Statements.{only_true}
 use Rattle.mir_renaming.proofs.Types.{TypeMap, HasTy, BuiltTy, RvalueTy}
+use Rattle.mir_relate.specs.Alike.{AllWhole}
 use Rattle.mir_relate.proofs.Leaves.{some_val}
 
 pub read_at_whole : (m : Memory) (a : Addr) (v : Value) → read_at m a ≡ Some v → whole v ≡ true
@@ -33,9 +35,18 @@ const_whole constant.Unit = refl
 is_whole : (v : Value) (m : Memory) (r : Value × Memory) → Some (v, m) ≡ Some r → whole v ≡ true → whole r.0 ≡ true
 is_whole v m r e h = subst (λ (r : Value × Memory). whole r.0 ≡ true) (some_val e) h
 
-abbrev AllWhole : List Value → Type 0
-AllWhole [] = Unit {0}
-AllWhole (v ∷ vs) = (whole v ≡ true) × AllWhole vs
+plain_whole : (v : Value) → is_plain v ≡ true → whole v ≡ true
+plain_whole (number n) h = refl
+plain_whole nil h = refl
+plain_whole (cons v vs) h = (let (a, b) = and_parts (is_plain v) (is_plain vs) h in and_from (whole v) (whole vs) (plain_whole v a) (plain_whole vs b))
+plain_whole (variant k v) h = plain_whole v h
+plain_whole (pointer a) h = absurd (grind arith)
+plain_whole hole h = absurd (grind arith)
+
+-- what refers to nothing has none
+pub all_plain : (vs : List Value) → AllPlain vs → AllWhole vs
+all_plain [] h = tt
+all_plain (v ∷ vs) h = (plain_whole v h.0, all_plain vs h.1)
 
 listed_whole : (vs : List Value) → AllWhole vs → whole (listed vs) ≡ true
 listed_whole [] h = refl
@@ -55,7 +66,7 @@ module _ (H : Here) where
       is_whole v _ r k3 (read_at_whole m a v e2)
   read_whole m (operand.Const c) r e = is_whole (const_value c) m r e (const_whole c)
 
-  all_whole : (m : Memory) (os : List Operand) (r : List Value × Memory) → read_all H m os ≡ Some r → AllWhole r.0
+  pub all_whole : (m : Memory) (os : List Operand) (r : List Value × Memory) → read_all H m os ≡ Some r → AllWhole r.0
   unfolding read_all
   all_whole m [] r e = subst (λ (r : List Value × Memory). AllWhole r.0) (some_val e) tt
   all_whole m (o ∷ os) r e =

@@ -1,10 +1,10 @@
 -- Text of two frames that does alike to memories in a relation. This project's own.
-use Rattle.std.specs.Prelude.{◌≡◌, List, [], ◌∷◌, Option, Some}
+use Rattle.std.specs.Prelude.{◌≡◌, ℕ, true, List, [], ◌∷◌, length, Option, Some}
 use Rattle.mir_syntax.specs.declared.body.Place.{Place}
 use Rattle.mir_syntax.specs.declared.body.Operand.{Operand}
 use Rattle.mir_syntax.specs.Crate.{TypedRvalue, «use», binary, overflow, unary, cast, discriminant, tuple, build, TypedStmt}
 use Rattle.mir_syntax.specs.Crate as rvalue
-use Rattle.mir_semantics.specs.Values.{Addr, Value}
+use Rattle.mir_semantics.specs.Values.{Addr, Value, whole}
 use Rattle.mir_semantics.specs.Memory.{Memory, value_at}
 use Rattle.mir_semantics.specs.Step.{Here, Dest, resolve, dest_of, store, read, scalar_ty_of, eval, exec}
 use Rattle.mir_renaming.specs.Renaming.{Renaming, ValueRel, SomeRel, AddrThere}
@@ -35,6 +35,16 @@ Same j v w = ValueRel j v w × Tight v w
 
 abbrev pub AllSame : Renaming → List Value → List Value → Type 0
 AllSame j vs ws = ValuesRel j vs ws × Tights vs ws
+
+-- no value has a hole
+abbrev pub AllWhole : List Value → Type 0
+AllWhole [] = Unit {0}
+AllWhole (v ∷ vs) = (whole v ≡ true) × AllWhole vs
+
+-- arguments of a call, all of them
+pub record Arguments (count : ℕ) (vs : List Value) : Type 0 where
+  pub whole : AllWhole vs
+  pub all : length vs ≡ count
 
 -- the operand of the target reads what that of the source reads
 pub record Reads (X : Sides) (Q : Between) (o p : Operand) : Type 0 where

@@ -64,6 +64,10 @@ fn labelled(
 }
 
 /// The fields of a struct or a variant. S10 is noted where a name stands twice, and S12 where the path of a type isn't known.
+///
+/// # Errors
+///
+/// `OutOfMemory`.
 pub fn read_fields(
     alloc: Global,
     strings: &Names,
@@ -94,6 +98,10 @@ fn form(fields: &FieldsText) -> Form
 }
 
 /// A variant of an enum, or the one variant of a struct, whose name is empty.
+///
+/// # Errors
+///
+/// `OutOfMemory`.
 pub fn read_variant(
     alloc: Global,
     strings: &Names,
@@ -136,6 +144,10 @@ fn read_variants(
 }
 
 /// The bytes of a path.
+///
+/// # Errors
+///
+/// `OutOfMemory`.
 pub fn copy_path(
     alloc: Global,
     buffer: &mut List<u8>,
@@ -150,6 +162,10 @@ pub fn copy_path(
 }
 
 /// A struct. Faults are noted as for its fields.
+///
+/// # Errors
+///
+/// `OutOfMemory`.
 pub fn read_struct(
     alloc: Global,
     strings: &Names,
@@ -175,6 +191,10 @@ pub fn read_struct(
 }
 
 /// An enum. S10 is noted where the name of a variant stands twice, and faults of each variant's fields.
+///
+/// # Errors
+///
+/// `OutOfMemory`.
 pub fn read_enum(
     alloc: Global,
     strings: &Names,

@@ -34,6 +34,7 @@ impl Noted {
         Noted { first: None }
     }
 
+    /// The first of the faults that were noted, if any was.
     pub fn first(&self) -> Option<NameFault>
         ensures { option_map (λ f. (f.line, f.code)) result ≡ self.now }
     {

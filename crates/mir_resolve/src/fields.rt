@@ -19,6 +19,11 @@ use mir_syntax::{Field, List, Name, OutOfMemory, Program, TyId};
 use mir_tree::{FieldText, TypeText};
 use std::alloc::Global;
 
+/// A name of these bytes.
+///
+/// # Errors
+///
+/// `OutOfMemory`.
 pub fn copy_name(alloc: Global, bytes: &[u8]) -> Result<Name, OutOfMemory>
     ensures { IfOk result (λ name. name ≡ bytes.now) }
 {
@@ -27,6 +32,7 @@ pub fn copy_name(alloc: Global, bytes: &[u8]) -> Result<Name, OutOfMemory>
     Ok(name)
 }
 
+/// Whether both are so; both were looked at before.
 pub fn both(a: bool, b: bool) -> bool
     ensures { result ≡ (a && b) }
 {
@@ -34,6 +40,10 @@ pub fn both(a: bool, b: bool) -> bool
 }
 
 /// The fields of a tuple struct or variant, which have no names, and whether each path in their types is known.
+///
+/// # Errors
+///
+/// `OutOfMemory`.
 #[tactic(auto, using(crate::proofs::Growing::grown_then, crate::proofs::Growing::grown_same))]
 pub fn tuple_fields(
     alloc: Global,
@@ -64,6 +74,10 @@ pub fn tuple_fields(
 }
 
 /// Reads a type, and notes S12 where a path in it isn't known.
+///
+/// # Errors
+///
+/// `OutOfMemory`.
 pub fn read_noted(
     alloc: Global,
     strings: &Names,
@@ -89,6 +103,10 @@ pub fn read_noted(
 }
 
 /// The fields in braces, with S12 noted where the path of a type isn't known.
+///
+/// # Errors
+///
+/// `OutOfMemory`.
 #[tactic(auto, using(crate::proofs::Growing::grown_then, crate::proofs::Growing::grown_same))]
 pub fn labelled_fields(
     alloc: Global,

@@ -21,6 +21,10 @@ use mir_tree::{Items, PathText, TypeText};
 use std::alloc::Global;
 
 /// The types of a list, and whether each path in them is known.
+///
+/// # Errors
+///
+/// `OutOfMemory`.
 #[tactic(auto, using(crate::proofs::Growing::grown_then, crate::proofs::Growing::grown_same))]
 pub fn read_ids(
     alloc: Global,
@@ -48,6 +52,10 @@ pub fn read_ids(
 }
 
 /// An outside function. S12 is noted where the path of a type isn't known.
+///
+/// # Errors
+///
+/// `OutOfMemory`.
 pub fn read_outside(
     alloc: Global,
     strings: &Names,

@@ -72,6 +72,10 @@ impl PathIndex {
     }
 
     /// Puts a text at the end. Where there is no memory the index is spent.
+    ///
+    /// # Errors
+    ///
+    /// `OutOfMemory`.
     pub fn with(self, text: &[u8]) -> Result<Added, OutOfMemory>
         ensures index { IfOk result (λ added. added.index ≡ self ++ text.now ∷ []) }
         ensures stood { IfOk result (λ added. added.stood ≡ stands_in self text.now) }

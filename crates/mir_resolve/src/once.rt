@@ -11,6 +11,10 @@ use mir_tree::{FieldText, VariantText};
 use std::alloc::Global;
 
 /// Adds a text to those that stood before it, and says whether it is a new one.
+///
+/// # Errors
+///
+/// `OutOfMemory`.
 pub fn is_new(seen: &mut Names, text: &[u8]) -> Result<bool, OutOfMemory>
     ensures new { IfOk result (λ new. new ≡ not (stands_in seen.old text.now)) }
     ensures seen { OnOk result (SameTexts seen.new (text.now ∷ seen.old)) }
@@ -26,6 +30,10 @@ pub fn is_new(seen: &mut Names, text: &[u8]) -> Result<bool, OutOfMemory>
 }
 
 /// Whether no name of a field stands twice.
+///
+/// # Errors
+///
+/// `OutOfMemory`.
 pub fn fields_once(
     alloc: Global,
     strings: &Names,
@@ -45,6 +53,10 @@ pub fn fields_once(
 }
 
 /// Whether no name of a variant stands twice.
+///
+/// # Errors
+///
+/// `OutOfMemory`.
 pub fn variants_once(
     alloc: Global,
     strings: &Names,

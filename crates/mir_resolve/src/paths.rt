@@ -17,6 +17,10 @@ pub fn string_of<'a>(strings: &'a Names, number: u32) -> &'a [u8]
 }
 
 /// Puts `::` and a name behind what a buffer holds.
+///
+/// # Errors
+///
+/// `OutOfMemory`.
 pub fn put_name(buffer: &mut List<u8>, strings: &Names, number: u32) -> Result<(), OutOfMemory>
     ensures { OnOk result (buffer.new ≡ buffer.old ++ (codes "::" ++ string_at strings.now number)) }
 {
@@ -25,6 +29,10 @@ pub fn put_name(buffer: &mut List<u8>, strings: &Names, number: u32) -> Result<(
 }
 
 /// Puts the bytes of a path into a buffer, in place of what it held.
+///
+/// # Errors
+///
+/// `OutOfMemory`.
 pub fn put_names(
     buffer: &mut List<u8>,
     strings: &Names,
@@ -44,6 +52,10 @@ pub fn put_names(
 }
 
 /// Puts the bytes of a path into a buffer, in place of what it held.
+///
+/// # Errors
+///
+/// `OutOfMemory`.
 pub fn put_path(buffer: &mut List<u8>, strings: &Names, path: &PathText) -> Result<(), OutOfMemory>
     ensures { OnOk result (buffer.new ≡ path_bytes strings.now (path_rule path.now)) }
 {

@@ -223,6 +223,10 @@ fn top(
 
 /// Reads a type into the table of a program (Rust Reference, types). A path that names no struct or enum stands for a definition that isn't
 /// there, and is told by `known`.
+///
+/// # Errors
+///
+/// `OutOfMemory`.
 #[tactic(auto, using(crate::proofs::Growing::grown_then, crate::proofs::Growing::grown_same))]
 pub fn read_type(
     alloc: Global,

@@ -19,6 +19,10 @@ const GRAMMAR_NAMES: [&[u8]; 8] = [
 ];
 
 /// The number of a byte string among those seen, or else the next number.
+///
+/// # Errors
+///
+/// `OutOfMemory`.
 pub fn number_of(seen: &mut Names, bytes: &[u8]) -> Result<u32, OutOfMemory>
     requires { length seen.old < 2 ^ 32 - 1 }
     ensures number { IfOk result (λ n. n ≡ number_in seen.old bytes.now) }
@@ -44,6 +48,10 @@ fn number_all(seen: &mut Names, mut texts: &[&[u8]]) -> Result<(), OutOfMemory>
 }
 
 /// The names that the grammar looks for, by their numbers.
+///
+/// # Errors
+///
+/// `OutOfMemory`.
 pub fn first_names(alloc: Global) -> Result<Names, OutOfMemory>
     ensures { IfOk result (λ seen. seen ≡ grammar_names) }
 {

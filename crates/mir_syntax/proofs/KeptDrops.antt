@@ -7,6 +7,7 @@ use Rattle.mir_syntax.specs.declared.types.FnId.{FnId}
 use Rattle.mir_syntax.specs.declared.types.TyId.{TyId}
 use Rattle.mir_syntax.specs.declared.types.Ty.{Ty}
 use Rattle.mir_syntax.specs.declared.types.Ty.TheVariants.{Scalar, Tuple, Ref, RefMut, Named}
+use Rattle.mir_syntax.specs.declared.types.ScalarTy.{ScalarTy}
 use Rattle.mir_syntax.specs.declared.types.ScalarTy.TheVariants as scalar_ty
 use Rattle.mir_syntax.specs.Tree.{Tree, scalar, ref_mut, named, at_id, node, trees_of, Stands}
 use Rattle.mir_syntax.specs.Table.{IsTable}
@@ -78,3 +79,16 @@ ref_mut-there types id there table below stands = found (slice_get types there.0
         let one : Some (node (trees_of types) ty) ≡ Some (ref_mut (at_id (trees_of types) id)) = sym (Stands-at types there.0 ty table is) ∙ stands in
         let same : node (trees_of types) ty ≡ node (trees_of types) (RefMut id) = cc in
         ap Some (node-injective types ty (RefMut id) table (ids_below-more there.0 (length types) (omega (arith, here)) ty (table.made there.0 ty is)) (search rules) same)
+
+pub scalar-there : (types : List Ty) (s : ScalarTy) (there : TyId) → IsTable types → Stands types there (scalar s) → slice_get types there.0 ≡ Some (Scalar s)
+scalar-there types s there table stands = found (slice_get types there.0) refl
+  where
+    here : there.0 < length types
+    here = let in_trees = slice_get_within (trees_of types) there.0 (scalar s) stands in omega (arith, in_trees, length-trees_of types)
+
+    found : (o : Option Ty) → slice_get types there.0 ≡ o → o ≡ Some (Scalar s)
+    found None none = absurd (past types there.0 none here)
+    found (Some ty) is =
+        let one : Some (node (trees_of types) ty) ≡ Some (scalar s) = sym (Stands-at types there.0 ty table is) ∙ stands in
+        let same : node (trees_of types) ty ≡ node (trees_of types) (Scalar s) = cc in
+        ap Some (node-injective types ty (Scalar s) table (ids_below-more there.0 (length types) (omega (arith, here)) ty (table.made there.0 ty is)) (search rules) same)

@@ -1,5 +1,5 @@
 -- What is an element of a list, by the list's first element.
-use Rattle.std.proofs.Common.{◌≡◌, ◌⊎◌, inl, inr, refl, ℕ, zero, suc, ◌+◌, ◌<◌, List, [], ◌∷◌, length, arith}
+use Rattle.std.proofs.Common.{◌≡◌, ◌⊎◌, inl, inr, refl, ℕ, zero, suc, List, [], ◌∷◌, arith}
 use Rattle.std.specs.List.{Contains}
 
 pub has_first : (x : ℕ) (xs : List ℕ) → Contains (x ∷ xs) x

@@ -7,3 +7,4 @@ pub mod Ids
 pub mod Shapes
 pub mod Drops
 pub mod Parts
+pub mod Flat

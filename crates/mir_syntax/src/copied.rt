@@ -12,7 +12,7 @@ pub trait Copied: Drop {
         ensures { IfOk result (λ copy. copy ≡ self.now) };
 }
 
-fn copy_all<T: Copied>(alloc: Global, items: &[T]) -> Result<List<T>, OutOfMemory>
+pub(crate) fn copy_all<T: Copied>(alloc: Global, items: &[T]) -> Result<List<T>, OutOfMemory>
     ensures { IfOk result (λ copy. copy ≡ items.now) }
 {
     let mut copy = List::with_capacity(alloc, items.len())?;
@@ -29,6 +29,12 @@ impl<T: Copied> Copied for List<T> {
 }
 
 impl Copied for u8 {
+    fn copied(&self, _alloc: Global) -> Result<Self, OutOfMemory> {
+        Ok(*self)
+    }
+}
+
+impl Copied for usize {
     fn copied(&self, _alloc: Global) -> Result<Self, OutOfMemory> {
         Ok(*self)
     }
@@ -151,6 +157,10 @@ impl Copied for Block {
 
 impl Body {
     /// An equal body.
+    ///
+    /// # Errors
+    ///
+    /// `OutOfMemory`.
     pub fn copy(&self, alloc: Global) -> Result<Body, OutOfMemory>
         ensures { IfOk result (λ copy. copy ≡ self.now) }
     {

@@ -1,11 +1,11 @@
 ghost use Rattle.std.specs.Prelude.{◌≡◌, ◌<◌, map, length, option_map};
-ghost use Rattle.mir_syntax.specs.Tree.{ref_mut, at_id, trees_of, Stands};
+ghost use Rattle.mir_syntax.specs.Tree.{scalar, ref_mut, at_id, trees_of, Stands};
 ghost use Rattle.mir_syntax.specs.declared.types.TyId.{TyId};
 ghost use Rattle.mir_syntax.specs.Crate.{crate_of};
 ghost use Rattle.mir_syntax.specs.Shapes.{shapes_of, needs_drop, destructor_of};
 ghost use Rattle.mir_syntax.specs.Drops.{fn_number, own_destructor, KnowsDrops};
 
-use crate::types::{FnId, Ty, TyId};
+use crate::types::{FnId, ScalarTy, Ty, TyId};
 use crate::{List, Program};
 
 /// What a program keeps of its drops, so that nobody has to search for it.
@@ -64,6 +64,18 @@ impl Program {
         match self.types.find(&Ty::RefMut(id)) {
             Some(at) => TyId(at),
             None => id,
+        }
+    }
+
+    /// The id of a scalar type.
+    pub fn scalar_id(&self, ty: ScalarTy) -> TyId
+        requires { (there : TyId) × Stands self.now.types there (scalar ty) }
+        ensures stands { at_id (trees_of self.now.types) result ≡ scalar ty }
+        ensures in_table { result.0 < length self.now.types }
+    {
+        match self.types.find(&Ty::Scalar(ty)) {
+            Some(at) => TyId(at),
+            None => TyId(0),
         }
     }
 }

@@ -29,6 +29,10 @@ impl Program {
 
     /// The id of a type. Equal types have one id, found in expected constant time; a new one comes at the end of the table.
     /// Where there is no memory, the type is spent and the program is as it was.
+    ///
+    /// # Errors
+    ///
+    /// `OutOfMemory`.
     pub fn intern(&mut self, ty: Ty) -> Result<TyId, OutOfMemory>
         requires made { IsTrue (ids_below (length self.old.types) ty) }
         requires room { length self.old.types < 2 ^ 32 - 1 }

@@ -4,7 +4,8 @@
 //! by the type that it stands for (`specs/Tree.antt`), so the order of the table is no part of a program. The main contracts are
 //! `Program::intern` and `Program::ty` (equal types have one id, and an id keeps its type), `Program::place_ty` (the type of a place,
 //! by `specs/Shapes.antt`), `Program::needs_drop` and `destructor` (what validation found, `specs/Drops.antt`) and `Body::copy`
-//! (an equal body). `specs/Parts.antt` says which operands, places and targets statements and terminators write down.
+//! (an equal body); a `FlatBody` is a body in one table of statements (`specs/Flat.antt`). `specs/Parts.antt` says which operands, places and
+//! targets statements and terminators write down.
 #![tactic(auto)]
 
 ghost use Rattle.std.specs.Prelude.{◌≡◌};
@@ -12,6 +13,7 @@ ghost use Rattle.std.specs.Prelude.{◌≡◌};
 mod body;
 mod copied;
 mod drops;
+mod flat_body;
 mod intern;
 mod lines;
 mod list;
@@ -30,6 +32,7 @@ pub use body::{
 };
 pub use copied::Copied;
 pub use drops::DropFacts;
+pub use flat_body::FlatBody;
 pub use lines::{BlockLines, FnLines, Lines};
 pub use list::List;
 pub use number::Number;

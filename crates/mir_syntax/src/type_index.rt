@@ -87,6 +87,7 @@ fn slot(ty: &Ty, slots: usize) -> usize
 }
 
 impl TypeIndex {
+    /// The index of a table without types.
     pub fn new(alloc: Global) -> TypeIndex
         ensures { IsIndex [] result.heads.items result.next.items }
     {
@@ -118,6 +119,7 @@ impl TypeIndex {
         None
     }
 
+    /// Whether there are no more chains than `len`, so that the index has to grow before a type joins.
     pub fn is_full(&self, len: usize) -> bool
         ensures { IsTrue result ↔ (length self.now.heads.items ≤ len) }
     {
@@ -139,6 +141,10 @@ impl TypeIndex {
     }
 
     /// An index of the same types with room for twice as many.
+    ///
+    /// # Errors
+    ///
+    /// `OutOfMemory`.
     pub fn grown(&self, types: &[Ty]) -> Result<TypeIndex, OutOfMemory>
         requires small { length types.now < 2 ^ 32 - 1 }
         ensures index { IfOk result (λ index. IsIndex types.now index.heads.items index.next.items) }

@@ -27,6 +27,7 @@ impl Model for TypeTable {
 }
 
 impl TypeTable {
+    /// A table without types.
     pub fn new(alloc: Global) -> TypeTable
         ensures { result ≡ [] }
     {
@@ -36,12 +37,14 @@ impl TypeTable {
         }
     }
 
+    /// All types, in the order in which they came.
     pub fn as_slice(&self) -> &[Ty]
         ensures { result.now ≡ self.now }
     {
         self.types.as_slice()
     }
 
+    /// The type at a place, if there is one.
     pub fn get(&self, index: usize) -> Option<&Ty>
         ensures { option_copied result ≡ slice_get self.now index }
     {
@@ -59,6 +62,10 @@ impl TypeTable {
     }
 
     /// The place of the type, which is put at the end where it stood nowhere.
+    ///
+    /// # Errors
+    ///
+    /// `OutOfMemory`.
     pub fn place(&mut self, ty: Ty) -> Result<u32, OutOfMemory>
         requires { length self.old < 2 ^ 32 - 1 }
         ensures found { IfOk result (λ at. slice_get self.new at ≡ Some ty) }

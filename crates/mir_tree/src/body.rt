@@ -1,6 +1,7 @@
 use crate::{Items, Lined, OperandText, PathText, PlaceText, RvalueText};
 use mir_syntax::List;
 
+/// A statement, without its semicolon.
 #[derive(Debug, Drop)]
 pub enum StmtText {
     Assign(PlaceText, RvalueText),
@@ -25,6 +26,7 @@ pub struct ArmText {
     pub block: u32,
 }
 
+/// A terminator, without its semicolon.
 #[derive(Debug, Drop)]
 pub enum TermText {
     Goto(u32),
@@ -37,6 +39,7 @@ pub enum TermText {
     Assert(bool, OperandText, u32, List<OperandText>, u32, UnwindText),
 }
 
+/// `bb : { .. }`: its label, its statements and its terminator, each with its line.
 #[derive(Debug, Drop)]
 pub struct BlockText {
     pub label: u32,

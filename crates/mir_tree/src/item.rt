@@ -16,6 +16,7 @@ pub enum FieldsText {
     Labelled(Items<FieldText>),
 }
 
+/// A variant of an enum: its name, by its number, and its fields.
 #[derive(Debug, Drop)]
 pub struct VariantText {
     pub name: u32,
@@ -29,6 +30,7 @@ pub struct ArgText {
     pub ty: TypeText,
 }
 
+/// A function with a body.
 #[derive(Debug, Drop)]
 pub struct FnText {
     pub inline: Inline,
@@ -41,6 +43,7 @@ pub struct FnText {
     pub blocks: List<BlockText>,
 }
 
+/// An item of a file.
 #[derive(Debug, Drop)]
 pub enum ItemText {
     Struct(PathText, FieldsText),
@@ -50,6 +53,7 @@ pub enum ItemText {
     Function(FnText),
 }
 
+/// A whole file: its items, each with its line.
 #[derive(Debug, Drop)]
 pub struct FileText {
     pub items: List<Lined<ItemText>>,

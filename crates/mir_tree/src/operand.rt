@@ -12,6 +12,7 @@ pub enum ProjText {
     VariantField(u32, u32, TypeText),
 }
 
+/// A place: a local, and the steps behind it.
 #[derive(Debug, Drop)]
 pub struct PlaceText {
     pub local: u32,
@@ -19,6 +20,7 @@ pub struct PlaceText {
     pub projs: List<ProjText>,
 }
 
+/// What stands behind `const`.
 #[derive(Clone, Copy, Debug, Drop)]
 pub enum ValueText {
     /// Whether a minus stands before it, its type, and its size.
@@ -31,6 +33,7 @@ pub enum ValueText {
     Most(IntTy),
 }
 
+/// An operand.
 #[derive(Debug, Drop)]
 pub enum OperandText {
     Copy(PlaceText),

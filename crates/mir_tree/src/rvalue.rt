@@ -16,6 +16,7 @@ pub enum BuildText {
     Labelled(Items<NamedText>),
 }
 
+/// What stands on the right of an assignment.
 #[derive(Debug, Drop)]
 pub enum RvalueText {
     Use(OperandText),

@@ -46,6 +46,10 @@ fn add_references(program: &mut Program) -> Result<(), OutOfMemory>
 }
 
 /// Puts `bool`, `isize`, `()` and `&mut` of each type into the table.
+///
+/// # Errors
+///
+/// `OutOfMemory`.
 pub fn complete_types(alloc: Global, program: &mut Program) -> Result<(), OutOfMemory>
     requires room { length program.old.types < 2 ^ 30 }
     ensures grown { Grown program.old program.new }

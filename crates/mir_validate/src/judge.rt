@@ -19,6 +19,10 @@ use std::alloc::Global;
 
 /// Completes the table of types, keeps in the program what is known of its drops, and tells the rule that is answered: on the first line,
 /// and there the one of least code. `None` exactly where the program breaks none.
+///
+/// # Errors
+///
+/// `OutOfMemory`.
 pub fn judge(
     alloc: Global,
     program: &mut Program,

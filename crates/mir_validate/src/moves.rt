@@ -18,6 +18,7 @@ pub struct Moves {
 }
 
 impl Moves {
+    /// Nothing is broken.
     pub fn none() -> Moves
         ensures through { result.through ≡ false }
         ensures indirectly { result.indirectly ≡ false }
@@ -28,6 +29,7 @@ impl Moves {
         }
     }
 
+    /// What either breaks.
     pub fn or(self, other: Moves) -> Moves
         ensures through { result.through ≡ (self.through || other.through) }
         ensures indirectly { result.indirectly ≡ (self.indirectly || other.indirectly) }
@@ -66,6 +68,7 @@ impl Inside<'_> {
         }
     }
 
+    /// What an operand breaks if it is a move.
     pub fn operand_moves(&self, operand: &Operand) -> Moves
         requires formed { IsTrue (operand_whole operand.now) }
         ensures through { result.through ≡ moves_through_destructor (shapes self.now.program.now) (local_types self.now.program.now self.now.body.now) operand.now }

@@ -12,6 +12,7 @@ use crate::inside::Inside;
 use mir_syntax::{Field, Operand, Place, TyId};
 
 impl Inside<'_> {
+    /// Whether a projection of a place doesn't fit.
     pub fn place_untyped(&self, place: &Place) -> bool
         requires formed { IsTrue (path_formed place.now.proj) }
         ensures { result ≡ place_untyped (shapes self.now.program.now) (local_types self.now.program.now self.now.body.now) place.now }
@@ -19,6 +20,7 @@ impl Inside<'_> {
         self.place_ty(place).is_none()
     }
 
+    /// Whether a projection in an operand doesn't fit its place.
     pub fn operand_untyped(&self, operand: &Operand) -> bool
         requires formed { IsTrue (operand_whole operand.now) }
         ensures { result ≡ operand_untyped (shapes self.now.program.now) (local_types self.now.program.now self.now.body.now) operand.now }

@@ -194,6 +194,10 @@ fn written_fault(lines: &Lines) -> Option<Broken>
 
 /// What is answered of all that a program breaks: the rule on the first line, and on one line the one of least code. `None` exactly where
 /// it breaks none.
+///
+/// # Errors
+///
+/// `OutOfMemory`.
 pub fn first_rule(
     alloc: Global,
     program: &Program,

@@ -339,6 +339,10 @@ impl Inside<'_> {
     }
 
     /// The first rule that a terminator breaks.
+    ///
+    /// # Errors
+    ///
+    /// `OutOfMemory`.
     pub fn terminator_code(&self, alloc: Global, term: &Term) -> Result<Option<u8>, OutOfMemory>
         requires formed { IsTrue (term_whole term.now) }
         requires callee { IsTrue (call_formed (crate_of self.now.program.now) term.now) }

@@ -122,6 +122,10 @@ fn find_fault(alloc: Global, program: &mut Program, lines: &Lines) -> Result<(),
 
 /// Tests all rules and limits. The program that is handed back names the same crate, and its earlier ids keep their types; a valid one has in its
 /// table `bool`, `isize`, `()` and `&mut` of each type that it had.
+///
+/// # Errors
+///
+/// `Refused`: the program, and as its fault the rule that is broken, the limit that is passed, or `OutOfMemory`.
 pub fn validate(alloc: Global, mut program: Program, lines: &Lines) -> Result<Valid, Refused>
     requires ids { IdsInTable program }
     requires formed { IsTrue (is_formed (crate_of program)) }

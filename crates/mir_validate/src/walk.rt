@@ -64,6 +64,10 @@ impl Inside<'_> {
     }
 
     /// What is answered of all that blocks break.
+    ///
+    /// # Errors
+    ///
+    /// `OutOfMemory`.
     pub fn blocks_fault(
         &self,
         alloc: Global,
@@ -91,6 +95,10 @@ impl Inside<'_> {
 
     /// What is answered of all that the body breaks: the rule on the first line, and on one line the one of least code. `None` exactly where it
     /// breaks none. The lines are those of the function in the lines of the whole program.
+    ///
+    /// # Errors
+    ///
+    /// `OutOfMemory`.
     pub fn body_fault(&self, alloc: Global, lines: &FnLines) -> Result<Option<Broken>, OutOfMemory>
         requires formed { IsTrue (body_formed (crate_of self.now.program.now) (typed self.now.program.now self.now.body.now)) }
         ensures { IfOk result (λ found. (all : LinesData) (f : ℕ) → slice_get all.functions f ≡ Some lines.now → IsTrue (same_lengths block_fits lines.now.blocks (typed self.now.program.now self.now.body.now).blocks)

@@ -1,7 +1,7 @@
 -- What is told, from what was read and written.
-use Rattle.std.proofs.Common.{◌≡◌, ◌∙◌, ℕ, List, [], ◌∷◌, codes, Option, Some, None, Result, Ok, Err, inl, inr, refl, sym, ap, subst}
+use Rattle.std.proofs.Common.{◌≡◌, ◌∙◌, ℕ, List, [], ◌∷◌, codes, Option, Some, None, inl, inr, refl, sym, ap, ap₂, subst, ◌≤◌, arith}
 use Rattle.std.proofs.lemmas.List.{append-nil}
-use Rattle.std.specs.Prelude.{IfErr, IsErrAnd}
+use Rattle.std.proofs.lemmas.Fmt.{decimal_injective}
 use Rattle.std.specs.Io.KnownBytes.{Appends}
 use Rattle.mir_syntax.specs.declared.lines.Lines.{Lines}
 use Rattle.mir_syntax.specs.declared.number.Number.{Number}
@@ -13,16 +13,13 @@ use Rattle.pass_order.specs.Passes.{optimised}
 use Rattle.pass_order.specs.Stages.{HasStep}
 use Rattle.crate_run.specs.Ran.{IsRunText, IsNoEntry}
 use Rattle.pipe_words.specs.declared.command.Command.{Command}
-use Rattle.pipe_words.specs.declared.command.Command.TheVariants.{Check, Seq, Run, Dump}
+use Rattle.pipe_words.specs.declared.command.Command.TheVariants.{Check, Seq, Run, Dump, Gen}
 use Rattle.pipe_words.specs.Commands.{Says, IsMisfit}
 use Rattle.pipe_words.specs.Stages.{IsStage}
 use Rattle.mirpipe_cli.specs.declared.fault.InputFault.{InputFault}
-use Rattle.mirpipe_cli.specs.declared.fault.InputFault.TheVariants.{Long, Text, Rule, Limit, Drops, NoFunction, NoEntry}
-use Rattle.mirpipe_cli.specs.declared.fault.Refusal.{Refusal}
-use Rattle.mirpipe_cli.specs.declared.fault.Refusal.TheVariants.{ReadFault, OutOfMemory, Input}
 use Rattle.mirpipe_cli.specs.FirstDrop.{first_drop}
-use Rattle.mirpipe_cli.specs.Refused.{IsAccepted, IsFaulty, OfInput, IsNoDrop}
-use Rattle.mirpipe_cli.specs.Answer.{done, refused, word_fault, RefusesRun, RefusesDump, Refuses, Writes, AsksSteps, Answers, IsOptimised}
+use Rattle.mirpipe_cli.specs.Refused.{IsAccepted}
+use Rattle.mirpipe_cli.specs.Answer.{done, refused, word_fault, Refuses, Writes, CanBeDone, Answers, IsOptimised}
 use Rattle.mirpipe_cli.proofs.Refined.{passed_refines}
 
 pub appends_none : (known : Option (List ℕ)) → Appends known known []
@@ -44,6 +41,27 @@ says_seq words Check seq other = let wrong : codes "seq" ∷ [] ≡ codes "check
 says_seq words Seq seq other = refl
 says_seq words (Run name args answers count) seq (rest, e, run) = let wrong : codes "seq" ∷ [] ≡ codes "run" ∷ rest = sym seq ∙ e in absurd cc
 says_seq words (Dump stage name) seq (rest, e, dump) = let wrong : codes "seq" ∷ [] ≡ codes "dump" ∷ rest = sym seq ∙ e in absurd cc
+says_seq words (Gen start functions) seq (rest, e, gen) = let wrong : codes "seq" ∷ [] ≡ codes "gen" ∷ rest = sym seq ∙ e in absurd cc
+
+-- words that say `gen` say nothing else
+pub says_gen : (words : List (List ℕ)) (start functions : ℕ) (command : Command) → Says words (Gen start functions) → Says words command → command ≡ Gen start functions
+says_gen words start functions Check (rest, e, gen) other = let wrong : codes "gen" ∷ rest ≡ codes "check" ∷ [] = sym e ∙ other in absurd cc
+says_gen words start functions Seq (rest, e, gen) other = let wrong : codes "gen" ∷ rest ≡ codes "seq" ∷ [] = sym e ∙ other in absurd cc
+says_gen words start functions (Run name args answers count) (rest, e, gen) (behind, f, run) = let wrong : codes "gen" ∷ rest ≡ codes "run" ∷ behind = sym e ∙ f in absurd cc
+says_gen words start functions (Dump stage name) (rest, e, gen) (behind, f, dump) = let wrong : codes "gen" ∷ rest ≡ codes "dump" ∷ behind = sym e ∙ f in absurd cc
+says_gen words start functions (Gen start2 functions2) (rest, e, gen) (behind, f, gen2) =
+    let whole : codes "gen" ∷ rest ≡ codes "gen" ∷ behind = sym e ∙ f in
+    let tail : rest ≡ behind = grind (arith) in
+    let two : gen.start_word ∷ gen.functions_word ∷ [] ≡ gen2.start_word ∷ gen2.functions_word ∷ [] = sym gen.words_are ∙ tail ∙ gen2.words_are in
+    let first : gen.start_word ≡ gen2.start_word = grind (arith) in
+    let second : gen.functions_word ≡ gen2.functions_word = grind (arith) in
+    let low : start ≤ 2147483647 = gen.is_start.high in
+    let low2 : start2 ≤ 2147483647 = gen2.is_start.high in
+    let few : functions ≤ 10000 = gen.are_functions.high in
+    let few2 : functions2 ≤ 10000 = gen2.are_functions.high in
+    let starts : start2 ≡ start = decimal_injective start2 start (omega arith) (omega arith) (sym gen2.is_start.whole ∙ sym first ∙ gen.is_start.whole) in
+    let counts : functions2 ≡ functions = decimal_injective functions2 functions (omega arith) (omega arith) (sym gen2.are_functions.whole ∙ sym second ∙ gen.are_functions.whole) in
+    ap₂ Gen starts counts
 
 -- a stage that has a word has a step
 step_there : (stage : Stage) (word : List ℕ) → IsStage word stage → HasStep stage
@@ -58,11 +76,12 @@ step_there at.Merged word e = (7, refl)
 step_there at.Pruned word e = (8, refl)
 step_there at.Optimised word e = (10, refl)
 
-pub asks_steps : (words : List (List ℕ)) (command : Command) → Says words command → AsksSteps command
-asks_steps words Check says = tt
-asks_steps words Seq says = tt
-asks_steps words (Run name args answers count) says = tt
-asks_steps words (Dump stage name) (rest, e, dump) = step_there stage dump.stage_word dump.is_stage
+pub can_be_done : (words : List (List ℕ)) (command : Command) → Says words command → CanBeDone command
+can_be_done words Check says = tt
+can_be_done words Seq says = tt
+can_be_done words (Run name args answers count) says = tt
+can_be_done words (Dump stage name) (rest, e, dump) = step_there stage dump.stage_word dump.is_stage
+can_be_done words (Gen start functions) (rest, e, gen) = (gen.are_functions.low, gen.are_functions.high)
 
 -- what the passes make of an accepted crate refines it
 pub printed_refines : (input : List ℕ) (C D : Crate) (lines : Lines) → IsAccepted input C lines → first_drop lines C ≡ None → D ≡ optimised C → IsOptimised input (text D)
@@ -73,53 +92,6 @@ printed_refines input C D lines accepted no_drop same =
       written = ap text same;
       refines = passed_refines C lines accepted.accepted.valid accepted.accepted.within no_drop;
     }
-
--- ---- refusals
-
-refuses_run : (path : List ℕ) (args : List Number) (input : List ℕ) (fault : InputFault) → IsFaulty input fault × IsNoDrop fault → RefusesRun path args input fault
-refuses_run path args input Long h = h
-refuses_run path args input (Text code line) h = h
-refuses_run path args input (Rule code line) h = h
-refuses_run path args input (Limit code line) h = h
-refuses_run path args input (Drops line) h = h
-refuses_run path args input NoFunction h = absurd h.0
-refuses_run path args input NoEntry h = absurd h.0
-
-pub refuses_dump : (path input : List ℕ) (fault : InputFault) → IsFaulty input fault → RefusesDump path input fault
-refuses_dump path input Long h = h
-refuses_dump path input (Text code line) h = h
-refuses_dump path input (Rule code line) h = h
-refuses_dump path input (Limit code line) h = h
-refuses_dump path input (Drops line) h = h
-refuses_dump path input NoFunction h = absurd h
-refuses_dump path input NoEntry h = h
-
--- a fault of an input other than a `drop` is one for which each command refuses
-refuses_any : (command : Command) (input : List ℕ) (fault : InputFault) → IsFaulty input fault × IsNoDrop fault → Refuses command input fault
-refuses_any Check input fault h = h
-refuses_any Seq input fault h = h.0
-refuses_any (Run path args answers steps) input fault h = refuses_run path args input fault h
-refuses_any (Dump stage path) input fault h = refuses_dump path input fault h.0
-
-of_any : (r : Refusal) (command : Command) (input : List ℕ) → OfInput (λ fault. IsFaulty input fault × IsNoDrop fault) r → OfInput (Refuses command input) r
-of_any ReadFault command input h = h
-of_any OutOfMemory command input h = h
-of_any (Input fault) command input h = refuses_any command input fault h
-
--- what refuses an input refuses it for each command
-pub refused_any : {A : Type 0} (r : Result A Refusal) (e : Refusal) (command : Command) (input : List ℕ) → IsErrAnd r (λ x. x ≡ e) → OfInput (λ fault. IsFaulty input fault × IsNoDrop fault) e → IfErr r (OfInput (Refuses command input))
-refused_any (Ok a) e command input is h = absurd is
-refused_any (Err x) e command input is h = subst (λ r. OfInput (Refuses command input) r) (sym is) (of_any e command input h)
-
-pub refused_none : {A : Type 0} (r : Result A Refusal) (command : Command) (input : List ℕ) → IfErr r (OfInput (λ _. ⊥)) → IfErr r (OfInput (Refuses command input))
-refused_none (Ok a) command input h = h
-refused_none (Err ReadFault) command input h = h
-refused_none (Err OutOfMemory) command input h = h
-refused_none (Err (Input fault)) command input h = absurd h
-
--- what is refused for the faults of a command is refused for those of the command that it is
-pub refused_as : {A : Type 0} (r : Result A Refusal) (input : List ℕ) (command other : Command) → command ≡ other → IfErr r (OfInput (Refuses other input)) → IfErr r (OfInput (Refuses command input))
-refused_as r input command other e h = subst (λ k. IfErr r (OfInput (Refuses k input))) (sym e) h
 
 -- ---- runs
 

@@ -1,17 +1,20 @@
-ghost use Rattle.std.specs.Prelude.{◌≡◌, ◌≤◌, List, ℕ, Some, IfOk, IfErr, OnOk, IsErrOf};
+ghost use Rattle.std.specs.Prelude.{◌≡◌, ◌≤◌, ◌<◌, List, ℕ, Some, IfOk, IfErr, OnOk, IsErrOf};
 ghost use Rattle.std.specs.Io.KnownBytes.{IsAtEnd};
 ghost use Rattle.pipe_io.specs.Causes.{Rose};
 ghost use Rattle.mir_syntax.specs.Crate.{Crate, crate_of};
+ghost use Rattle.mir_text.specs.Text.{text};
 ghost use Rattle.mir_print.specs.Prints.{Prints};
-ghost use Rattle.pipe_words.specs.declared.command.Command.TheVariants.{Check, Seq, Run};
+ghost use Rattle.crate_gen.specs.Made.{made_crate};
+ghost use Rattle.pipe_words.specs.declared.command.Command.TheVariants.{Check, Seq, Run, Gen};
 ghost use Rattle.mirpipe_cli.specs.Refused.{IsAccepted, IsFaulty, OfInput};
-ghost use Rattle.mirpipe_cli.specs.Answer.{counted, AsksSteps, Writes, Refuses, IsOptimised};
+ghost use Rattle.mirpipe_cli.specs.Answer.{counted, CanBeDone, Writes, Refuses, IsOptimised};
 ghost use Rattle.mirpipe_cli.specs.Output.{bytes_of};
 
 use crate::drops::first_drop;
 use crate::dump::dump;
 use crate::fault::{InputFault, Refusal};
 use crate::load::{Accepted, load};
+use crate_gen::generate;
 use crate_run::{RunFault, run_function};
 use itoa::Buffer;
 use mir_print::{print_function, print_program};
@@ -97,30 +100,65 @@ fn run(
     }
 }
 
-/// Does the work of a command: what it writes, or why there is nothing to write. All memory is taken here.
+/// The crate that is made from a number.
+fn made(alloc: Global, start: u32, functions: u32) -> Result<Output, Refusal>
+    requires some { 0 < functions }
+    requires few { functions ≤ 10000 }
+    ensures writes { IfOk result (λ output. bytes_of output ≡ text (made_crate start functions)) }
+    ensures refused { IfErr result (λ refusal. refusal ≡ Refusal.OutOfMemory) }
+{
+    match generate(alloc, start, functions) {
+        Ok(made) => Ok(Output::Crate(made.program)),
+        Err(OutOfMemory) => Err(Refusal::OutOfMemory),
+    }
+}
+
+/// Does the work of a command: what it writes, or why there is nothing to write. All memory is taken here. The command `gen` takes nothing from
+/// the source, and each other one reads it to its end.
+///
+/// # Errors
+///
+/// `Input` with the fault for which the command refuses the input; `ReadFault`, only where the source's count of faults rose; `OutOfMemory`.
 pub fn work<S: Source>(alloc: Global, command: Command, source: &mut S) -> Result<Output, Refusal>
-    requires steps { AsksSteps command }
+    requires can { CanBeDone command }
     ensures writes { (input : List ℕ) → S.left source.old ≡ Some input → IfOk result (λ output. Writes command input (bytes_of output)) }
     ensures refines { (input : List ℕ) → S.left source.old ≡ Some input → command ≡ Seq → IfOk result (λ output. IsOptimised input (bytes_of output)) }
     ensures refused { (input : List ℕ) → S.left source.old ≡ Some input → IfErr result (OfInput (Refuses command input)) }
-    ensures at_end { OnOk result (IsAtEnd (S.left source.new)) }
+    ensures made { (start functions : ℕ) → command ≡ Gen start functions → IfOk result (λ output. bytes_of output ≡ text (made_crate start functions)) }
+    ensures made_refused { (start functions : ℕ) → command ≡ Gen start functions → IfErr result (λ refusal. refusal ≡ Refusal.OutOfMemory) }
+    ensures unread { (start functions : ℕ) → command ≡ Gen start functions → source.new ≡ source.old }
+    ensures at_end { ((start functions : ℕ) → command ≡ Gen start functions → ⊥) → OnOk result (IsAtEnd (S.left source.new)) }
     ensures later { S.faults source.old ≤ S.faults source.new }
     ensures fault { IsErrOf result Refusal.ReadFault → Rose (S.faults source.old) (S.faults source.new) }
     ensures kept { OnOk result (S.faults source.new ≡ S.faults source.old) }
     ensures kept_refused { IfErr result (OfInput (λ _. S.faults source.new ≡ S.faults source.old)) }
 {
-    let accepted = load(alloc, source)?;
     match command {
-        Command::Check => check(alloc, accepted),
-        Command::Seq => seq(alloc, accepted),
+        Command::Check => {
+            let accepted = load(alloc, source)?;
+            check(alloc, accepted)
+        }
+        Command::Seq => {
+            let accepted = load(alloc, source)?;
+            seq(alloc, accepted)
+        }
         Command::Run(path, args, answers, steps) => {
+            let accepted = load(alloc, source)?;
             run(alloc, accepted, path, args, answers, steps)
         }
-        Command::Dump(stage, path) => dump(alloc, accepted, stage, path),
+        Command::Dump(stage, path) => {
+            let accepted = load(alloc, source)?;
+            dump(alloc, accepted, stage, path)
+        }
+        Command::Gen(start, functions) => made(alloc, start, functions),
     }
 }
 
-/// Writes it. `Failed` comes only where the sink's count of faults rose, and then a front is written. No memory is taken.
+/// Writes it. No memory is taken.
+///
+/// # Errors
+///
+/// `Failed`, only where the sink's count of faults rose; a front of it is written then.
 pub fn write<K: Sink>(output: &Output, out: &mut K) -> Result<(), Failed>
     ensures { Prints (K.written out.old) (K.written out.new) (K.faults out.old) (K.faults out.new) (bytes_of output.now) result }
 {

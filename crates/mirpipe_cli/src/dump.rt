@@ -16,6 +16,10 @@ use pass_order::dumped;
 use std::alloc::Global;
 
 /// The function with a path as it is at a stage, whose step is there.
+///
+/// # Errors
+///
+/// `Input` with a `drop`, or where no function has the path; `OutOfMemory`.
 pub fn dump(alloc: Global, accepted: Accepted, stage: Stage, path: Name) -> Result<Output, Refusal>
     requires step { HasStep stage }
     ensures writes { (input : List ℕ) → IsAccepted input (crate_of accepted.valid) accepted.lines → IfOk result (λ output. Writes (Dump stage path) input (bytes_of output)) }

@@ -91,6 +91,10 @@ fn accept(alloc: Global, bytes: &[u8]) -> Result<Accepted, Refusal>
 }
 
 /// The accepted crate that a source tells, or why there is none.
+///
+/// # Errors
+///
+/// `Input` with the fault of the input; `ReadFault`, only where the source's count of faults rose; `OutOfMemory`.
 pub fn load<S: Source>(alloc: Global, source: &mut S) -> Result<Accepted, Refusal>
     ensures accepted { (input : List ℕ) → S.left source.old ≡ Some input → IfOk result (λ accepted. IsAccepted input (crate_of accepted.valid) accepted.lines) }
     ensures refused { (input : List ℕ) → S.left source.old ≡ Some input → IfErr result (OfInput (λ fault. IsFaulty input fault × IsNoDrop fault)) }

@@ -1,9 +1,11 @@
 ghost use Rattle.std.specs.Prelude.{◌≡◌, ◌≢◌, ◌<◌, ◌≤◌, ◌⊎◌, [], List, ℕ, Some, map, string_bytes, codes};
 ghost use Rattle.std.specs.Io.KnownBytes.{Appends, IsAtEnd};
 ghost use Rattle.pipe_io.specs.Causes.{Rose, AppendsFront};
-ghost use Rattle.pipe_words.specs.declared.command.Command.TheVariants.{Seq};
+ghost use Rattle.mir_text.specs.Text.{text};
+ghost use Rattle.pipe_words.specs.declared.command.Command.TheVariants.{Seq, Gen};
 ghost use Rattle.pipe_words.specs.Commands.{Says, IsMisfit};
-ghost use Rattle.mirpipe_cli.specs.Answer.{Told, Answers, IsOptimised};
+ghost use Rattle.crate_gen.specs.Made.{made_crate};
+ghost use Rattle.mirpipe_cli.specs.Answer.{Told, Answers, ReadsNothing, IsOptimised};
 
 use crate::command::{work, write};
 use crate::fault::Refusal;
@@ -20,10 +22,11 @@ use std::alloc::Global;
 /// | `seq` | the text of the crate after the passes |
 /// | `run FN ARGS --answers LIST --steps N` | the text of a run of the function with the path FN |
 /// | `dump STAGE FN` | the text of the function with the path FN as it is at the stage |
+/// | `gen S N` | the text of the crate of N functions that is made from the number S; nothing is read |
 ///
 /// | Status | Meaning | Notes |
 /// |---|---|---|
-/// | 0 | done, and the input was read to its end | none |
+/// | 0 | done, and the input was read to its end, but by `gen` | none |
 /// | 1 | the input is refused | code and line, as `S04 line 8`, `V05 line 9`, `L02 line 260000`; or `L01 67108865` |
 /// | 1 | no function has the path FN, or ARGS makes no call of it | `E01`, or `E02` |
 /// | 2 | the words fit no command | `word K`, the place of the first that doesn't fit |
@@ -48,7 +51,9 @@ pub fn run_quiet<S: Source, K: Sink, N: Sink>(
     ensures read_grew { S.faults source.old < S.faults source.new → (result ≡ 3) ⊎ (result ≡ 5) }
     ensures write { result ≡ 4 → Rose (K.faults out.old) (K.faults out.new) }
     ensures write_grew { K.faults out.old < K.faults out.new → result ≡ 4 }
-    ensures end { result ≡ 0 → IsAtEnd (S.left source.new) }
+    ensures end { result ≡ 0 → (ReadsNothing (map string_bytes words.now) → ⊥) → IsAtEnd (S.left source.new) }
+    ensures unread { ReadsNothing (map string_bytes words.now) → source.new ≡ source.old }
+    ensures unread_ends { ReadsNothing (map string_bytes words.now) → (result ≡ 0) ⊎ (result ≡ 4) ⊎ (result ≡ 5) }
 
     // What is told, where no object fails and memory suffices.
     ensures told { (input : List ℕ) → S.left source.old ≡ Some input → (Rose (S.faults source.old) (S.faults source.new) → ⊥)
@@ -59,6 +64,14 @@ pub fn run_quiet<S: Source, K: Sink, N: Sink>(
     // What `seq` writes: the text of a crate that refines the accepted one.
     ensures printed { (input : List ℕ) → S.left source.old ≡ Some input → Says (map string_bytes words.now) Seq → result ≡ 0
         → (bytes : List ℕ) × IsOptimised input bytes × Appends (K.written out.old) (K.written out.new) bytes }
+
+    // What `gen` writes, whatever source there is.
+    ensures made { (start functions : ℕ) → Says (map string_bytes words.now) (Gen start functions) → result ≡ 0
+        → Appends (K.written out.old) (K.written out.new) (text (made_crate start functions)) }
+    ensures made_front { (start functions : ℕ) → Says (map string_bytes words.now) (Gen start functions) → result ≡ 4
+        → AppendsFront (K.written out.old) (K.written out.new) (text (made_crate start functions)) }
+
+    // What comes out where `out` fails, and that nothing does for other causes.
     ensures front { (input : List ℕ) → S.left source.old ≡ Some input → result ≡ 4
         → (told : Told) × Answers (map string_bytes words.now) input told × AppendsFront (K.written out.old) (K.written out.new) told.out }
     ensures nothing { result ≢ 0 → result ≢ 4 → Appends (K.written out.old) (K.written out.new) [] }

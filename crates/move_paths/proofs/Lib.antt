@@ -1,4 +1,5 @@
 pub mod Each
+pub mod Ending
 pub mod Writing
 pub mod Moves
 pub mod Onward
@@ -10,3 +11,4 @@ pub mod Statuses
 pub mod Solved
 pub mod Whole
 pub mod Facts
+pub mod Decided

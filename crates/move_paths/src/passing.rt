@@ -93,7 +93,7 @@ impl Passing<'_> {
         }
     }
 
-    fn pass_stmts(&self, stmts: &[Stmt], rows: &mut BitRows, row: u32)
+    pub fn pass_stmts(&self, stmts: &[Stmt], rows: &mut BitRows, row: u32)
         requires within { row < length rows.old }
         requires bits { length (row_at rows.old row) ≡ length self.now.units.now.places }
         ensures { (trees : List Tree) → rows.new ≡ set rows.old row (each_unit (passed_stmts self.now.status (map (stmt_of trees) stmts.now)) self.now.units.now.places (row_at rows.old row)) }
@@ -141,6 +141,10 @@ impl Passing<'_> {
     }
 
     /// Of each block the units that have the status at its end, though they hadn't at its start.
+    ///
+    /// # Errors
+    ///
+    /// `OutOfMemory`.
     pub fn ends(&self, alloc: Global, body: &Body) -> Result<BitRows, OutOfMemory>
         requires { length body.now.blocks < 2 ^ 30 }
         ensures { IfOk result (λ rows. (trees : List Tree) → IsRows (length body.now.blocks) (λ i. end_row self.now.status self.now.units.now.places (block_at (body_of trees body.now).blocks i)) rows) }

@@ -3,7 +3,7 @@ ghost use Rattle.std.specs.List.{All};
 ghost use Rattle.bit_rows.specs.Rows.{row_at, flag, HasSize};
 ghost use Rattle.mir_syntax.specs.declared.body.Place.{Place};
 ghost use Rattle.mir_syntax.specs.Tree.{Tree, trees_of};
-ghost use Rattle.mir_syntax.specs.Crate.{crate_of, body_of};
+ghost use Rattle.mir_syntax.specs.Crate.{crate_of, block_of, body_of};
 ghost use Rattle.mir_syntax.specs.Shapes.{shapes_of};
 ghost use Rattle.mir_syntax.specs.Drops.{KnowsDrops};
 ghost use Rattle.mir_syntax.specs.Ids.{IdsInTable, BodyInTable};
@@ -11,7 +11,7 @@ ghost use Rattle.mir_cfg.specs.Paths.{terms_of, Closed, Reached};
 ghost use Rattle.liveness.specs.Rows.{block_at, IsRows};
 ghost use Rattle.move_paths.specs.Effects.{units_of_body};
 ghost use Rattle.move_paths.specs.Inits.{is_argument, Comes, MaybeAt, SurelyAt};
-ghost use Rattle.move_paths.specs.Rows.{has, end_row, first_row, IsOnward};
+ghost use Rattle.move_paths.specs.Rows.{has, passed_stmts, each_unit, end_row, first_row, IsOnward};
 
 use crate::edges::onward_edges;
 use crate::flow::StatusFlow;
@@ -19,13 +19,13 @@ use crate::passing::Passing;
 use crate::units::{BodyUnits, units};
 use bit_rows::BitRows;
 use flow_engine::{Edge, solve};
-use mir_syntax::{Body, List, OutOfMemory, Place as BodyPlace, Program};
+use mir_syntax::{Block, Body, OutOfMemory, Place as BodyPlace, Program};
 use std::alloc::Global;
 
 /// The units of a body in their order, and of each block, by rows, those that may be initialised at its start and those that surely are.
 #[derive(Drop)]
 pub struct InitRows {
-    pub units: List<BodyPlace>,
+    pub units: BodyUnits,
     pub maybe: BitRows,
     pub sure: BitRows,
 }
@@ -130,8 +130,29 @@ fn turned_over(alloc: Global, rows: &BitRows, count: u32, bits: u32) -> Result<B
     Ok(made)
 }
 
+/// Carries rows of units that are initialised at the blocks' starts over the statements: then each tells of the units before its block's
+/// terminator.
+pub fn to_ends(units: &BodyUnits, blocks: &[Block], rows: &mut BitRows)
+    requires few { length blocks.now < 2 ^ 30 }
+    requires size { HasSize rows.old (length blocks.now) (length units.now.places) }
+    ensures size { HasSize rows.new (length blocks.now) (length units.now.places) }
+    ensures rows { (trees : List Tree) (i : ℕ) → i < length blocks.now → row_at rows.new i ≡ each_unit (passed_stmts true (block_at (map (block_of trees) blocks.now) i).stmts) units.now.places (row_at rows.old i) }
+{
+    let passing = Passing {
+        units,
+        status: true,
+    };
+    for (at, block) in blocks.iter().enumerate() {
+        passing.pass_stmts(block.stmts.as_slice(), rows, at as u32);
+    }
+}
+
 /// Which units are initialised at the blocks' starts of a body whose edges lead to its blocks. In a block to which no path leads none may be,
 /// and each surely is.
+///
+/// # Errors
+///
+/// `OutOfMemory`.
 pub fn inits(alloc: Global, program: &Program, body: &Body) -> Result<InitRows, OutOfMemory>
     requires knows { KnowsDrops program.now }
     requires ids { IdsInTable program.now }
@@ -140,11 +161,11 @@ pub fn inits(alloc: Global, program: &Program, body: &Body) -> Result<InitRows, 
     requires some_block { 0 < length body.now.blocks }
     requires few_blocks { length body.now.blocks < 2 ^ 30 }
     requires few_locals { length body.now.locals < 2 ^ 30 }
-    ensures units { IfOk result (λ rows. rows.units ≡ units_of_body (shapes_of (crate_of program.now)) (body_of (trees_of program.now.types) body.now)) }
-    ensures maybe_size { IfOk result (λ rows. HasSize rows.maybe (length body.now.blocks) (length rows.units)) }
-    ensures maybe { IfOk result (λ rows. (i k : ℕ) (u : Place) → i < length body.now.blocks → slice_get rows.units k ≡ Some u → IsTrue (flag rows.maybe i k) ↔ MaybeAt (body_of (trees_of program.now.types) body.now) u i) }
-    ensures sure_size { IfOk result (λ rows. HasSize rows.sure (length body.now.blocks) (length rows.units)) }
-    ensures sure { IfOk result (λ rows. (i k : ℕ) (u : Place) → i < length body.now.blocks → slice_get rows.units k ≡ Some u → IsTrue (flag rows.sure i k) ↔ SurelyAt (body_of (trees_of program.now.types) body.now) u i) }
+    ensures units { IfOk result (λ rows. rows.units.places ≡ units_of_body (shapes_of (crate_of program.now)) (body_of (trees_of program.now.types) body.now)) }
+    ensures maybe_size { IfOk result (λ rows. HasSize rows.maybe (length body.now.blocks) (length rows.units.places)) }
+    ensures maybe { IfOk result (λ rows. (i k : ℕ) (u : Place) → i < length body.now.blocks → slice_get rows.units.places k ≡ Some u → IsTrue (flag rows.maybe i k) ↔ MaybeAt (body_of (trees_of program.now.types) body.now) u i) }
+    ensures sure_size { IfOk result (λ rows. HasSize rows.sure (length body.now.blocks) (length rows.units.places)) }
+    ensures sure { IfOk result (λ rows. (i k : ℕ) (u : Place) → i < length body.now.blocks → slice_get rows.units.places k ≡ Some u → IsTrue (flag rows.sure i k) ↔ SurelyAt (body_of (trees_of program.now.types) body.now) u i) }
 {
     let units = units(alloc, program, body)?;
     let edges = onward_edges(alloc, body)?;
@@ -162,9 +183,5 @@ pub fn inits(alloc: Global, program: &Program, body: &Body) -> Result<InitRows, 
     let maybe = may_have(alloc, body, &units, edges, true, &begun, &ended)?;
     let unsure = may_have(alloc, body, &units, edges, false, &ended, &begun)?;
     let sure = turned_over(alloc, &unsure, body.blocks.len() as u32, units.len())?;
-    Ok(InitRows {
-        units: units.places,
-        maybe,
-        sure,
-    })
+    Ok(InitRows { units, maybe, sure })
 }

@@ -17,14 +17,14 @@ use std::alloc::Global;
 
 /// The numbers from `from` up to but not `to`.
 #[derive(Clone, Copy, Drop)]
-pub(crate) struct Span {
+pub struct Span {
     pub from: usize,
     pub to: usize,
 }
 
 /// The units of a body, in their order, and of each local the numbers of its own.
 #[derive(Drop)]
-pub(crate) struct BodyUnits {
+pub struct BodyUnits {
     pub places: List<Place>,
     pub spans: List<Span>,
     pub ghost spanned: { IsSpanned places spans },
@@ -40,7 +40,14 @@ impl BodyUnits {
     }
 
     /// Writes the bits of the units at or under a place: that of a local at a path. The row has one for each unit.
-    pub fn write_under(&self, local: u32, path: &[Proj], on: bool, rows: &mut BitRows, row: u32)
+    pub(crate) fn write_under(
+        &self,
+        local: u32,
+        path: &[Proj],
+        on: bool,
+        rows: &mut BitRows,
+        row: u32,
+    )
         requires within { row < length rows.old }
         requires bits { length (row_at rows.old row) ≡ length self.now.places }
         ensures { rows.new ≡ set rows.old row (each_unit (written (in_local local path.now) on) self.now.places (row_at rows.old row)) }

@@ -45,17 +45,21 @@ module _ (C : Crate) (within : Within C) (f : ℕ) (g : TypedFunction) (there : 
       (if_broken_empty (nat_lt most_in_body (count g.body)) code
       (map_empty-source (at_spot (header f)) (if_broken (nat_lt most_in_body (count g.body)) code) (gathered_at (count_passed code count) C.functions f g h there)))
 
+  pub blocks_counted : blocks_count (shapes_of C) g.body ≤ most_in_body
+  unfolding bodies_passed
+  blocks_counted = counted 4 (blocks_count D) (append_empty-left (gather (count_passed 4 (blocks_count D)) 0 C.functions) (gather (count_passed 5 (locals_count D)) 0 C.functions) bodies_within)
+
+  pub locals_counted : locals_count (shapes_of C) g.body ≤ most_in_body
+  unfolding bodies_passed
+  locals_counted = counted 5 (locals_count D) (append_empty-right (gather (count_passed 4 (blocks_count D)) 0 C.functions) (gather (count_passed 5 (locals_count D)) 0 C.functions) bodies_within)
+
   pub blocks_within : length g.body.blocks ≤ most_in_body
-  unfolding bodies_passed blocks_count
-  blocks_within =
-      let all = counted 4 (blocks_count D) (append_empty-left (gather (count_passed 4 (blocks_count D)) 0 C.functions) (gather (count_passed 5 (locals_count D)) 0 C.functions) bodies_within) in
-      omega (arith, all)
+  unfolding blocks_count
+  blocks_within = let all = blocks_counted in omega (arith, all)
 
   pub locals_within : length g.body.locals ≤ most_in_body
-  unfolding bodies_passed locals_count
-  locals_within =
-      let all = counted 5 (locals_count D) (append_empty-right (gather (count_passed 4 (blocks_count D)) 0 C.functions) (gather (count_passed 5 (locals_count D)) 0 C.functions) bodies_within) in
-      omega (arith, all)
+  unfolding locals_count
+  locals_within = let all = locals_counted in omega (arith, all)
 
 -- ---- lists
 

@@ -20,7 +20,7 @@ module _ (C : Crate) (f : ℕ) (g : TypedFunction) where
   pub shapes_fit : (b : TypedBody) → FitsAt C f g b → shapes_of (at_function C f g b) ≡ shapes_of C
   shapes_fit b h = shapes_alike C (set C.functions f (with_body g b)) (set_alike C.functions f g (with_body g b) h.is (alike_fit b h))
 
-  fits_again : (b c : TypedBody) → FitsAt C f g b → ValidAt C f c → c.args ≡ b.args → take (suc b.args) c.locals ≡ take (suc b.args) b.locals → FitsAt C f g c
+  pub fits_again : (b c : TypedBody) → FitsAt C f g b → ValidAt C f c → c.args ≡ b.args → take (suc b.args) c.locals ≡ take (suc b.args) b.locals → FitsAt C f g c
   fits_again b c h w args start =
       let same : w.function ≡ g = (let z : Some w.function ≡ Some g = sym w.is ∙ h.is in grind arith) in
       record {

@@ -8,3 +8,6 @@ pub mod Going
 pub mod Whole
 pub mod Running
 pub mod Staged
+pub mod compose
+pub mod elab
+pub mod WithIds

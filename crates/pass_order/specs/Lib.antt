@@ -3,3 +3,7 @@ pub mod Stages
 pub mod Steps
 pub mod Fits
 pub mod Programs
+pub mod Bodies
+pub mod OptCrate
+pub mod Tupled
+pub mod WithIds

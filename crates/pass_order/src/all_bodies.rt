@@ -53,8 +53,11 @@ fn passed_functions(
     Ok(List::from_vec(passed))
 }
 
-/// A valid program with each body after the passes, in the order of the functions. Its drops stay known. `Err` is for want of memory alone, and
-/// the program is spent then.
+/// A valid program with each body after the passes, in the order of the functions. Its drops stay known.
+///
+/// # Errors
+///
+/// `OutOfMemory`; the program is spent then.
 pub fn optimised(alloc: Global, valid: Valid) -> Result<Program, OutOfMemory>
     ensures optimised { IfOk result (λ left. crate_of left ≡ optimised_crate (crate_of valid)) }
     ensures in_table { IfOk result (λ left. IdsInTable left) }

@@ -11,10 +11,13 @@ use crate::passes::{PASSES, after_all};
 use mir_syntax::{Body, OutOfMemory, Program};
 use std::alloc::Global;
 
-/// The body after the passes: tuples and structs that stay in it are split, what is known is folded, jumps to a known switch are threaded, locals that are copied into one another are merged,
-/// what nobody reads goes, its control flow being cleaned
-/// before, between and after, and locals that are left without use go. The body fits a function of the program, which need not hold it. `Err` is for
-/// want of memory alone, and the body is spent then.
+/// The body after the passes: tuples and structs that stay in it are split, what is known is folded, jumps to a known switch are threaded, locals
+/// that are copied into one another are merged, what nobody reads goes, its control flow being cleaned before, between and after, and locals that
+/// are left without use go. The body fits a function of the program, which need not hold it.
+///
+/// # Errors
+///
+/// `OutOfMemory`; the body is spent then.
 pub fn after_passes(alloc: Global, program: &Program, body: Body) -> Result<Body, OutOfMemory>
     requires knows { KnowsDrops program.now }
     requires ids { IdsInTable program.now }

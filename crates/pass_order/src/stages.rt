@@ -61,7 +61,11 @@ fn with_body(alloc: Global, function: &Function, body: Body) -> Result<Function,
 }
 
 /// A function of a valid program with its body as it is at a stage, of which the step is there (`passes_behind`): after the passes up to that step.
-/// The program stays as it is. `Err` is for want of memory alone.
+/// The program stays as it is.
+///
+/// # Errors
+///
+/// `OutOfMemory`.
 pub fn dumped(alloc: Global, valid: &Valid, id: FnId, stage: Stage) -> Result<Function, OutOfMemory>
     requires step { HasStep stage }
     requires there { id.0 < length valid.now.functions }

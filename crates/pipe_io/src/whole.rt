@@ -20,7 +20,11 @@ pub enum ReadFault {
     OutOfMemory,
 }
 
-/// Reads to the end, or one byte more than the limit. `ReadFault::Failed` comes only where the source's count of faults rose.
+/// Reads to the end, or one byte more than the limit.
+///
+/// # Errors
+///
+/// `Failed`, only where the source's count of faults rose; `OutOfMemory`.
 pub fn read_all<S: Source>(alloc: Global, source: &mut S, limit: usize) -> Result<Input, ReadFault>
     requires { limit < 2 ^ 64 - 1 }
     ensures bytes { IfOk result (λ input. Consumes (S.left source.old) (S.left source.new) input.bytes) }
@@ -51,7 +55,11 @@ pub fn read_all<S: Source>(alloc: Global, source: &mut S, limit: usize) -> Resul
     Ok(Input { bytes, over: true })
 }
 
-/// Writes the whole piece. `Failed` comes only where the sink's count of faults rose, and then a front of the piece is written.
+/// Writes the whole piece.
+///
+/// # Errors
+///
+/// `Failed`, only where the sink's count of faults rose; a front of the piece is written then.
 pub fn write_all<K: Sink>(sink: &mut K, piece: &[u8]) -> Result<(), Failed>
     ensures whole { OnOk result (Appends (K.written sink.old) (K.written sink.new) piece.now) }
     ensures front { AppendsFront (K.written sink.old) (K.written sink.new) piece.now }

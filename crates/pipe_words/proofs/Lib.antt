@@ -1,4 +1,5 @@
 pub mod FirstNames
+pub mod Fitting
 pub mod NumberLists
 pub mod Rows
 pub mod StageWords

@@ -26,6 +26,12 @@ pub record IsNumbers (word : List ℕ) (numbers : List Number) : Type 0 where
   pub range : All (λ n. InRange n.negative n.size) numbers
   pub whole : word ≡ numbers_text numbers
 
+-- a word is a number between two, which may be these themselves
+pub record IsBetween (least most : ℕ) (word : List ℕ) (n : ℕ) : Type 0 where
+  pub low : least ≤ n
+  pub high : n ≤ most
+  pub whole : word ≡ decimal n
+
 -- the number modulo 2^128
 abbrev pub wrapped_size : Bool → ℕ → ℕ
 wrapped_size true size = (2 ^ 128 - size) % 2 ^ 128

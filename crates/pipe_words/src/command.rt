@@ -11,6 +11,8 @@ pub enum Command {
     Run(Name, List<Number>, List<u128>, u64),
     /// A function's text at a stage of the passes: the stage, whose step is there, and the function's path.
     Dump(Stage, Name),
+    /// The text of a crate that is made from a number: the number, at most 2,147,483,647, and how many functions the crate has, 1 to 10,000.
+    Gen(u32, u32),
 }
 
 /// Why words are no command.

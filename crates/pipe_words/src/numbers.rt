@@ -1,7 +1,6 @@
 ghost use Rattle.std.specs.Prelude.{◌≡◌, ◌<◌, ◌≤◌, ◌^◌, ◌↔◌, ℕ, List, IsTrue, true, IfOk, Some, MatchOption, decimal, map};
 ghost use Rattle.mir_syntax.specs.declared.number.Number as declared;
-ghost use Rattle.pipe_words.specs.Numbers.{InRange, number_text, IsNumbers, wrapped};
-ghost use Rattle.pipe_words.specs.Commands.{IsSteps};
+ghost use Rattle.pipe_words.specs.Numbers.{InRange, number_text, IsNumbers, IsBetween, wrapped};
 ghost use Rattle.pipe_words.specs.Tokens.{number_found};
 
 use itoa::Buffer;
@@ -104,6 +103,10 @@ fn read_number(text: &[u8]) -> Option<Number>
 }
 
 /// The numbers that a word lists.
+///
+/// # Errors
+///
+/// `OutOfMemory`.
 pub fn read_numbers(alloc: Global, word: &str) -> Result<Option<List<Number>>, OutOfMemory>
     ensures { IfOk result (λ found. MatchOption found ((ns : List declared.Number) → IsNumbers word.now ns → ⊥) (λ ns. IsNumbers word.now ns)) }
 {
@@ -132,6 +135,10 @@ fn wrap(number: Number) -> u128
 }
 
 /// Numbers modulo 2^128.
+///
+/// # Errors
+///
+/// `OutOfMemory`.
 pub fn wrap_all(alloc: Global, numbers: &[Number]) -> Result<List<u128>, OutOfMemory>
     ensures { IfOk result (λ bits. bits ≡ map wrapped numbers.now) }
 {
@@ -142,16 +149,14 @@ pub fn wrap_all(alloc: Global, numbers: &[Number]) -> Result<List<u128>, OutOfMe
     Ok(bits)
 }
 
-const MOST_STEPS: u128 = 1_000_000;
-
-/// The number of steps that a word writes.
-pub fn read_steps(word: &[u8]) -> Option<u64>
-    ensures { MatchOption result ((n : ℕ) → IsSteps word.now n → ⊥) (λ n. IsSteps word.now n) }
+/// The number between two, or one of the two, that a word writes.
+pub fn read_between(word: &[u8], least: u32, most: u32) -> Option<u32>
+    ensures { MatchOption result ((n : ℕ) → IsBetween least most word.now n → ⊥) (λ n. IsBetween least most word.now n) }
 {
     match read_size(word) {
-        Some(steps) => {
-            if steps <= MOST_STEPS {
-                Some(steps as u64)
+        Some(number) => {
+            if u128::from(least) <= number && number <= u128::from(most) {
+                Some(number as u32)
             } else {
                 None
             }

@@ -1,17 +1,23 @@
 ghost use Rattle.std.specs.Prelude.{◌≡◌, ℕ, ◌∷◌, ◌↔◌, List, [], IsTrue, IfOk, map, string_bytes};
 ghost use Rattle.std.specs.Str.{bytes_eq};
-ghost use Rattle.pipe_words.specs.Commands.{Says, SaysRun, SaysDump, IsGiven, IsSteps, IsMisfit, Misses, Stops, exactly, path, numbers, steps, stage, given_row, run_row, dump_row};
-ghost use Rattle.pipe_words.specs.Numbers.{IsNumbers};
+ghost use Rattle.pipe_words.specs.Commands.{Says, SaysRun, SaysDump, SaysGen, IsGiven, IsMisfit, Misses, Stops, exactly, path, numbers, between, stage, given_row, run_row, dump_row, gen_row};
+ghost use Rattle.pipe_words.specs.Numbers.{IsNumbers, IsBetween};
 ghost use Rattle.pipe_words.specs.Paths.{IsPath};
 ghost use Rattle.pipe_words.specs.Stages.{IsStage};
 ghost use Rattle.pipe_words.specs.declared.command.WordsFault.TheVariants as fault;
 
-use crate::numbers::{read_numbers, read_steps, wrap_all};
+use crate::numbers::{read_between, read_numbers, wrap_all};
 use crate::paths::is_path;
 use crate::stages::read_stage;
 use crate::{Command, WordsFault};
 use mir_syntax::{List, Name, Number, Stage};
 use std::alloc::Global;
+
+const MOST_STEPS: u32 = 1_000_000;
+
+const MOST_START: u32 = 2_147_483_647;
+
+const MOST_FUNCTIONS: u32 = 10_000;
 
 fn is_word(word: &String, text: &[u8]) -> bool
     ensures test { result ≡ bytes_eq (string_bytes word.now) text.now }
@@ -78,13 +84,18 @@ fn take_numbers(
     }
 }
 
-// The number of steps that comes first, and the words behind it.
-fn take_steps(words: &[String], place: u32) -> Result<(u64, &[String]), WordsFault>
-    ensures fits { IfOk result (λ found. (word : List ℕ) × (map string_bytes words.now ≡ word ∷ map string_bytes found.1.now) × IsSteps word found.0) }
-    ensures stops { (k : ℕ) → result ≡ Err (fault.Bad k) → Stops steps (map string_bytes words.now) × (k ≡ place) }
+// The number between two, or one of the two, that comes first, and the words behind it.
+fn take_between(
+    words: &[String],
+    place: u32,
+    least: u32,
+    most: u32,
+) -> Result<(u32, &[String]), WordsFault>
+    ensures fits { IfOk result (λ found. (word : List ℕ) × (map string_bytes words.now ≡ word ∷ map string_bytes found.1.now) × IsBetween least most word found.0) }
+    ensures stops { (k : ℕ) → result ≡ Err (fault.Bad k) → Stops (between least most) (map string_bytes words.now) × (k ≡ place) }
 {
     match words {
-        [word, rest @ ..] => match read_steps(word.as_bytes()) {
+        [word, rest @ ..] => match read_between(word.as_bytes(), least, most) {
             Some(found) => Ok((found, rest)),
             None => Err(WordsFault::Bad(place)),
         },
@@ -126,10 +137,10 @@ fn parse_given(alloc: Global, words: &[String]) -> Result<(List<u128>, u64), Wor
     let rest = take_exactly(words, 4, b"--answers")?;
     let (numbers, rest) = take_numbers(alloc, rest, 5)?;
     let rest = take_exactly(rest, 6, b"--steps")?;
-    let (steps, rest) = take_steps(rest, 7)?;
+    let (steps, rest) = take_between(rest, 7, 0, MOST_STEPS)?;
     take_end(rest, 8)?;
     let answers = wrap_all(alloc, numbers.as_slice())?;
-    Ok((answers, steps))
+    Ok((answers, u64::from(steps)))
 }
 
 // The command whose first word is `run`, by the words behind it.
@@ -154,8 +165,19 @@ fn parse_dump(alloc: Global, words: &[String]) -> Result<Command, WordsFault>
     Ok(Command::Dump(stage, path))
 }
 
+// The command whose first word is `gen`, by the words behind it.
+fn parse_gen(words: &[String]) -> Result<Command, WordsFault>
+    ensures made { IfOk result (λ command. SaysGen (map string_bytes words.now) command) }
+    ensures misfit { (k : ℕ) → result ≡ Err (fault.Bad k) → Misses 2 gen_row (map string_bytes words.now) k }
+{
+    let (start, rest) = take_between(words, 2, 0, MOST_START)?;
+    let (functions, rest) = take_between(rest, 3, 1, MOST_FUNCTIONS)?;
+    take_end(rest, 4)?;
+    Ok(Command::Gen(start, functions))
+}
+
 // The command of a first word and the words behind it.
-#[tactic(auto, using(crate::proofs::Rows::check_misses, crate::proofs::Rows::seq_misses, crate::proofs::Rows::dump_misses, crate::proofs::Rows::run_misses, crate::proofs::Rows::none_misses, crate::proofs::Rows::says_dump, crate::proofs::Rows::says_run))]
+#[tactic(auto, using(crate::proofs::Rows::check_misses, crate::proofs::Rows::seq_misses, crate::proofs::Rows::dump_misses, crate::proofs::Rows::gen_misses, crate::proofs::Rows::run_misses, crate::proofs::Rows::none_misses, crate::proofs::Rows::says_dump, crate::proofs::Rows::says_gen, crate::proofs::Rows::says_run))]
 fn parse_from(alloc: Global, first: &String, rest: &[String]) -> Result<Command, WordsFault>
     ensures says { IfOk result (λ command. Says (string_bytes first.now ∷ map string_bytes rest.now) command) }
     ensures misfit { (place : ℕ) → result ≡ Err (fault.Bad place) → IsMisfit (string_bytes first.now ∷ map string_bytes rest.now) place }
@@ -168,6 +190,9 @@ fn parse_from(alloc: Global, first: &String, rest: &[String]) -> Result<Command,
         Ok(Command::Seq)
     } else if is_word(first, b"dump") {
         let command = parse_dump(alloc, rest)?;
+        Ok(command)
+    } else if is_word(first, b"gen") {
+        let command = parse_gen(rest)?;
         Ok(command)
     } else if is_word(first, b"run") {
         let command = parse_run(alloc, rest)?;

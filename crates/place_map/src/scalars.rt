@@ -157,6 +157,10 @@ fn most_tracked(blocks: usize) -> usize
 }
 
 /// The tracked places of a body, given one row of the locals that are taken.
+///
+/// # Errors
+///
+/// `OutOfMemory`.
 pub fn paths(
     alloc: Global,
     program: &Program,

@@ -46,6 +46,10 @@ impl<J: Jobs + Drop> QueryTable<J> {
 
     /// Closes the table and gives the jobs back with the roots' answers. The seat has seen every root done, and holds neither a claim nor a
     /// borrow.
+    ///
+    /// # Errors
+    ///
+    /// `OutOfMemory`.
     pub fn answers<R: Wait>(
         self,
         rt: &R,

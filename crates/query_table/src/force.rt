@@ -260,6 +260,10 @@ impl<J: Jobs> QueryTable<J> {
     /// Has the seat's root answered: claims it and what it needs, or waits for who has. The root is the seat's last drawn one, and the seat has
     /// nothing claimed or borrowed. Afterwards it has nothing claimed or borrowed again, and has seen the root done. Where a query that the root
     /// needs failed, or memory ran out, each of the seat's claims was failed, and the root was seen failed.
+    ///
+    /// # Errors
+    ///
+    /// `OutOfMemory`, where it comes here or to whoever failed a query that the root needs.
     pub fn force<R: Wait, G: Gate>(
         &self,
         rt: &R,

@@ -48,6 +48,10 @@ impl<J: Jobs> Model for Slots<J> {
 
 impl<J: Jobs> Slots<J> {
     /// An empty slot for each query.
+    ///
+    /// # Errors
+    ///
+    /// `OutOfMemory`.
     pub fn new(alloc: Global, jobs: &J) -> Result<Slots<J>, OutOfMemory>
         ensures { IfOk result (λ s. s ≡ jobs.now) }
     {

@@ -25,6 +25,7 @@ pub struct About<J> {
     pub workers: u32,
 }
 
+/// What is true of the words and views of a table at every moment (`Stands` of `specs/Rule.antt`). No value of it is made.
 pub struct Rule<J> {
     jobs: PhantomData<J>,
 }
@@ -360,6 +361,10 @@ impl<J: Jobs + Drop> QueryTable<J> {
     ghost use Rattle.sched_core.specs.Plan.{IsLawful};
 
     /// A table of lawful jobs in which nothing is claimed, and one seat for each of 1 to 64 workers.
+    ///
+    /// # Errors
+    ///
+    /// `OutOfMemory`.
     pub fn new(alloc: Global, jobs: J, workers: u32) -> Result<Opened<J>, OutOfMemory>
         requires jobs { IsLawful (J.plan jobs) }
         requires workers { (0 < workers) × (workers ≤ 64) }

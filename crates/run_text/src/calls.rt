@@ -84,6 +84,10 @@ fn put_call(
 }
 
 /// Puts the lines of calls at the end, of which the oldest comes first.
+///
+/// # Errors
+///
+/// `OutOfMemory`.
 pub fn put_calls(
     alloc: Global,
     out: &mut List<u8>,

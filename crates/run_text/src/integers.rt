@@ -7,6 +7,10 @@ use itoa::Buffer;
 use mir_syntax::{List, Number, OutOfMemory};
 
 /// Puts bytes at the end of a text.
+///
+/// # Errors
+///
+/// `OutOfMemory`.
 pub fn put(out: &mut List<u8>, piece: &[u8]) -> Result<(), OutOfMemory>
     ensures { OnOk result (out.new ≡ out.old ++ piece.now) }
 {
@@ -23,6 +27,10 @@ fn put_size(out: &mut List<u8>, size: u128) -> Result<(), OutOfMemory>
 }
 
 /// Puts an integer at the end.
+///
+/// # Errors
+///
+/// `OutOfMemory`.
 pub fn put_integer(out: &mut List<u8>, number: Number) -> Result<(), OutOfMemory>
     ensures { OnOk result (out.new ≡ out.old ++ signed_decimal (integer_in number)) }
 {
@@ -34,6 +42,10 @@ pub fn put_integer(out: &mut List<u8>, number: Number) -> Result<(), OutOfMemory
 }
 
 /// Puts integers at the end, with a comma and a space between two.
+///
+/// # Errors
+///
+/// `OutOfMemory`.
 pub fn put_integers(out: &mut List<u8>, numbers: &[Number]) -> Result<(), OutOfMemory>
     ensures { OnOk result (out.new ≡ out.old ++ integers_text (map integer_in numbers.now)) }
 {
@@ -51,6 +63,10 @@ pub fn put_integers(out: &mut List<u8>, numbers: &[Number]) -> Result<(), OutOfM
 }
 
 /// Puts integers behind a word, where there are any.
+///
+/// # Errors
+///
+/// `OutOfMemory`.
 pub fn put_behind(out: &mut List<u8>, numbers: &[Number]) -> Result<(), OutOfMemory>
     ensures { OnOk result (out.new ≡ out.old ++ behind_word (map integer_in numbers.now)) }
 {

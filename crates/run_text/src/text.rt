@@ -75,6 +75,10 @@ fn put_outcome(
 }
 
 /// The text that is shown of a run of a function whose result has a type.
+///
+/// # Errors
+///
+/// `OutOfMemory`.
 pub fn run_text(
     alloc: Global,
     program: &Program,

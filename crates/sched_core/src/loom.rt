@@ -288,6 +288,10 @@ impl<J: Jobs> Loom<J> {
 /// the workers take turns in order until all roots are done.
 ///
 /// The answers are the defined ones whatever the schedule, and the trail is that of the schedule's turns from a new core.
+///
+/// # Errors
+///
+/// `OutOfMemory`.
 pub fn weave<J: Jobs>(
     alloc: Global,
     jobs: &J,

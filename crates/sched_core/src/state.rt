@@ -52,6 +52,10 @@ impl Core {
     /// Does the event, or tells the first reason why it isn't legal, and then the core is as before. Takes no memory.
     ///
     /// The worker of the event was told its next need (`tell`) since its top or what the top was given last changed.
+    ///
+    /// # Errors
+    ///
+    /// `Illegal` with the event and the first reason against it (`why`).
     pub fn step<J: Jobs>(&mut self, jobs: &J, event: Event) -> Result<(), Illegal>
         requires core { GoodFor (J.plan jobs.now) self.old }
         requires told { IsTold (J.plan jobs.now) self.old (worker_of event) }
@@ -68,6 +72,10 @@ impl Core {
     }
 
     /// A core with nothing claimed, seen or drawn, for lawful jobs and 1 to 64 workers.
+    ///
+    /// # Errors
+    ///
+    /// `OutOfMemory`.
     pub fn new<J: Jobs>(alloc: Global, jobs: &J, workers: u32) -> Result<Core, OutOfMemory>
         requires jobs { IsLawful (J.plan jobs.now) }
         requires workers { (1 ≤ workers) × (workers ≤ 64) }
@@ -92,6 +100,10 @@ impl Core {
     /// Tells the core the next need of a worker's top, which depends on answers that a core doesn't hold, and makes room for one more given need.
     ///
     /// After an error the core is as before.
+    ///
+    /// # Errors
+    ///
+    /// `OutOfMemory`.
     pub fn tell(&mut self, worker: u32, need: Option<u32>) -> Result<(), OutOfMemory>
         requires { (worker < length self.old.stacks.items) × (worker < length self.old.told.items) }
         ensures state { state_of self.new ≡ state_of self.old }

@@ -15,7 +15,11 @@ use escape_info::address_taken;
 use mir_syntax::{Body, OutOfMemory, Program};
 use std::alloc::Global;
 
-/// The body in which each local that may be split is one local for each field. `Err` is for want of memory alone, and the body is spent then.
+/// The body in which each local that may be split is one local for each field.
+///
+/// # Errors
+///
+/// `OutOfMemory`; the body is spent then.
 pub fn split(alloc: Global, program: &Program, body: Body) -> Result<Body, OutOfMemory>
     requires knows { KnowsDrops program.now }
     requires ids { IdsInTable program.now }

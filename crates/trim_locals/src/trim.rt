@@ -43,8 +43,11 @@ fn used_types(alloc: Global, used: &BitRows, locals: &[TyId]) -> Result<List<TyI
     Ok(kept)
 }
 
-/// The body without the locals that stand in storage statements alone, or nowhere. `Err` is for want of memory alone, and the body is spent
-/// then.
+/// The body without the locals that stand in storage statements alone, or nowhere.
+///
+/// # Errors
+///
+/// `OutOfMemory`; the body is spent then.
 pub fn trimmed(alloc: Global, program: &Program, body: Body) -> Result<Body, OutOfMemory>
     requires { length body.locals < 2 ^ 30 }
     ensures trimmed { IfOk result (λ left. body_of (trees_of program.now.types) left ≡ trimmed_body (body_of (trees_of program.now.types) body)) }

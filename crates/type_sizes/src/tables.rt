@@ -73,6 +73,10 @@ impl Sizing<'_> {
     }
 
     /// What is counted in each type of the table, given the definitions.
+    ///
+    /// # Errors
+    ///
+    /// `OutOfMemory`.
     pub fn type_sizes(&self, alloc: Global, defs: &[u32]) -> Result<List<u32>, OutOfMemory>
         requires defs { (k : ℕ) → told self.now.measure defs.now k ≤ most self.now.measure }
         ensures long { IfOk result (λ sizes. length sizes ≡ length self.now.program.now.types) }
@@ -133,6 +137,10 @@ impl Sizing<'_> {
     }
 
     /// What is counted in each definition. A round that changes nothing is the last.
+    ///
+    /// # Errors
+    ///
+    /// `OutOfMemory`.
     pub fn all_sizes(
         &self,
         alloc: Global,

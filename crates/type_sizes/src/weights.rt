@@ -56,6 +56,10 @@ fn measure_types(
 }
 
 /// The sizes of the types of a program of which the drops are known.
+///
+/// # Errors
+///
+/// `OutOfMemory`.
 pub fn size_types(alloc: Global, program: &Program) -> Result<Sizes, OutOfMemory>
     requires knows { KnowsDrops program.now }
     requires ids { IdsInTable program.now }

@@ -23,7 +23,7 @@ use Rattle.mir_renaming.proofs.Typed.{TermTy}
 use Rattle.mir_renaming.proofs.Types.{TypeMap, AddrTy, dest_ty}
 use Rattle.mir_relate.specs.Alike.{Between, Sides}
 use Rattle.mir_relate.specs.Frames.{Change, target, Pass}
-use Rattle.mir_relate.specs.Pass.{GentleTo, Valids, TermMoves, FewTerm, Goes}
+use Rattle.mir_relate.specs.Pass.{GentleTo, Valids, TermMoves, ArgsTerm, Goes}
 use Rattle.mir_relate.proofs.Kept as kept
 use Rattle.mir_relate.proofs.Leaves.{some_val}
 use Rattle.mir_relate.proofs.Living.{living_lent}
@@ -110,7 +110,7 @@ module _ {X : Change} {xs : List Reached} {V : Valids X} {Inv : State → Type 0
   abbrev GoalIf : (Memory → Type 0) → Dest → Dest → ℕ → ℕ → Type 0
   GoalIf = own.GoalIf X P V Inv (frames.frames X (words X xs) now.lasts V Inv) now.n now.s2 now.s1 now.r [] now.s1.callers refl (omega arith) now.below S Q left refl ended
 
-  same_goes : (t u : Term) (x : Next) → FewTerm X.source t → SameStepIf t u → finish X.source S.source s1 t ≡ Some x → Flat x → GentleTo X G f1 s1.memory x → Goes X P (finish (target X) S.target s2 u) x
+  same_goes : (t u : Term) (x : Next) → ArgsTerm X.source t → SameStepIf t u → finish X.source S.source s1 t ≡ Some x → Flat x → GentleTo X G f1 s1.memory x → Goes X P (finish (target X) S.target s2 u) x
   same_goes t u x few h e fl ge = own.step_if_goes X P V Inv (frames.frames X (words X xs) lasts V Inv) n s2 s1 r [] s1.callers refl (omega arith) now.below S Q left refl ended refl refl X.body1 (moment.eb now) (λ h x y v e q. ((moment.pl now).only h x y e).0) (λ h x y lt e. (let z = ((moment.pl now).only h x y e).0 in omega (arith, z, lt))) t u x few h e fl ge
 
   -- ---- edges
@@ -214,7 +214,7 @@ module _ {X : Change} {xs : List Reached} {V : Valids X} {Inv : State → Type 0
         (m2', g1, (living_lent j f2 f1 (moment.pl now) all m2' m1' l', lv), (0, (refl, record { stand = both_stand u; locals = holds_linked j f2 f1 (moment.pl now) m2' m1' l'; says = record { block = refl; at = refl; point = point } })));
   }
 
-  calls : (p : Place) (g : Callee) (os : List Operand) (u : ℕ) (x : Next) → k.term ≡ Call p g os u → TermMoves S.source (Call p g os u) → TermTy X.source S.source (Call p g os u) → FewTerm X.source (Call p g os u) → finish X.source S.source s1 (Call p g os u) ≡ Some x → Flat x → GentleTo X G f1 s1.memory x → Goes X P (finish (target X) S.target s2 (Call p g (folded_operands T last os) u)) x
+  calls : (p : Place) (g : Callee) (os : List Operand) (u : ℕ) (x : Next) → k.term ≡ Call p g os u → TermMoves S.source (Call p g os u) → TermTy X.source S.source (Call p g os u) → ArgsTerm X.source (Call p g os u) → finish X.source S.source s1 (Call p g os u) ≡ Some x → Flat x → GentleTo X G f1 s1.memory x → Goes X P (finish (target X) S.target s2 (Call p g (folded_operands T last os) u)) x
   calls p g os u x is mo (t, pt, ct) few e fl ge = same_goes (Call p g os u) (Call p g (folded_operands T last os) u) x few (
     refl,
     folded_read now last os mo,
@@ -225,7 +225,7 @@ module _ {X : Change} {xs : List Reached} {V : Valids X} {Inv : State → Type 0
 
   -- ---- each terminator
 
-  pub term_goes : (t : Term) (x : Next) → k.term ≡ t → is_drop t ≡ false → TermMoves S.source t → TermTy X.source S.source t → FewTerm X.source t → finish X.source S.source s1 t ≡ Some x → Flat x → GentleTo X G f1 s1.memory x → Goes X P (finish (target X) S.target s2 (folded_term T last t)) x
+  pub term_goes : (t : Term) (x : Next) → k.term ≡ t → is_drop t ≡ false → TermMoves S.source t → TermTy X.source S.source t → ArgsTerm X.source t → finish X.source S.source s1 t ≡ Some x → Flat x → GentleTo X G f1 s1.memory x → Goes X P (finish (target X) S.target s2 (folded_term T last t)) x
   unfolding folded_term leads after_term
   term_goes (Goto u) x is nd mo ty few e fl ge = same_goes (Goto u) (Goto u) x tt (λ m2 m1 q. edge u (ap (λ t. leads last t u) is ∙ eq_self u) (ap (λ t. after_term t last) is) m2 m1 q) e fl ge
   term_goes (Switch p arms u) x is nd mo ty few e fl ge = switches p arms u x is mo e fl ge

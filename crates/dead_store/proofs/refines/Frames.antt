@@ -236,6 +236,6 @@ module _ (X : Change) (once : X.body2 ≡ pruned_once X.source.shapes X.body1) w
       kept = kept_law;
       once = home_once lent;
       slots = λ j vs ws hv few x y e v k. subst (λ y. SomeRel j v (slice_get (new_slots D X.body2.locals ws) y)) (home_some lent x y e).1 (slots_same D X.body2.locals X.body1.locals same_locals j vs ws hv.0 x v k);
-      begins = λ j k2 k1 d2 d1 m2 m1 vs ws hv few f1 f2 l. (let (n, st, h) = begins j k2 k1 d2 d1 m2 m1 vs ws hv.0 f1 f2 in (n, (refl, st, h)));
+      begins = λ j k2 k1 d2 d1 m2 m1 vs ws hv ar f1 f2 l. (let (n, st, h) = begins j k2 k1 d2 d1 m2 m1 vs ws hv.0 f1 f2 in (n, (refl, st, h)));
       resumes = λ n s2 s1 r m2 m1 c2 c1 gs ds cs2 v w x q q2 p2 p1 l wt be l1 l2 lo dt hv wh k ge. resumed n s2 s1 r m2 m1 c2 c1 gs ds cs2 v w x q l wt be l1 l2 dt hv k ge;
     }

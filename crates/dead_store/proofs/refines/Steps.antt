@@ -10,7 +10,7 @@ use Rattle.mir_renaming.proofs.Typed.{TermTy}
 use Rattle.mir_renaming.proofs.Ghosts.{Flat}
 use Rattle.mir_relate.specs.Simulation.{keep_on}
 use Rattle.mir_relate.specs.Frames.{Change, target, Pass}
-use Rattle.mir_relate.specs.Pass.{GentleTo, Valids, StmtMoves, TermMoves, FewTerm, Laws, Goes, Answers}
+use Rattle.mir_relate.specs.Pass.{GentleTo, Valids, StmtMoves, TermMoves, ArgsTerm, Laws, Goes, Answers}
 use Rattle.mir_relate.proofs.BodyLaw.{goes_answer}
 use Rattle.mir_relate.proofs.Leaves.{some_val}
 use Rattle.mir_relate.proofs.Mild.{gentle_on}
@@ -60,7 +60,7 @@ module _ {X : Change} {once : X.body2 ≡ pruned_once X.source.shapes X.body1} {
     only_k : (k' : TypedBlock) → slice_get X.body1.blocks s1.top.block ≡ Some k' → k ≡ k'
     only_k k' e = some_val (sym ek ∙ e)
 
-    end_step : (x : Next) → slice_get k.stmts s1.top.at ≡ None → TermMoves H1 k.term → TermTy X.source H1 k.term → FewTerm X.source k.term → perform X.source H1 s1 k.term None ≡ Some x → Flat x → GentleTo X G f1 s1.memory x → Answers X P n s2 x
+    end_step : (x : Next) → slice_get k.stmts s1.top.at ≡ None → TermMoves H1 k.term → TermTy X.source H1 k.term → ArgsTerm X.source k.term → perform X.source H1 s1 k.term None ≡ Some x → Flat x → GentleTo X G f1 s1.memory x → Answers X P n s2 x
     unfolding perform
     end_step x none mo ty few e fl ge =
         let nil2 : drop s2.top.at left2 ≡ [] = (st.here k ek).0 ∙ ap (without (gone i0) s1.top.at) (drop_none k.stmts s1.top.at none) in

@@ -177,6 +177,6 @@ module _ (X : Change) (once : X.body2 ≡ merged_by (is_shared X.body1 (home_of 
       kept = frames.kept_law X once;
       once = home_once (frames.lent X once);
       slots = λ j vs ws hv few x y e v k. subst (λ y. SomeRel j v (slice_get (new_slots D X.body2.locals ws) y)) (home_some (frames.lent X once) x y e).1 (slots_same D X.body2.locals X.body1.locals (frames.same_locals X once) j vs ws hv.0 x v k);
-      begins = λ j k2 k1 d2 d1 m2 m1 vs ws hv few f1 f2 l. (let (n, st, h) = begins j k2 k1 d2 d1 m2 m1 vs ws hv.0 few f1 f2 in (n, (refl, st, h)));
-      resumes = λ n s2 s1 r m2 m1 c2 c1 gs ds cs2 v w x q q2 p2 p1 l wt be l1 l2 lo dt hv wh k ge. frames.resumed X once V Inv n s2 s1 r m2 m1 c2 c1 gs ds cs2 v w x q l wt be l1 l2 dt hv (whole_rel r.core.lent v w hv.0 wh) k ge;
+      begins = λ j k2 k1 d2 d1 m2 m1 vs ws hv ar f1 f2 l. (let (n, st, h) = begins j k2 k1 d2 d1 m2 m1 vs ws hv.0 (let a = ar.all in omega (arith, a)) f1 f2 in (n, (refl, st, h)));
+      resumes = λ n s2 s1 r m2 m1 c2 c1 gs ds cs2 v w x q q2 p2 p1 l wt be l1 l2 lo dt hv wh k ge. frames.resumed X once V Inv n s2 s1 r m2 m1 c2 c1 gs ds cs2 v w x q l wt be l1 l2 dt hv (whole_rel r.core.lent v w hv.0 wh.no_hole) k ge;
     }

@@ -11,7 +11,7 @@ use Rattle.mir_renaming.proofs.Typed.{TermTy}
 use Rattle.mir_renaming.proofs.Types.{StmtTy}
 use Rattle.mir_rules.specs.Drops.{NoDrops}
 use Rattle.mir_relate.specs.Frames.{Change, target, Pass}
-use Rattle.mir_relate.specs.Pass.{Valids, StmtMoves, TermMoves, FewTerm, GentleTo, Laws, Goes, Answers}
+use Rattle.mir_relate.specs.Pass.{Valids, StmtMoves, TermMoves, ArgsTerm, GentleTo, Laws, Goes, Answers}
 use Rattle.mir_relate.specs.Simulation.{keep_on}
 use Rattle.mir_relate.proofs.BodyLaw.{goes_answer}
 use Rattle.mir_relate.proofs.Leaves.{some_val}
@@ -70,7 +70,7 @@ module _ {X : Change} {once : X.body2 ≡ merged_by (is_shared X.body1 (home_of 
     only_k : (k' : TypedBlock) → slice_get X.body1.blocks s1.top.block ≡ Some k' → k ≡ k'
     only_k k' e = some_val (sym ek ∙ e)
 
-    end_step : (x : Next) → slice_get k.stmts s1.top.at ≡ None → TermMoves H1 k.term → TermTy X.source H1 k.term → FewTerm X.source k.term → perform X.source H1 s1 k.term None ≡ Some x → Flat x → GentleTo X G f1 s1.memory x → Answers X P n s2 x
+    end_step : (x : Next) → slice_get k.stmts s1.top.at ≡ None → TermMoves H1 k.term → TermTy X.source H1 k.term → ArgsTerm X.source k.term → perform X.source H1 s1 k.term None ≡ Some x → Flat x → GentleTo X G f1 s1.memory x → Answers X P n s2 x
     unfolding perform
     end_step x none mo ty few e fl ge =
         let nil2 : drop s2.top.at (left_of k.stmts) ≡ [] = (st.here k ek).0 ∙ ap left_of (drop_none k.stmts s1.top.at none) in

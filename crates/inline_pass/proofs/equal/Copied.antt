@@ -1,43 +1,23 @@
 -- The copies that the code makes of a formed callee are those of the definition.
-use Rattle.std.proofs.Common.{◌≡◌, refl, ap, ap₂, ◌∙◌, ℕ, ◌+◌, ◌<◌, ◌^◌, true, List, [], ◌∷◌, ◌++◌, map, length, arith}
+use Rattle.std.proofs.Common.{◌≡◌, refl, sym, ap, ap₂, ◌∙◌, ℕ, ◌+◌, ◌<◌, ◌^◌, true, List, [], ◌∷◌, ◌++◌, append_assoc, map, length, get_or, take, arith}
 use Rattle.std.specs.List.{list_all}
-use Rattle.std.proofs.lemmas.List.{map-append}
+use Rattle.std.proofs.lemmas.List.{map-append, take_more}
 use Rattle.std.proofs.Math.Nat.{min-eq_left}
 use Rattle.mir_syntax.specs.declared.body.Place.{Place}
-use Rattle.mir_syntax.specs.declared.body.Rvalue.{Rvalue}
-use Rattle.mir_syntax.specs.declared.body.Rvalue.TheVariants as rvalue
 use Rattle.mir_syntax.specs.declared.body.Stmt.{Stmt}
-use Rattle.mir_syntax.specs.declared.body.Stmt.TheVariants as stmt
 use Rattle.mir_syntax.specs.declared.body.Term.{Term}
 use Rattle.mir_syntax.specs.declared.body.Term.TheVariants.{Goto, Switch, Return, Unreachable, Drop, Call, Assert}
 use Rattle.mir_syntax.specs.declared.body.Block.{Block}
 use Rattle.mir_syntax.specs.Tree.{Tree}
-use Rattle.mir_syntax.specs.Crate.{assign, TypedBody, Crate, rvalue_of, stmt_of, block_of}
+use Rattle.mir_syntax.specs.Crate.{TypedBody, Crate, stmt_of, block_of}
 use Rattle.mir_rules.specs.Formed.{stmt_formed, term_formed, block_formed}
 use Rattle.mir_rules.proofs.Lists.{and_true-left, and_true-right}
-use Rattle.trim_locals.specs.Trimmed.{renamed_place, renamed_rvalue, renamed_stmt}
-use Rattle.trim_locals.specs.Code.{bare_renamed_rvalue, bare_renamed_stmt}
+use Rattle.trim_locals.specs.Trimmed.{renamed_stmt}
+use Rattle.trim_locals.specs.Code.{bare_renamed_stmt}
+use Rattle.trim_locals.proofs.equal.Same.{stmt_renamed}
 use Rattle.inline_pass.specs.Spliced.{after, term_after, result_to, block_after}
 use Rattle.inline_pass.specs.Code.{shifted, bare_term, bare_result, bare_block}
 use Rattle.inline_pass.proofs.equal.Agree.{stmt_agree, term_agree}
-
-rvalue_renamed : (trees : List Tree) (f : ℕ → ℕ) (r : Rvalue) → rvalue_of trees (bare_renamed_rvalue f r) ≡ renamed_rvalue f (rvalue_of trees r)
-rvalue_renamed trees f (rvalue.Use a) = refl
-rvalue_renamed trees f (rvalue.Binary op a b) = refl
-rvalue_renamed trees f (rvalue.Overflow op a b) = refl
-rvalue_renamed trees f (rvalue.Unary op a) = refl
-rvalue_renamed trees f (rvalue.Cast a ty) = refl
-rvalue_renamed trees f (rvalue.Ref p) = refl
-rvalue_renamed trees f (rvalue.RefMut p) = refl
-rvalue_renamed trees f (rvalue.Discriminant p) = refl
-rvalue_renamed trees f (rvalue.Tuple parts) = refl
-rvalue_renamed trees f (rvalue.Build d v parts) = refl
-
-stmt_renamed : (trees : List Tree) (f : ℕ → ℕ) (s : Stmt) → stmt_of trees (bare_renamed_stmt f s) ≡ renamed_stmt f (stmt_of trees s)
-stmt_renamed trees f (stmt.Assign p r) = ap (assign (renamed_place f p)) (rvalue_renamed trees f r)
-stmt_renamed trees f (stmt.StorageLive x) = refl
-stmt_renamed trees f (stmt.StorageDead x) = refl
-stmt_renamed trees f (stmt.SetDiscriminant p k) = refl
 
 -- a number that fits
 pub shifted_is : (n m x : ℕ) → n + m < 2 ^ 32 → x < m → shifted n x ≡ after n x
@@ -89,3 +69,10 @@ module _ (C : Crate) (h : TypedBody) (trees : List Tree) (locals blocks : ℕ) (
   blocks_copied (k ∷ ks) e =
       let rest = list_all (block_formed C h) (map (block_of trees) ks) in
       ap₂ (λ x xs. x ∷ xs) (block_copied k (and_true-left (block_formed C h (block_of trees k)) rest e)) (blocks_copied ks (and_true-right (block_formed C h (block_of trees k)) rest e))
+
+-- one block more at the end
+pub pushed_more : {A B : Type 0} (f : A → B) (old now now2 : List B) (xs : List A) (i : ℕ) (k : A) (copy : B) → i < length xs → k ≡ get_or xs i k → now ≡ old ++ map f (take i xs) → now2 ≡ now ++ copy ∷ [] → copy ≡ f k → now2 ≡ old ++ map f (take (i + 1) xs)
+pushed_more f old now now2 xs i k copy l there e more is =
+    more ∙ ap₂ (λ ys y. ys ++ y ∷ []) e (is ∙ ap f there)
+    ∙ append_assoc old (map f (take i xs)) (f (get_or xs i k) ∷ [])
+    ∙ ap (λ ys. old ++ ys) (sym (map-append f (take i xs) (get_or xs i k ∷ [])) ∙ ap (map f) (sym (take_more xs i k l)))

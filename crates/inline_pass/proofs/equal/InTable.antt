@@ -8,7 +8,6 @@ use Rattle.mir_syntax.specs.declared.types.TyId.{TyId}
 use Rattle.mir_syntax.specs.declared.types.Ty.{Ty}
 use Rattle.mir_syntax.specs.declared.body.Place.{Place}
 use Rattle.mir_syntax.specs.declared.body.Operand.{Operand}
-use Rattle.mir_syntax.specs.declared.body.Rvalue.{Rvalue}
 use Rattle.mir_syntax.specs.declared.body.Rvalue.TheVariants as rvalue
 use Rattle.mir_syntax.specs.declared.body.Stmt.{Stmt}
 use Rattle.mir_syntax.specs.declared.body.Stmt.TheVariants as stmt
@@ -17,9 +16,10 @@ use Rattle.mir_syntax.specs.declared.body.Term.TheVariants.{Goto, Switch, Return
 use Rattle.mir_syntax.specs.declared.body.Block.{Block}
 use Rattle.mir_syntax.specs.declared.body.Body.{Body}
 use Rattle.mir_syntax.specs.Table.{all_below}
-use Rattle.mir_syntax.specs.Ids.{rvalue_below, stmt_below, block_below, BodyInTable}
+use Rattle.mir_syntax.specs.Ids.{stmt_below, block_below, BodyInTable}
 use Rattle.mir_syntax.specs.Parts.{has_deref}
-use Rattle.trim_locals.specs.Code.{bare_renamed_rvalue, bare_renamed_stmt}
+use Rattle.trim_locals.specs.Code.{bare_renamed_stmt}
+use Rattle.trim_locals.proofs.equal.InTable.{stmt_same}
 use Rattle.inline_pass.specs.declared.call.Call as call
 use Rattle.inline_pass.specs.Spliced.{whole_local, kept_dest}
 use Rattle.inline_pass.specs.Code.{shifted, bare_result, bare_block, bare_kept, bare_handed, kept_id, bare_entered, set_by, bare_with_call}
@@ -32,29 +32,11 @@ module _ (n : ℕ) where
   all_append : {A : Type 0} (test : A → Bool) (xs ys : List A) → list_all test xs ≡ true → list_all test ys ≡ true → list_all test (xs ++ ys) ≡ true
   all_append test xs ys a b = list_all-append test xs ys ∙ and_from (list_all test xs) (list_all test ys) a b
 
-  rvalue_copied : (f : ℕ → ℕ) (r : Rvalue) → rvalue_below n (bare_renamed_rvalue f r) ≡ rvalue_below n r
-  rvalue_copied f (rvalue.Use a) = refl
-  rvalue_copied f (rvalue.Binary op a b) = refl
-  rvalue_copied f (rvalue.Overflow op a b) = refl
-  rvalue_copied f (rvalue.Unary op a) = refl
-  rvalue_copied f (rvalue.Cast a ty) = refl
-  rvalue_copied f (rvalue.Ref p) = refl
-  rvalue_copied f (rvalue.RefMut p) = refl
-  rvalue_copied f (rvalue.Discriminant p) = refl
-  rvalue_copied f (rvalue.Tuple parts) = refl
-  rvalue_copied f (rvalue.Build d v parts) = refl
-
-  stmt_copied : (f : ℕ → ℕ) (s : Stmt) → stmt_below n (bare_renamed_stmt f s) ≡ stmt_below n s
-  stmt_copied f (stmt.Assign p r) = rvalue_copied f r
-  stmt_copied f (stmt.StorageLive x) = refl
-  stmt_copied f (stmt.StorageDead x) = refl
-  stmt_copied f (stmt.SetDiscriminant p k) = refl
-
   stmts_copied : (f : ℕ → ℕ) (ss : List Stmt) → list_all (stmt_below n) ss ≡ true → list_all (stmt_below n) (map (bare_renamed_stmt f) ss) ≡ true
   stmts_copied f [] e = refl
   stmts_copied f (s ∷ ss) e =
       let (l, r) = and_parts (stmt_below n s) (list_all (stmt_below n) ss) e in
-      and_from (stmt_below n (bare_renamed_stmt f s)) (list_all (stmt_below n) (map (bare_renamed_stmt f) ss)) (stmt_copied f s ∙ l) (stmts_copied f ss r)
+      and_from (stmt_below n (bare_renamed_stmt f s)) (list_all (stmt_below n) (map (bare_renamed_stmt f) ss)) (stmt_same n f s ∙ l) (stmts_copied f ss r)
 
   result_below : (locals : ℕ) (dest : Place) (t : Term) → list_all (stmt_below n) (bare_result locals dest t) ≡ true
   result_below locals dest Return = refl

@@ -22,5 +22,8 @@ module _ (trees : List Tree) (fs : List Function) (C : Crate) (is : C.functions 
     pub no_body : None ≡ lent g → None ≡ Taken
     no_body e = sym (some_bind _ found (bind_gone (option_map (body_of trees) (lent g)) _ (ap (option_map (body_of trees)) (sym e))))
 
-    pub taken_if : (h : Body) → Some h ≡ lent g → (b : Bool) → b ≡ takes large f.inline (qualifies g) (body_of trees h) → if_taken b (body_of trees h) ≡ Taken
-    taken_if h e b q = ap (λ b. if_taken b (body_of trees h)) q ∙ sym (some_bind _ found (some_bind _ (ap (option_map (body_of trees)) (sym e)) refl))
+    -- given the answers of the code: whether the function qualifies, and whether the body is taken
+    pub taken_if : (h : Body) → Some h ≡ lent g → (free b : Bool) → free ≡ qualifies g → b ≡ takes large f.inline free (body_of trees h) → if_taken b (body_of trees h) ≡ Taken
+    taken_if h e free b k q =
+        ap (λ b. if_taken b (body_of trees h)) (q ∙ ap (λ (free : Bool). takes large f.inline free (body_of trees h)) k)
+        ∙ sym (some_bind _ found (some_bind _ (ap (option_map (body_of trees)) (sym e)) refl))

@@ -3,18 +3,16 @@ use Rattle.std.proofs.Common.{◌≡◌, ◌⊎◌, inl, inr, refl, sym, ap, ap�
 use Rattle.std.proofs.lemmas.List.{length-append, length-map}
 use Rattle.std.proofs.lemmas.Option.{slice_get_past}
 use Rattle.mir_syntax.specs.declared.body.Proj.TheVariants.{Deref}
-use Rattle.mir_syntax.specs.declared.body.Place.{Place}
-use Rattle.mir_syntax.specs.declared.body.Operand.{Operand}
 use Rattle.mir_syntax.specs.declared.body.Operand.TheVariants as operand
 use Rattle.mir_syntax.specs.declared.body.Term.TheVariants.{Goto, Return}
 use Rattle.mir_syntax.specs.Tree.{Tree}
-use Rattle.mir_syntax.specs.Crate.{«use», TypedStmt, assign, TypedBlock, TypedBody}
-use Rattle.mir_syntax.specs.Shapes.{Shape, place_ty, needs_drop}
+use Rattle.mir_syntax.specs.Crate.{«use», TypedStmt, assign, TypedBlock}
+use Rattle.mir_syntax.specs.Shapes.{place_ty, needs_drop}
 use Rattle.mir_semantics.specs.Values.{Addr, Value, pointer, blank}
 use Rattle.mir_semantics.specs.Memory.{Memory, local_at, value_at, write, there, project, walk, close_frame}
-use Rattle.mir_semantics.specs.Step.{Code, Dest, Control, State, Here, local_addr, resolve, type_of, guard_of, dest_of, store, read_at, read, eval, exec, to_block, next_stmt, finish, perform, step}
+use Rattle.mir_semantics.specs.Step.{Dest, Control, State, Here, local_addr, resolve, type_of, guard_of, dest_of, store, read_at, read, eval, exec, to_block, next_stmt, finish, perform, step}
 use Rattle.mir_syntax.specs.Parts.{has_deref}
-use Rattle.mir_renaming.specs.Renaming.{Renaming, AddrRel, ValueRel}
+use Rattle.mir_renaming.specs.Renaming.{AddrRel, ValueRel}
 use Rattle.mir_syntax.proofs.Binds.{bind_some, some_bind}
 use Rattle.mir_renaming.proofs.Memory.{value_at_rel, write_target, write_other}
 use Rattle.mir_renaming.proofs.Statements.{Linked, DestRel, read_at_rel, store_rel}
@@ -23,33 +21,26 @@ use Rattle.trim_locals.specs.Trimmed.{renamed_stmt}
 use Rattle.mir_relate.proofs.Leaves.{some_val}
 use Rattle.mir_renaming.proofs.Stores.{write_there}
 use Rattle.inline_pass.specs.Spliced.{whole_local, after, referent_of, kept_dest, term_after, block_after, result_to}
-use Rattle.inline_pass.proofs.refines.Into.{Into, Stands, into, into_parts, into_at, close_back, close_inner}
+use Rattle.inline_pass.proofs.refines.Into.{Into, into, into_parts, into_at, close_back, close_inner}
 use Rattle.inline_pass.proofs.refines.Both.{store_both}
 use Rattle.inline_pass.proofs.refines.Stacks as stacks
 use Rattle.inline_pass.proofs.refines.Stacks.{Onward, onward_trans, stack_onward}
 use Rattle.inline_pass.proofs.refines.Onwards.{onward_refl, onward_both, onward_alone, onward_target, onward_close_alone, stmt_moves}
-use Rattle.inline_pass.proofs.Bodies.{b2, own_locals, copy_locals, kept_there, copy_blocks, stand_end}
+use Rattle.inline_pass.proofs.Bodies.{own_locals, copy_locals, kept_there, copy_blocks, stand_end}
 use Rattle.inline_pass.proofs.refines.Keep.{walk_there}
+use Rattle.inline_pass.proofs.refines.Setting.{Setting, words, Moment, seen, is1, is_h, first_of, p_in}
 use Rattle.inline_pass.proofs.refines.Site.{moves_last}
 
-module _ (C1 : Code) (bodies2 : List TypedBody) (f g : ℕ) (b1 h : TypedBody) (p : Place) (next : ℕ) (i : ℕ) (k : TypedBlock) (is_k : slice_get b1.blocks i ≡ Some k) (os : List Operand) (is1 : slice_get C1.bodies f ≡ Some b1) (is2 : slice_get bodies2 f ≡ Some (b2 b1 h i k is_k p os next)) (tp : Tree) (p_ty : place_ty C1.shapes b1.locals p ≡ Some tp) (result_ty : (t : Tree) → place_ty C1.shapes b1.locals p ≡ Some t → slice_get h.locals 0 ≡ Some t) (p_in : p.local < length b1.locals) (th : Tree) (h_first : slice_get h.locals 0 ≡ Some th) where
-  abbrev C2 : Code
-  C2 = record C1 { bodies = bodies2 }
+module _ (S : Setting) where
+  open S use {bodies2, f, i, k, is_k, p, os, next, is2, tp, p_ty, result as result_ty}
+  open words S use {X, X.{g}, C1, C2, D, b1, h, bt, B, L, d, Rel, Stack, Own, Inner}
 
-  abbrev D : List Shape
-  D = C1.shapes
+  -- the type of the callee's result
+  abbrev th : Tree
+  th = (first_of S g h (is_h S)).0
 
-  abbrev L : ℕ
-  L = length b1.locals
-
-  abbrev B : ℕ
-  B = length b1.blocks
-
-  abbrev d : ℕ
-  d = L + length h.locals
-
-  abbrev bt : TypedBody
-  bt = b2 b1 h i k is_k p os next
+  h_first : slice_get h.locals 0 ≡ Some th
+  h_first = (first_of S g h (is_h S)).1
 
   h_long : 0 < length h.locals
   h_long = go h.locals h_first
@@ -64,15 +55,9 @@ module _ (C1 : Code) (bodies2 : List TypedBody) (f g : ℕ) (b1 h : TypedBody) (
       let (t, e1, e2) = bind_some p_ty in
       some_bind _ (own_locals b1 h i k is_k p os next p.local t e1) e2
 
-  module _ (s2 s1 : State) (r : stacks.Rel C1 bodies2 f g b1 h p next s2 s1) (c0 : Control) (ds : List Control) (inner : stacks.Inner C1 bodies2 f g b1 h p next r.stands s2.memory s1.memory s2.top s1.top c0) (below : s2.top.frame < s2.next) (more : stacks.Stack C1 bodies2 f g b1 h p next r.stands s2.memory s1.memory s2.top.frame s2.callers ds) (n : TypedBlock) (is_n : slice_get h.blocks s1.top.block ≡ Some n) (ends : n.term ≡ Return) (at_end : s1.top.at ≡ length n.stmts) where
-    abbrev F : Stands
-    F = r.stands
-
-    abbrev J : Renaming
-    J = into F
-
-    abbrev a0 : ℕ
-    a0 = s2.top.frame
+  module _ (now : Moment S) (c0 : Control) (ds : List Control) (inner : Inner now.r.stands now.s2.memory now.s1.memory now.s2.top now.s1.top c0) (more : Stack now.r.stands now.s2.memory now.s1.memory now.s2.top.frame now.s2.callers ds) (n : TypedBlock) (is_n : slice_get h.blocks now.s1.top.block ≡ Some n) (ends : n.term ≡ Return) (at_end : now.s1.top.at ≡ length n.stmts) where
+    open now use {s2, s1, r, below}
+    open seen S now use {F, J, a0}
 
     abbrev e1 : ℕ
     e1 = s1.top.frame
@@ -142,7 +127,7 @@ module _ (C1 : Code) (bodies2 : List TypedBody) (f g : ℕ) (b1 h : TypedBody) (
         plain q (is, gu) =
             let (old, e) = old_there in
             let b : Addr = record { frame = a0; local = p.local; path = p.proj } in
-            let ab : AddrRel J inner.to.addr b = record { root = ap (λ (a : Addr). J a.frame a.local) is ∙ into_at F c0.frame p.local _ p.local inner.ghost0 p_in (omega arith); path = ap (λ (a : Addr). a.path) is } in
+            let ab : AddrRel J inner.to.addr b = record { root = ap (λ (a : Addr). J a.frame a.local) is ∙ into_at F c0.frame p.local _ p.local inner.ghost0 (p_in S) (omega arith); path = ap (λ (a : Addr). a.path) is } in
             let (old2, e2, _) = value_at_rel J J k2 k1 link_moved.mem inner.to.addr b ab old e in
             let w = walk_there p.proj k2 (record { frame = a0; local = p.local; path = [] }) old2 q e2 in
             (record { addr = b; guard = guard_of D p.proj tp }, some_bind _ w (some_bind _ p_ty2 refl), record { addr = ab; guard = gu ∙ sym (ap (λ c. if c && needs_drop D tp then Some tp else None) q) })
@@ -166,7 +151,7 @@ module _ (C1 : Code) (bodies2 : List TypedBody) (f g : ℕ) (b1 h : TypedBody) (
             let (old2, e2, _) = value_at_rel J J k2 k1 link_moved.mem inner.to.addr b ab old e in
             (record { addr = b; guard = guard_of D (Deref ∷ []) t }, some_bind _ (behind_at b old2 at e2) (some_bind _ (behind_ty t q ty) refl), record { addr = ab; guard = gu })
 
-        found : (c : Bool) → has_deref p.proj ≡ c → stacks.Held C1 bodies2 f g b1 h p next c F s2.memory inner.to a0 c0.frame → Found c
+        found : (c : Bool) → has_deref p.proj ≡ c → stacks.Held X c F s2.memory inner.to a0 c0.frame → Found c
         found false q e = plain q e
         found true q e = behind q e
 
@@ -205,14 +190,14 @@ module _ (C1 : Code) (bodies2 : List TypedBody) (f g : ℕ) (b1 h : TypedBody) (
         inner_shape (inl le) = inr le
         inner_shape (inr le) = inr le
 
-        own_back : (q : Done) → stacks.Own C1 bodies2 f g b1 h p next F q.memory m1 (back2 q.memory).top c0
+        own_back : (q : Done) → Own F q.memory m1 (back2 q.memory).top c0
         unfolding local_addr
         own_back q = record {
           function = inner.function2 ∙ sym inner.function0;
           block = sym inner.block0;
           place = sym inner.place0;
           body = b1;
-          is_body = ap (slice_get C1.bodies) inner.function0 ∙ is1;
+          is_body = ap (slice_get C1.bodies) inner.function0 ∙ is1 S;
           ghost = inner.ghost0;
           dest = inner.dest;
           calm = inner.calm0;
@@ -222,7 +207,7 @@ module _ (C1 : Code) (bodies2 : List TypedBody) (f g : ℕ) (b1 h : TypedBody) (
           room = λ b is x t at. (let (w, e) = inner.room b is x t at in let (w', e') = write_there s2.memory (record { frame = a0; local = L; path = [] }) (blank D th) a0 x w e in q.onward.room a0 x w' below e');
         }
 
-        rel_back : (q : Done) → stacks.Rel C1 bodies2 f g b1 h p next (back2 q.memory) back1
+        rel_back : (q : Done) → Rel (back2 q.memory) back1
         unfolding local_addr
         rel_back q =
             let o1 : Onward F a0 s2.memory s1.memory k2 s1.memory = onward_target F a0 s2.memory s1.memory (record { frame = a0; local = L; path = [] }) (blank D th) (omega arith) in
@@ -236,7 +221,7 @@ module _ (C1 : Code) (bodies2 : List TypedBody) (f g : ℕ) (b1 h : TypedBody) (
               answers = r.answers;
               trace = r.trace;
               link = q.link;
-              stack = (below, inl (c0, ds, refl, own_back q, stack_onward C1 bodies2 f g b1 h p next F a0 s2.memory s1.memory q.memory m1 s2.callers ds o more));
+              stack = (below, inl (c0, ds, refl, own_back q, stack_onward X F a0 s2.memory s1.memory q.memory m1 s2.callers ds o more));
             }
 
         abbrev copy : TypedBlock
@@ -265,5 +250,5 @@ module _ (C1 : Code) (bodies2 : List TypedBody) (f g : ℕ) (b1 h : TypedBody) (
             moves_last C2 1 s2 s' (back2 q.memory) (ap (keep_on (moves C2 0)) first) (some_bind _ here1 (some_bind _ here2 (ap (λ o. perform C2 A2 s' copy.term o) past ∙ ap (λ t. finish C2 A2 s' t) goes)))
 
         -- the source's step is followed
-        pub back_rel : (m : Memory) × (moves C2 2 s2 ≡ Some (back2 m)) × stacks.Rel C1 bodies2 f g b1 h p next (back2 m) back1
+        pub back_rel : (m : Memory) × (moves C2 2 s2 ≡ Some (back2 m)) × Rel (back2 m) back1
         back_rel = (done.memory, moved done, rel_back done)

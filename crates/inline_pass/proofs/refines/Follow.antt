@@ -1,6 +1,5 @@
 -- Calls and returns of frames that stand alone.
 use Rattle.std.proofs.Common.{◌≡◌, ◌⊎◌, inl, inr, refl, sym, ap, ◌∙◌, subst, ℕ, suc, ◌+◌, ◌<◌, ◌≤◌, true, false, nat_eq, List, [], ◌∷◌, length, Option, Some, None, slice_get, arith}
-use Rattle.mir_syntax.specs.declared.body.Place.{Place}
 use Rattle.mir_syntax.specs.declared.body.Callee.{Callee}
 use Rattle.mir_syntax.specs.declared.body.Callee.TheVariants as callee
 use Rattle.mir_syntax.specs.Tree.{Tree, scalar}
@@ -19,10 +18,10 @@ use Rattle.mir_renaming.proofs.Frames.{open_same, open_other, new_control}
 use Rattle.mir_relate.proofs.Leaves.{some_val}
 use Rattle.mir_relate.proofs.Enter.{values_up}
 use Rattle.mir_relate.proofs.Others.{numbers_same}
-use Rattle.inline_pass.proofs.refines.Into.{Into, Stands, placed, into, stand, stand_new, stand_old, stand_sub, into_parts, open_both}
+use Rattle.inline_pass.proofs.refines.Into.{Into, Stands, placed, into, stand, stand_new, stand_old, stand_sub, into_parts, open_both, new_apart}
 use Rattle.inline_pass.proofs.refines.Both.{store_both}
 use Rattle.inline_pass.proofs.refines.Stacks as stacks
-use Rattle.inline_pass.proofs.refines.Stacks.{Onward, onward_trans, dests_up, stack_onward, stack_up}
+use Rattle.inline_pass.proofs.refines.Stacks.{OneCall, Onward, onward_trans, dests_up, stack_onward, stack_up}
 use Rattle.inline_pass.proofs.refines.Onwards.{onward_refl, onward_both, onward_alone}
 use Rattle.inline_pass.proofs.refines.Slots.{slot_there, slots_both}
 
@@ -30,16 +29,9 @@ use Rattle.inline_pass.proofs.refines.Slots.{slot_there, slots_both}
 pub onward_open : (F : Stands) (m2 m1 : Memory) (n : ℕ) (i : Into) (vs2 vs1 : List Value) → Onward (stand F n i) i.frame m2 m1 (open_frame m2 i.frame vs2) (open_frame m1 n vs1)
 onward_open F m2 m1 n i vs2 vs1 = record {
   room = λ a x w l e. (w, open_other m2 i.frame vs2 a x (λ s. omega (arith, s, l)) ∙ e);
-  back = λ e x a z u q l k. (u, sym (open_other m1 n vs1 e x (λ s. away e x a z q l s)) ∙ k);
+  back = λ e x a z u q l k. (u, sym (open_other m1 n vs1 e x (λ s. new_apart F n i e x a z q l s)) ∙ k);
   stay = λ a z w l free e. open_other m2 i.frame vs2 a z (λ s. omega (arith, s, l)) ∙ e;
 }
-  where
-    away : (e x a z : ℕ) → into (stand F n i) e x ≡ Some (a, z) → a < i.frame → n ≡ e → ⊥
-    away e x a z q l s =
-        let (j, h, _, r, _) = into_parts (stand F n i) e x a z q in
-        let same : j ≡ i = some_val (sym h ∙ ap (stand F n i) (sym s) ∙ stand_new F n i) in
-        let y : i.frame ≡ a = ap (λ (j : Into). j.frame) (sym same) ∙ r in
-        omega (arith, y, l)
 
 no_drop : (D : List Shape) (s : State) (c : Control) → c.dropping ≡ None → destroyed D s c ≡ None
 unfolding destroyed ◌>>=◌
@@ -51,7 +43,9 @@ pub record Longer (bt bs : TypedBody) : Type 0 where
   pub first : Tree
   pub is_first : slice_get bs.locals 0 ≡ Some first
 
-module _ (C1 : Code) (bodies2 : List TypedBody) (f g : ℕ) (b1 h : TypedBody) (p : Place) (next : ℕ) (pairs : (k : ℕ) (bs : TypedBody) → slice_get C1.bodies k ≡ Some bs → (bt : TypedBody) × (slice_get bodies2 k ≡ Some bt) × Longer bt bs) where
+module _ (X : OneCall) (pairs : (k : ℕ) (bs : TypedBody) → slice_get X.C1.bodies k ≡ Some bs → (bt : TypedBody) × (slice_get X.bodies2 k ≡ Some bt) × Longer bt bs) where
+  open X use {C1, bodies2}
+
   abbrev pub C2 : Code
   C2 = record C1 { bodies = bodies2 }
 
@@ -59,16 +53,16 @@ module _ (C1 : Code) (bodies2 : List TypedBody) (f g : ℕ) (b1 h : TypedBody) (
   D = C1.shapes
 
   abbrev Rel : State → State → Type 0
-  Rel = stacks.Rel C1 bodies2 f g b1 h p next
+  Rel = stacks.Rel X
 
   abbrev Own : Stands → Memory → Memory → Control → Control → Type 0
-  Own = stacks.Own C1 bodies2 f g b1 h p next
+  Own = stacks.Own X
 
   abbrev Stack : Stands → Memory → Memory → ℕ → List Control → List Control → Type 0
-  Stack = stacks.Stack C1 bodies2 f g b1 h p next
+  Stack = stacks.Stack X
 
   abbrev DestsRel : Renaming → Option Dest → Option Dest → Type 0
-  DestsRel = stacks.DestsRel C1 bodies2 f g b1 h p next
+  DestsRel = stacks.DestsRel X
 
   abbrev pub Follows : Option Next → Next → Type 0
   Follows o (stop x) = o ≡ Some (stop x)
@@ -107,7 +101,7 @@ module _ (C1 : Code) (bodies2 : List TypedBody) (f g : ℕ) (b1 h : TypedBody) (
       answered_rel t2 t1 a2 a1 o2 None x ts as' hm e = follows_at _ x (fail t1) e tt
       answered_rel t2 t1 a2 a1 o2 (Some m1) x ts as' hm e =
           let (m2, q, l', on') = hm m1 refl in
-          follows_by _ _ x (ap (answered (calling s2 t2 a2) c2) q) (follows_at _ x _ e (_, refl, record { stands = F; fresh = r.fresh; low = r.low; answers = as'; trace = ts; link = l'; stack = stack_onward C1 bodies2 f g b1 h p next F s2.next k2 k1 m2 m1 (c2 ∷ s2.callers) (c1 ∷ s1.callers) on' st }))
+          follows_by _ _ x (ap (answered (calling s2 t2 a2) c2) q) (follows_at _ x _ e (_, refl, record { stands = F; fresh = r.fresh; low = r.low; answers = as'; trace = ts; link = l'; stack = stack_onward X F s2.next k2 k1 m2 m1 (c2 ∷ s2.callers) (c1 ∷ s1.callers) on' st }))
 
       pub stored : (n : ℕ) (d c : Dest) (v w : Value) (m1 : Memory) → DestRel (into F) d c → ValueRel (into F) v w → store D k1 d v ≡ Some m1 → (m2 : Memory) × (store D k2 c w ≡ Some m2) × Linked (into F) (into F) m2 m1 × Onward F n k2 k1 m2 m1
       stored n d c v w m1 hd hv e =
@@ -170,7 +164,7 @@ module _ (C1 : Code) (bodies2 : List TypedBody) (f g : ℕ) (b1 h : TypedBody) (
           body = bs;
           is_body = is1;
           ghost = stand_new F s1.next i;
-          dest = dests_up C1 bodies2 f g b1 h p next F s1.next i none d1 d2 hd;
+          dest = dests_up X F s1.next i none d1 d2 hd;
           calm = refl;
           far = λ b k e q. omega arith;
           shape = λ e j q at. inl (ends_new e j q at);
@@ -186,7 +180,7 @@ module _ (C1 : Code) (bodies2 : List TypedBody) (f g : ℕ) (b1 h : TypedBody) (
           answers = r.answers;
           trace = r.trace;
           link = open_both F k2 k1 s1.next i (new_slots D bs.locals vs) none l (new_slots D bt.locals ws) refl r.low slots;
-          stack = (omega arith, inl (new_control fn s1.next d1, c1 ∷ s1.callers, refl, own_new, stack_onward C1 bodies2 f g b1 h p next K s2.next k2 k1 n2 n1 (c2 ∷ s2.callers) (c1 ∷ s1.callers) (onward_open F k2 k1 s1.next i (new_slots D bt.locals ws) (new_slots D bs.locals vs)) (stack_up C1 bodies2 f g b1 h p next F s1.next i none k2 k1 s2.next (c2 ∷ s2.callers) (c1 ∷ s1.callers) (omega arith) st)));
+          stack = (omega arith, inl (new_control fn s1.next d1, c1 ∷ s1.callers, refl, own_new, stack_onward X K s2.next k2 k1 n2 n1 (c2 ∷ s2.callers) (c1 ∷ s1.callers) (onward_open F k2 k1 s1.next i (new_slots D bt.locals ws) (new_slots D bs.locals vs)) (stack_up X F s1.next i none k2 k1 s2.next (c2 ∷ s2.callers) (c1 ∷ s1.callers) (omega arith) st)));
         }
 
       pub call_rel : (d2 d1 : Dest) (q : Callee) (vs ws : List Value) (x : Next) → ValuesRel (into F) vs ws → DestRel (into F) d1 d2 → call C1 s1 k1 c1 d1 q vs ≡ Some x → Follows (call C2 s2 k2 c2 d2 q ws) x
@@ -219,6 +213,6 @@ module _ (C1 : Code) (bodies2 : List TypedBody) (f g : ℕ) (b1 h : TypedBody) (
               let (m1, e1, e2) = bind_some e in
               let (m2, q, l') = store_rel D (into F) (into F) k2 k1 m1 d1 d2 v w hd hv l e1 in
               let o = store_both D [] [] 0 0 (into F) (into F) (λ f x r e. e) (λ m2 m1. Onward F n k2 k1 m2 m1) (λ k2' k1' a b v w x u. onward_both F n k2 k1 k2' k1' a b v w x u) (λ k2' k1' a v. onward_alone F n k2 k1 k2' k1' a v) k2 k1 m2 m1 d1 d2 v w hd e1 q (onward_refl F n k2 k1) in
-              follows_by _ _ x (some_bind _ q refl) (follows_at _ x _ e2 (_, refl, record { stands = F; fresh = r.fresh; low = r.low; answers = r.answers; trace = r.trace; link = l'; stack = stack_more F m2 m1 n s2.next (c2 ∷ cs2) (c1 ∷ ds) below (stack_onward C1 bodies2 f g b1 h p next F n k2 k1 m2 m1 (c2 ∷ cs2) (c1 ∷ ds) o st) }))
+              follows_by _ _ x (some_bind _ q refl) (follows_at _ x _ e2 (_, refl, record { stands = F; fresh = r.fresh; low = r.low; answers = r.answers; trace = r.trace; link = l'; stack = stack_more F m2 m1 n s2.next (c2 ∷ cs2) (c1 ∷ ds) below (stack_onward X F n k2 k1 m2 m1 (c2 ∷ cs2) (c1 ∷ ds) o st) }))
           pop None (Some d1) c1 ds calm st hd e = absurd hd
           pop (Some d2) None c1 ds calm st hd e = absurd hd

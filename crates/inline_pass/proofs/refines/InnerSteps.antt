@@ -1,31 +1,29 @@
 -- Steps of the callee's frame in the caller's.
-use Rattle.std.proofs.Common.{◌≡◌, ◌⊎◌, inl, inr, refl, sym, ap, ◌∙◌, subst, ℕ, suc, ◌+◌, ◌<◌, ◌≤◌, false, List, [], ◌∷◌, ◌++◌, map, length, Some, None, slice_get, arith}
-use Rattle.std.proofs.lemmas.Option.{slice_get_within, slice_get_past}
+use Rattle.std.proofs.Common.{◌≡◌, ◌⊎◌, inl, inr, refl, sym, ap, ◌∙◌, subst, ℕ, suc, ◌+◌, ◌<◌, false, List, [], ◌∷◌, ◌++◌, map, length, Some, None, slice_get, arith}
+use Rattle.std.proofs.lemmas.Option.{slice_get_past}
 use Rattle.std.proofs.lemmas.List.{length-append, length-map}
 use Rattle.mir_syntax.specs.declared.body.Arm.{Arm}
 use Rattle.mir_syntax.specs.declared.body.Place.{Place}
 use Rattle.mir_syntax.specs.declared.body.Term.{Term}
 use Rattle.mir_syntax.specs.declared.body.Term.TheVariants.{Goto, Switch, Return, Unreachable, Drop, Call, Assert}
 use Rattle.mir_syntax.specs.Tree.{Tree}
-use Rattle.mir_syntax.specs.Crate.{TypedStmt, TypedBlock, TypedBody}
-use Rattle.mir_syntax.specs.Shapes.{Shape, ◌>>=◌}
+use Rattle.mir_syntax.specs.Crate.{TypedStmt, TypedBlock}
+use Rattle.mir_syntax.specs.Shapes.{◌>>=◌}
 use Rattle.mir_syntax.proofs.Lists.{map_there, slice_get-none}
 use Rattle.mir_rules.proofs.ValidCrates.{term_formed_at}
 use Rattle.mir_semantics.specs.Values.{Value}
 use Rattle.mir_semantics.specs.Memory.{Memory, local_at, close_frame}
-use Rattle.mir_semantics.specs.Step.{Code, code_of, Control, State, Next, on, Here, exec, to_block, next_stmt, go_on, return_to, finish, step}
+use Rattle.mir_semantics.specs.Step.{Control, Next, on, Here, exec, to_block, next_stmt, go_on, return_to, finish, step}
 use Rattle.mir_syntax.specs.Parts.{has_deref, retargeted_arm}
-use Rattle.mir_renaming.specs.Renaming.{Renaming}
 use Rattle.mir_syntax.proofs.Binds.{bind_some}
-use Rattle.mir_renaming.proofs.Typed.{Typed}
-use Rattle.mir_relate.specs.Simulation.{keep_on, moves}
+use Rattle.mir_relate.specs.Simulation.{moves}
 use Rattle.trim_locals.specs.Trimmed.{renamed_stmt}
 use Rattle.mir_relate.specs.Renumbered.{Numbering}
 use Rattle.mir_relate.proofs.Leaves.{some_val}
 use Rattle.mir_syntax.proofs.Trees.{slice_get-front}
 use Rattle.inline_pass.specs.Spliced.{after, term_after, block_after, result_to, kept_dest}
 use Rattle.mir_rules.specs.Drops.{is_drop}
-use Rattle.inline_pass.proofs.refines.Into.{Into, Stands, into, into_parts}
+use Rattle.inline_pass.proofs.refines.Into.{Into, into_parts}
 use Rattle.inline_pass.proofs.Text.{TermReady, term_ready}
 use Rattle.inline_pass.proofs.refines.Stacks as stacks
 use Rattle.inline_pass.proofs.refines.Stacks.{Onward, own_onward, inner_onward, stack_onward, onward_less}
@@ -34,65 +32,17 @@ use Rattle.inline_pass.proofs.refines.Follow as follow
 use Rattle.inline_pass.proofs.refines.Follow.{Longer, return_rel}
 use Rattle.inline_pass.proofs.refines.Running.{Off, stmt_rel, finish_rel}
 use Rattle.inline_pass.proofs.refines.Running as running
-use Rattle.inline_pass.proofs.Bodies.{b2, copy_locals, copy_blocks}
+use Rattle.inline_pass.proofs.Bodies.{copy_locals, copy_blocks}
 use Rattle.inline_pass.proofs.refines.Back.{back_rel}
-use Rattle.inline_pass.proofs.refines.Setting.{Setting, is1, is_h, formed, first_of, pairs, p_in, stmt_copy, Answer, answer_at, by_step, payloads, term_step, same_local}
-
-abbrev NoReturn : Term → Type 0
-NoReturn Return = ⊥
-NoReturn _ = Unit {0}
+use Rattle.inline_pass.proofs.refines.Setting.{NoReturn, Setting, farther, words, Moment, seen, is_h, formed, pairs, stmt_copy, Answer, answer_at, stmt_answer, by_step, payloads, term_step, same_local}
 
 module _ (S : Setting) where
   open S use {C, valid, bodies2, f, fn, hn, fn_at, g, hn_at, apart, i, k, is_k, p, os, next, term_is, is2, others, valid2, calm, few, tp, p_ty, result}
+  open words S use {X, C1, C2, D, b1, h, bt, B, L, Rel, Stack, Own, Inner}
 
-  abbrev pub C1 : Code
-  C1 = code_of C
-
-  abbrev pub C2 : Code
-  C2 = record C1 { bodies = bodies2 }
-
-  abbrev D : List Shape
-  D = C1.shapes
-
-  abbrev b1 : TypedBody
-  b1 = fn.body
-
-  abbrev h : TypedBody
-  h = hn.body
-
-  abbrev bt : TypedBody
-  bt = b2 b1 h i k is_k p os next
-
-  abbrev B : ℕ
-  B = length b1.blocks
-
-  abbrev L : ℕ
-  L = length b1.locals
-
-  abbrev pub Rel : State → State → Type 0
-  Rel = stacks.Rel C1 bodies2 f g.0 b1 h p next
-
-  abbrev Stack : Stands → Memory → Memory → ℕ → List Control → List Control → Type 0
-  Stack = stacks.Stack C1 bodies2 f g.0 b1 h p next
-
-  abbrev Own : Stands → Memory → Memory → Control → Control → Type 0
-  Own = stacks.Own C1 bodies2 f g.0 b1 h p next
-
-  abbrev Inner : Stands → Memory → Memory → Control → Control → Control → Type 0
-  Inner = stacks.Inner C1 bodies2 f g.0 b1 h p next
-
-  module _ (s2 s1 : State) (r : Rel s2 s1) (ty : Typed C2 valid2 s2) (below : s2.top.frame < s2.next) where
-    abbrev F : Stands
-    F = r.stands
-
-    abbrev J : Renaming
-    J = into F
-
-    abbrev a0 : ℕ
-    a0 = s2.top.frame
-
-    abbrev On : Memory → Memory → Type 0
-    On k2 k1 = Onward F s2.next s2.memory s1.memory k2 k1
+  module _ (now : Moment S) where
+    open now use {s2, s1, r, ty, below}
+    open seen S now use {F, J, a0, On}
 
     -- ---- the callee's frame in the caller's
 
@@ -128,15 +78,15 @@ module _ (S : Setting) where
       inner_clear x y q e x' u q' live = go (inner.alone e x' y u q' live)
         where
           go : (e ≡ s1.top.frame) ⊎ (e ≡ c0.frame) → (e ≡ s1.top.frame) × (x' ≡ x)
-          go (inl same) = (same, (same_local S) F s1.top.frame x x' a0 y q (ap (λ e. J e x') (sym same) ∙ q'))
+          go (inl same) = (same, same_local S F s1.top.frame x x' a0 y q (ap (λ e. J e x') (sym same) ∙ q'))
           go (inr same) =
               let (_, z) = parts_of s1.top.frame x y _ inner.ghost1 q in
               let (lt, z') = parts_of e x' y _ (ap F same ∙ inner.ghost0) q' in
               absurd (omega (arith, z, lt, z'))
 
-      inner_at : (c2 c1 : Control) (k2 k1 : Memory) → c2.function ≡ s2.top.function → c1.function ≡ s1.top.function → c2.frame ≡ a0 → c1.frame ≡ s1.top.frame → c2.dest ≡ s2.top.dest → c1.dest ≡ s1.top.dest → c2.block ≡ B + c1.block → c2.at ≡ c1.at → c1.dropping ≡ None → stacks.Reached C1 bodies2 f g.0 b1 h p next c1 → On k2 k1 → Inner F k2 k1 c2 c1 c0
+      inner_at : (c2 c1 : Control) (k2 k1 : Memory) → c2.function ≡ s2.top.function → c1.function ≡ s1.top.function → c2.frame ≡ a0 → c1.frame ≡ s1.top.frame → c2.dest ≡ s2.top.dest → c1.dest ≡ s1.top.dest → c2.block ≡ B + c1.block → c2.at ≡ c1.at → c1.dropping ≡ None → stacks.Reached X c1 → On k2 k1 → Inner F k2 k1 c2 c1 c0
       inner_at c2 c1 k2 k1 q1 q2 q3 q4 q5 q6 q7 q8 q9 far ow =
-          let o = inner_onward C1 bodies2 f g.0 b1 h p next F s2.next s2.memory s1.memory k2 k1 s2.top s1.top c0 below ow inner in
+          let o = inner_onward X F s2.next s2.memory s1.memory k2 k1 s2.top s1.top c0 below ow inner in
           record {
             function2 = q1 ∙ o.function2;
             function1 = q2 ∙ o.function1;
@@ -147,7 +97,7 @@ module _ (S : Setting) where
             place0 = o.place0;
             ghost1 = ap F q4 ∙ o.ghost1 ∙ ap (λ a. Some (record { frame = a; offset = L; size = length h.locals })) (sym q3);
             ghost0 = o.ghost0 ∙ ap (λ a. Some (record { frame = a; offset = 0; size = L })) (sym q3);
-            dest = subst (λ y. stacks.DestsRel C1 bodies2 f g.0 b1 h p next J c0.dest y) (sym q5) o.dest;
+            dest = subst (λ y. stacks.DestsRel X J c0.dest y) (sym q5) o.dest;
             calm1 = q9;
             calm0 = o.calm0;
             far = far;
@@ -156,7 +106,7 @@ module _ (S : Setting) where
             room = λ b is x t at. (let (w, e) = o.room b (ap (slice_get bodies2) (sym q1) ∙ is) x t at in (w, ap (λ a. local_at k2 a x) q3 ∙ e));
             to = o.to;
             is_to = q6 ∙ o.is_to;
-            held = subst (λ a. stacks.Held C1 bodies2 f g.0 b1 h p next (has_deref p.proj) F k2 o.to a c0.frame) (sym q3) o.held;
+            held = subst (λ a. stacks.Held X (has_deref p.proj) F k2 o.to a c0.frame) (sym q3) o.held;
           }
         where
           either : {e : ℕ} → c1.frame ≡ s1.top.frame → (e ≡ s1.top.frame) ⊎ (e ≡ c0.frame) → (e ≡ c1.frame) ⊎ (e ≡ c0.frame)
@@ -166,7 +116,7 @@ module _ (S : Setting) where
       inner_stack : (c2 c1 : Control) (k2 k1 : Memory) → c2.frame ≡ a0 → Inner F k2 k1 c2 c1 c0 → On k2 k1 → Stack F k2 k1 s2.next (c2 ∷ s2.callers) (c1 ∷ s1.callers)
       inner_stack c2 c1 k2 k1 q o ow = (
         subst (λ a. a < s2.next) (sym q) below,
-        inr (c1, c0, ds, ap (λ cs. c1 ∷ cs) below_it, o, subst (λ a. Stack F k2 k1 a s2.callers ds) (sym q) (stack_onward C1 bodies2 f g.0 b1 h p next F a0 s2.memory s1.memory k2 k1 s2.callers ds (onward_less F s2.next a0 s2.memory s1.memory k2 k1 (omega (arith, below)) ow) more)),
+        inr (c1, c0, ds, ap (λ cs. c1 ∷ cs) below_it, o, subst (λ a. Stack F k2 k1 a s2.callers ds) (sym q) (stack_onward X F a0 s2.memory s1.memory k2 k1 s2.callers ds (onward_less F s2.next a0 s2.memory s1.memory k2 k1 (omega (arith, below)) ow) more)),
       )
 
       To2 : ℕ → ℕ → Type 0
@@ -180,30 +130,12 @@ module _ (S : Setting) where
       inner_stmt st x at e =
           let (k1, e1, e2) = bind_some e in
           let same = stmt_copy S s1.top.block n s1.top.at st at_n at in
-          let (k2, q, l, ow) = stmt_rel C1 bodies2 f g.0 b1 h p next (pairs S) s2 s1 r h.locals bt.locals L inner.ghost1 types_copy st (renamed_stmt (after L) st) k1 same inner_clear (λ _. (payloads S) s2 ty bt is_copy h.locals s1.top.frame J) e1 in
+          let (k2, q, l, ow) = stmt_rel X (pairs S) s2 s1 r h.locals bt.locals L inner.ghost1 types_copy st (renamed_stmt (after L) st) k1 same inner_clear (λ _. payloads S s2 ty bt is_copy h.locals s1.top.frame J) e1 in
           let at2 : slice_get copy.stmts s2.top.at ≡ Some (renamed_stmt (after L) st) = ap (slice_get copy.stmts) inner.place ∙ slice_get-front (map (renamed_stmt (after L)) n.stmts) _ s1.top.at _ (map_there (renamed_stmt (after L)) n.stmts s1.top.at st at) in
           let moved = stmt_moves C2 s2 bt copy (renamed_stmt (after L) st) k2 is_copy at_copy at2 q in
-          (answer_at S) s2 x _ e2 (
-            0,
-            _,
-            ap (keep_on (moves C2 0)) moved,
-            record {
-              stands = F;
-              fresh = r.fresh;
-              low = r.low;
-              answers = r.answers;
-              trace = r.trace;
-              link = l;
-              stack = inner_stack (next_stmt s2.top) (next_stmt s1.top) k2 k1 refl (inner_at (next_stmt s2.top) (next_stmt s1.top) k2 k1 refl refl refl refl refl refl inner.block (ap suc inner.place) inner.calm1 (farther_on st at) ow) ow;
-            },
-          )
-        where
-          farther_on : (st : TypedStmt) → slice_get n.stmts s1.top.at ≡ Some st → stacks.Reached C1 bodies2 f g.0 b1 h p next (next_stmt s1.top)
-          farther_on st at b' k' is at' =
-              let same : h ≡ b' = some_val (sym (is_h S) ∙ ap (slice_get C1.bodies) (sym inner.function1) ∙ is) in
-              let same' : n ≡ k' = some_val (sym at_n ∙ ap (λ (b : TypedBody). slice_get b.blocks s1.top.block) same ∙ at') in
-              let lt = slice_get_within n.stmts s1.top.at st at in
-              subst (λ (n : TypedBlock). suc s1.top.at ≤ length n.stmts) same' (omega (arith, lt))
+          stmt_answer S now x k2 k1 moved l
+          (inner_stack (next_stmt s2.top) (next_stmt s1.top) k2 k1 refl (inner_at (next_stmt s2.top) (next_stmt s1.top) k2 k1 refl refl refl refl refl refl inner.block (ap suc inner.place) inner.calm1 (farther S s1.top h n st (ap (slice_get C1.bodies) inner.function1 ∙ is_h S) at_n at) ow) ow)
+          e2
 
       -- ---- its terminators
 
@@ -220,9 +152,9 @@ module _ (S : Setting) where
       ready1 = term_ready C h R1 (after L) far_off n.term (term_formed_at C h (formed S g.0 h (is_h S)) s1.top.block n at_n)
 
       abbrev TermTo1 : Term → Term → Type 0
-      TermTo1 = running.TermTo C1 bodies2 f g.0 b1 h p next (pairs S) s2 s1 r h.locals bt.locals L inner.ghost1 types_copy To2 goes2
+      TermTo1 = running.TermTo X (pairs S) s2 s1 r h.locals bt.locals L inner.ghost1 types_copy To2 goes2
 
-      arms_after : (as' : List Arm) → running.ArmsTo C1 bodies2 f g.0 b1 h p next (pairs S) s2 s1 r h.locals bt.locals L inner.ghost1 types_copy To2 goes2 as' (map (retargeted_arm (after B)) as')
+      arms_after : (as' : List Arm) → running.ArmsTo X (pairs S) s2 s1 r h.locals bt.locals L inner.ghost1 types_copy To2 goes2 as' (map (retargeted_arm (after B)) as')
       unfolding To2
       arms_after [] = tt
       arms_after (a ∷ as') = (refl, refl, arms_after as')
@@ -256,7 +188,7 @@ module _ (S : Setting) where
           let l2 = length-map n.stmts (renamed_stmt (after L)) in
           let a = inner.place in
           omega (arith, ge, l1, l2, a)) in
-          (by_step S) s2 x (follow.follows_by C1 bodies2 f g.0 b1 h p next (pairs S) (step C2 s2) (finish C2 H2 s2 copy.term) x (term_step S s2 bt copy is_copy at_copy past2) (finish_rel C1 bodies2 f g.0 b1 h p next (pairs S) s2 s1 r h.locals bt.locals L inner.ghost1 types_copy To2 goes2 n.term copy.term x (term_copy n.term (calm g.0 h s1.top.block n (is_h S) at_n) nr ready1) e))
+          by_step S s2 x (follow.follows_by X (pairs S) (step C2 s2) (finish C2 H2 s2 copy.term) x (term_step S s2 bt copy is_copy at_copy past2) (finish_rel X (pairs S) s2 s1 r h.locals bt.locals L inner.ghost1 types_copy To2 goes2 n.term copy.term x (term_copy n.term (calm g.0 h s1.top.block n (is_h S) at_n) nr ready1) e))
 
       popped : (x : Next) (m1 : Memory) → Some (on (record s1 { memory = m1; top = c0; callers = ds })) ≡ Some x → (m : Memory) → moves C2 2 s2 ≡ Some (record s2 { memory = m; top = to_block next (next_stmt s2.top) }) → Rel (record s2 { memory = m; top = to_block next (next_stmt s2.top) }) (record s1 { memory = m1; top = c0; callers = ds }) → Answer S s2 x
       popped x m1 e m moved rel = answer_at S s2 x _ e (1, _, moved, rel)
@@ -267,12 +199,11 @@ module _ (S : Setting) where
           let (v, e1, e2) = bind_some e in
           let e3 : return_to D s1 (close_frame s1.memory s1.top.frame) (Some inner.to) (c0 ∷ ds) v ≡ Some x = subst (λ cs. return_to D s1 (close_frame s1.memory s1.top.frame) (Some inner.to) cs v ≡ Some x) below_it (subst (λ y. return_to D s1 (close_frame s1.memory s1.top.frame) y s1.callers v ≡ Some x) inner.is_to e2) in
           let (m1, e4, e5) = bind_some e3 in
-          let (th, first) = first_of S g.0 h (is_h S) in
           let at_end : s1.top.at ≡ length n.stmts =
           (let le = inner.far h n (ap (slice_get C1.bodies) inner.function1 ∙ is_h S) at_n in
           let ge = slice_get-none n.stmts s1.top.at past in
           omega (arith, le, ge)) in
-          let (m, moved, rel) = back_rel C1 bodies2 f g.0 b1 h p next i k is_k os (is1 S) is2 tp p_ty result (p_in S) th first s2 s1 r c0 ds inner below more n at_n ends at_end v e1 m1 e4 in
+          let (m, moved, rel) = back_rel S now c0 ds inner more n at_n ends at_end v e1 m1 e4 in
           popped x m1 e5 m moved rel
 
       pub inner_term : (x : Next) → slice_get n.stmts s1.top.at ≡ None → finish C1 H1 s1 n.term ≡ Some x → Answer S s2 x

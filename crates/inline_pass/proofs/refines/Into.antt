@@ -7,6 +7,7 @@ use Rattle.mir_renaming.specs.Renaming.{Renaming, SomeRel, Sub}
 use Rattle.mir_renaming.proofs.Memory.{same_or_not, same_pair}
 use Rattle.mir_renaming.proofs.Statements.{Linked}
 use Rattle.mir_renaming.proofs.Ghosts.{value_mono}
+use Rattle.mir_relate.proofs.Leaves.{some_val}
 use Rattle.mir_syntax.proofs.Bools.{if_true, if_false}
 use Rattle.mir_renaming.proofs.Frames.{equal, unequal, open_same, open_other, close_same, close_other}
 
@@ -58,6 +59,14 @@ into_parts F f x g z e = go (F f) refl e
     go : (o : Option Into) → F f ≡ o → placed x o ≡ Some (g, z) → (i : Into) × (F f ≡ Some i) × (x < i.size) × (i.frame ≡ g) × (i.offset + x ≡ z)
     go None h k = absurd (grind arith)
     go (Some i) h k = here i (nat_lt x i.size) h refl k
+
+-- what stands in a frame of the target below that of a new frame isn't the new one
+pub new_apart : (F : Stands) (n : ℕ) (i : Into) (e x a z : ℕ) → into (stand F n i) e x ≡ Some (a, z) → a < i.frame → n ≡ e → ⊥
+new_apart F n i e x a z q l s =
+    let (j, h, _, r, _) = into_parts (stand F n i) e x a z q in
+    let same : j ≡ i = some_val (sym h ∙ ap (stand F n i) (sym s) ∙ stand_new F n i) in
+    let y : i.frame ≡ a = ap (λ (j : Into). j.frame) (sym same) ∙ r in
+    omega (arith, y, l)
 
 pub into_is : (F : Stands) (f x : ℕ) (i : Into) → F f ≡ Some i → x < i.size → into F f x ≡ Some (i.frame, i.offset + x)
 into_is F f x i h l = ap (placed x) h ∙ ap (within x i) (lt-ltb x i.size l)

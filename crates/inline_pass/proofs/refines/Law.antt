@@ -1,7 +1,6 @@
 -- A crate in which one call of one body is replaced by the body of its callee refines the crate.
 use Rattle.std.proofs.Common.{◌≡◌, ◌⊎◌, inl, inr, refl, sym, ap, ◌∙◌, subst, ℕ, suc, ◌+◌, ◌<◌, ◌≤◌, true, false, nat_eq, List, [], ◌∷◌, length, map, take, set, Option, Some, None, slice_get, arith}
 use Rattle.std.proofs.lemmas.List.{take-append-le}
-use Rattle.mir_syntax.specs.declared.body.Place.{Place}
 use Rattle.mir_syntax.specs.Tree.{Tree}
 use Rattle.mir_syntax.specs.Crate.{TypedBlock, TypedBody, TypedFunction, Crate}
 use Rattle.mir_syntax.specs.Shapes.{shapes_of, place_ty}
@@ -28,8 +27,8 @@ use Rattle.valid_runs.proofs.Blanks.{shapes_tupled}
 use Rattle.valid_runs.proofs.Codes.{valid_code, body_there, body_back}
 use Rattle.valid_runs.proofs.Starts.{args_plain, start_typed}
 use Rattle.valid_runs.proofs.Shown.{Known, step_flat, step_known, start_known}
-use Rattle.mir_relate.specs.Pass.{FewTerm}
-use Rattle.mir_relate.proofs.Rules.{bodies_other, headers_set, calls_few}
+use Rattle.mir_relate.specs.Pass.{ArgsTerm}
+use Rattle.mir_relate.proofs.Rules.{bodies_other, headers_set, calls_all}
 use Rattle.mir_rules.specs.Drops.{is_drop}
 use Rattle.mir_relate.proofs.Leaves.{some_val}
 use Rattle.inline_pass.specs.Lent.{DropFree}
@@ -39,7 +38,8 @@ use Rattle.inline_pass.proofs.refines.Into.{Into, Stands, into, stand, stand_new
 use Rattle.inline_pass.proofs.refines.Slots.{slot_there, slots_both}
 use Rattle.inline_pass.proofs.refines.Follow.{Longer}
 use Rattle.inline_pass.proofs.refines.Stacks as stacks
-use Rattle.inline_pass.proofs.refines.Setting.{Setting, pairs, Answer, typed_moves}
+use Rattle.inline_pass.proofs.refines.Stacks.{OneCall}
+use Rattle.inline_pass.proofs.refines.Setting.{Setting, one_call, pairs, Answer, typed_moves}
 use Rattle.inline_pass.proofs.refines.Steps.{step_rel}
 
 abbrev nowhere : Stands
@@ -49,7 +49,9 @@ empty_linked : Linked (into nowhere) (into nowhere) [] []
 empty_linked = record { mem = record { at = λ f x g y e v r. absurd (grind arith) }; apart = λ f x f' x' r u u' e e' k k'. absurd (grind arith) }
 
 -- the starts of an entry are related
-module _ (C1 : Code) (bodies2 : List TypedBody) (f g : ℕ) (b1 h : TypedBody) (p : Place) (next : ℕ) (e : Entry) (answers : List ℕ) (bs bt : TypedBody) (is1 : slice_get C1.bodies e.function ≡ Some bs) (is2 : slice_get bodies2 e.function ≡ Some bt) (long : Longer bt bs) (plain : (j : Renaming) → ValuesRel j e.args e.args) where
+module _ (X : OneCall) (e : Entry) (answers : List ℕ) (bs bt : TypedBody) (is1 : slice_get X.C1.bodies e.function ≡ Some bs) (is2 : slice_get X.bodies2 e.function ≡ Some bt) (long : Longer bt bs) (plain : (j : Renaming) → ValuesRel j e.args e.args) where
+  open X use {C1}
+
   abbrev i : Into
   i = record { frame = 0; offset = 0; size = length bs.locals }
 
@@ -69,7 +71,7 @@ module _ (C1 : Code) (bodies2 : List TypedBody) (f g : ℕ) (b1 h : TypedBody) (
   abbrev m1 : Memory
   m1 = open_frame [] 0 (new_slots C1.shapes bs.locals e.args)
 
-  own_first : stacks.Own C1 bodies2 f g b1 h p next K m2 m1 (new_control e.function 0 None) (new_control e.function 0 None)
+  own_first : stacks.Own X K m2 m1 (new_control e.function 0 None) (new_control e.function 0 None)
   own_first = record {
     function = refl;
     block = refl;
@@ -88,7 +90,7 @@ module _ (C1 : Code) (bodies2 : List TypedBody) (f g : ℕ) (b1 h : TypedBody) (
   slots : (x : ℕ) (v : Value) → x < length bs.locals → slice_get (new_slots C1.shapes bs.locals e.args) x ≡ Some v → SomeRel (into K) v (slice_get (new_slots C1.shapes bt.locals e.args) x)
   slots x v lt q = slots_both C1.shapes (into K) bs.locals bt.locals e.args e.args (plain (into K)) long.types long.first long.is_first x v q
 
-  pub first_rel : stacks.Rel C1 bodies2 f g b1 h p next (record (start C1 e answers) { memory = m2 }) (record (start C1 e answers) { memory = m1 })
+  pub first_rel : stacks.Rel X (record (start C1 e answers) { memory = m2 }) (record (start C1 e answers) { memory = m1 })
   first_rel = record {
     stands = K;
     fresh = λ n le. stand_old nowhere 0 i n (λ z. omega (arith, z, le));
@@ -140,7 +142,7 @@ module _ (C : Crate) (valid : Valid C) (dropless : DropFree C) (f : ℕ) (fn : T
 
   few : suc (length s.args) ≤ length hn.body.locals
   few =
-      let l = subst (FewTerm C1) s.ends (calls_few C valid f fn.body s.block s.found (body_there C.functions f fn fn_at) s.is_found) hn.body (body_there C.functions s.called.0 hn hn_at) in
+      let l = subst (ArgsTerm C1) s.ends (calls_all C valid f fn.body s.block s.found (body_there C.functions f fn fn_at) s.is_found) hn.body (body_there C.functions s.called.0 hn hn_at) in
       let b = args_below C hn.body (body_formed_at C valid s.called.0 hn hn_at) in
       omega (arith, l, b)
 
@@ -178,7 +180,7 @@ module _ (C : Crate) (valid : Valid C) (dropless : DropFree C) (f : ℕ) (fn : T
   }
 
   abbrev RelAt : State → State → Type 0
-  RelAt = stacks.Rel C1 bodies2 f s.called.0 fn.body hn.body s.dest s.next
+  RelAt = stacks.Rel (one_call setting)
 
   record Both (n : ℕ) (s2 s1 : State) : Type 0 where
     pub rel : RelAt s2 s1
@@ -222,7 +224,7 @@ module _ (C : Crate) (valid : Valid C) (dropless : DropFree C) (f : ℕ) (fn : T
   unfolding open_frame setting
   starts e k answers =
       let (b, e2, lg) = pairs setting e.function k.body k.there in
-      let r = first_rel C1 bodies2 f s.called.0 fn.body hn.body s.dest s.next e answers k.body b k.there e2 lg (λ j. plains_self j e.args (args_plain C1 e k)) in
+      let r = first_rel (one_call setting) e answers k.body b k.there e2 lg (λ j. plains_self j e.args (args_plain C1 e k)) in
       let r2 : RelAt (start C2 e answers) (start C1 e answers) =
       subst (λ o. RelAt (record (start C1 e answers) { memory = record { frame = 0; slots = slots_at C1 e.args o } ∷ [] }) (start C1 e answers)) (sym e2)
       (subst (λ o. RelAt (record (start C1 e answers) { memory = record { frame = 0; slots = new_slots C1.shapes b.locals e.args } ∷ [] }) (record (start C1 e answers) { memory = record { frame = 0; slots = slots_at C1 e.args o } ∷ [] })) (sym k.there) r) in

@@ -2,7 +2,6 @@
 use Rattle.std.proofs.Common.{◌≡◌, refl, sym, ap, ap₂, ◌∙◌, ℕ, ◌+◌, ◌<◌, Bool, true, false, nat_eq, if◌then◌else◌, List, [], ◌∷◌, length, Option, Some, slice_get, arith}
 use Rattle.std.specs.Prelude.{ℤ}
 use Rattle.mir_syntax.specs.declared.body.Arm.{Arm}
-use Rattle.mir_syntax.specs.declared.body.Place.{Place}
 use Rattle.mir_syntax.specs.declared.body.Operand.{Operand}
 use Rattle.mir_syntax.specs.declared.body.Term.{Term}
 use Rattle.mir_syntax.specs.declared.body.Term.TheVariants.{Goto, Switch, Unreachable, Call, Assert}
@@ -22,7 +21,7 @@ use Rattle.inline_pass.proofs.refines.Into.{Stands, into, into_at}
 use Rattle.inline_pass.proofs.refines.Both.{read_all_both, read_number_both, exec_both}
 use Rattle.inline_pass.proofs.Text.{place_lift, operand_lift, operands_lift, stmt_lift}
 use Rattle.inline_pass.proofs.refines.Stacks as stacks
-use Rattle.inline_pass.proofs.refines.Stacks.{Onward}
+use Rattle.inline_pass.proofs.refines.Stacks.{OneCall, Onward}
 use Rattle.inline_pass.proofs.refines.Onwards.{onward_refl, onward_bare, onward_both, onward_alone}
 use Rattle.inline_pass.proofs.refines.Follow as follow
 use Rattle.inline_pass.proofs.refines.Follow.{Longer, follows_at, follows_by, go_rel, call_rel}
@@ -31,7 +30,9 @@ use Rattle.inline_pass.proofs.refines.Follow.{Longer, follows_at, follows_by, go
 abbrev pub Off : ℕ → ℕ → Numbering
 Off o n x y = (x < n) × (o + x ≡ y)
 
-module _ (C1 : Code) (bodies2 : List TypedBody) (f g : ℕ) (b1 h : TypedBody) (p : Place) (next : ℕ) (pairs : (k : ℕ) (bs : TypedBody) → slice_get C1.bodies k ≡ Some bs → (bt : TypedBody) × (slice_get bodies2 k ≡ Some bt) × Longer bt bs) (s2 s1 : State) (r : stacks.Rel C1 bodies2 f g b1 h p next s2 s1) (ts1 ts2 : List Tree) (o : ℕ) (ghost : r.stands s1.top.frame ≡ Some (record { frame = s2.top.frame; offset = o; size = length ts1 })) (types : (x : ℕ) (t : Tree) → slice_get ts1 x ≡ Some t → slice_get ts2 (o + x) ≡ Some t) where
+module _ (X : OneCall) (pairs : (k : ℕ) (bs : TypedBody) → slice_get X.C1.bodies k ≡ Some bs → (bt : TypedBody) × (slice_get X.bodies2 k ≡ Some bt) × Longer bt bs) (s2 s1 : State) (r : stacks.Rel X s2 s1) (ts1 ts2 : List Tree) (o : ℕ) (ghost : r.stands s1.top.frame ≡ Some (record { frame = s2.top.frame; offset = o; size = length ts1 })) (types : (x : ℕ) (t : Tree) → slice_get ts1 x ≡ Some t → slice_get ts2 (o + x) ≡ Some t) where
+  open X use {C1, bodies2}
+
   abbrev C2 : Code
   C2 = record C1 { bodies = bodies2 }
 
@@ -48,13 +49,13 @@ module _ (C1 : Code) (bodies2 : List TypedBody) (f g : ℕ) (b1 h : TypedBody) (
   R = Off o (length ts1)
 
   abbrev Stack : Memory → Memory → List Control → List Control → Type 0
-  Stack k2 k1 cs2 cs = stacks.Stack C1 bodies2 f g b1 h p next F k2 k1 s2.next cs2 cs
+  Stack k2 k1 cs2 cs = stacks.Stack X F k2 k1 s2.next cs2 cs
 
   abbrev On : Memory → Memory → Type 0
   On k2 k1 = Onward F s2.next s2.memory s1.memory k2 k1
 
   abbrev Follows : Option Next → Next → Type 0
-  Follows = follow.Follows C1 bodies2 f g b1 h p next pairs
+  Follows = follow.Follows X pairs
 
   abbrev pub A1 : Here
   A1 = record { shapes = D; locals = ts1; frame = s1.top.frame }
@@ -127,7 +128,7 @@ module _ (C1 : Code) (bodies2 : List TypedBody) (f g : ℕ) (b1 h : TypedBody) (
     integers_rel (a ∷ os) [] k2 k1 x q l e = absurd q
 
     going : (t u : ℕ) (k2 k1 : Memory) (x : Next) → To t u → Linked J J k2 k1 → On k2 k1 → go_on s1 k1 (to_block t s1.top) ≡ Some x → Follows (go_on s2 k2 (to_block u s2.top)) x
-    going t u k2 k1 x to l on e = go_rel C1 bodies2 f g b1 h p next pairs s2 s1 r k2 k1 l (to_block u s2.top) (to_block t s1.top) (goes t u to k2 k1 on) x e
+    going t u k2 k1 x to l on e = go_rel X pairs s2 s1 r k2 k1 l (to_block u s2.top) (to_block t s1.top) (goes t u to k2 k1 on) x e
 
     check_rel : (k2 k1 : Memory) (c : Bool) (text : List ℕ) (os ps : List Operand) (t u : ℕ) (x : Next) → Linked J J k2 k1 → On k2 k1 → OperandsSame R os ps → To t u → check A1 s1 k1 c text os t ≡ Some x → Follows (check A2 s2 k2 c text ps u) x
     unfolding check
@@ -135,7 +136,7 @@ module _ (C1 : Code) (bodies2 : List TypedBody) (f g : ℕ) (b1 h : TypedBody) (
     check_rel k2 k1 false text os ps t u x l on ho to e =
         let (y, e1, e2) = bind_some e in
         let (z, q, v, _) = integers_rel os ps k2 k1 y ho l e1 in
-        follows_by C1 bodies2 f g b1 h p next pairs _ _ x (some_bind _ q refl) (follows_at C1 bodies2 f g b1 h p next pairs _ x (stop (aborted text y.0)) e2 (ap (λ vs. Some (stop (aborted text vs))) (sym v)))
+        follows_by X pairs _ _ x (some_bind _ q refl) (follows_at X pairs _ x (stop (aborted text y.0)) e2 (ap (λ vs. Some (stop (aborted text vs))) (sym v)))
 
     pub finish_rel : (t u : Term) (x : Next) → TermTo t u → finish C1 A1 s1 t ≡ Some x → Follows (finish C2 A2 s2 u) x
     unfolding finish
@@ -144,7 +145,7 @@ module _ (C1 : Code) (bodies2 : List TypedBody) (f g : ℕ) (b1 h : TypedBody) (
         let (y, e1, e2) = bind_some e in
         let (z, q, v, l, on) = number_rel a c s2.memory s1.memory y ho r.link (onward_refl F s2.next s2.memory s1.memory) e1 in
         let to' = arms_to y.0 arms arms' t u ha to in
-        follows_by C1 bodies2 f g b1 h p next pairs _ _ x (some_bind _ q (ap (λ k. go_on s2 z.1 (to_block (take_arm k arms' u) s2.top)) (sym v))) (going (take_arm y.0 arms t) (take_arm y.0 arms' u) z.1 y.1 x to' l on e2)
+        follows_by X pairs _ _ x (some_bind _ q (ap (λ k. go_on s2 z.1 (to_block (take_arm k arms' u) s2.top)) (sym v))) (going (take_arm y.0 arms t) (take_arm y.0 arms' u) z.1 y.1 x to' l on e2)
     finish_rel Unreachable u x q e = absurd (grind arith)
     finish_rel (Call q w os t) (Call q' w' ps u) x (hp, hw, ho, to) e =
         let (d, e1, e2) = bind_some e in
@@ -153,9 +154,9 @@ module _ (C1 : Code) (bodies2 : List TypedBody) (f g : ℕ) (b1 h : TypedBody) (
         let rel = operands_lift D ts1 ts2 s1.top.frame s2.top.frame J R lifts os ps ho in
         let (z, q2, v, l) = read_all_rel D ts1 ts2 s1.top.frame s2.top.frame J J (λ f x r e. e) os ps s2.memory s1.memory y rel r.link e3 in
         let on = read_all_both D ts1 ts2 s1.top.frame s2.top.frame J J (λ f x r e. e) Q (λ k2' k1' a b v w x u. onward_both F s2.next s2.memory s1.memory k2' k1' a b v w x u) (λ k2' k1' a v. onward_alone F s2.next s2.memory s1.memory k2' k1' a v) os ps s2.memory s1.memory y z rel r.link e3 q2 (onward_refl F s2.next s2.memory s1.memory) in
-        follows_by C1 bodies2 f g b1 h p next pairs _ _ x (some_bind _ q1 (some_bind _ q2 (ap (λ w. call C2 s2 z.1 (to_block u s2.top) d' w z.0) (sym hw)))) (call_rel C1 bodies2 f g b1 h p next pairs s2 s1 r z.1 y.1 l (to_block u s2.top) (to_block t s1.top) (goes t u to z.1 y.1 on) d' d w y.0 z.0 x v hd e4)
+        follows_by X pairs _ _ x (some_bind _ q1 (some_bind _ q2 (ap (λ w. call C2 s2 z.1 (to_block u s2.top) d' w z.0) (sym hw)))) (call_rel X pairs s2 s1 r z.1 y.1 l (to_block u s2.top) (to_block t s1.top) (goes t u to z.1 y.1 on) d' d w y.0 z.0 x v hd e4)
     finish_rel (Assert a c text os t) (Assert a' c' text' ps u) x (ha, hc, hx, ho, to) e =
         let (y, e1, e2) = bind_some e in
         let (z, q, v, l, on) = number_rel a a' s2.memory s1.memory y ha r.link (onward_refl F s2.next s2.memory s1.memory) e1 in
-        follows_by C1 bodies2 f g b1 h p next pairs _ _ x (some_bind _ q (ap₂ (λ c text. check A2 s2 z.1 (nat_eq z.0 (flag c)) text ps u) (sym hc) (sym hx) ∙ ap (λ n. check A2 s2 z.1 (nat_eq n (flag c)) text ps u) (sym v))) (check_rel z.1 y.1 (nat_eq y.0 (flag c)) text os ps t u x l on ho to e2)
+        follows_by X pairs _ _ x (some_bind _ q (ap₂ (λ c text. check A2 s2 z.1 (nat_eq z.0 (flag c)) text ps u) (sym hc) (sym hx) ∙ ap (λ n. check A2 s2 z.1 (nat_eq n (flag c)) text ps u) (sym v))) (check_rel z.1 y.1 (nat_eq y.0 (flag c)) text os ps t u x l on ho to e2)
     finish_rel t u x q e = absurd q

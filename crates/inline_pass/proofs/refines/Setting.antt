@@ -1,11 +1,13 @@
 -- A call that is replaced in a valid crate: the bodies on both sides, the text of their frames, and what a step owes.
-use Rattle.std.proofs.Common.{◌≡◌, ◌⊎◌, inl, inr, refl, sym, ap, ap₂, ◌∙◌, subst, ℕ, zero, suc, ◌+◌, ◌<◌, ◌≤◌, true, false, List, length, Option, Some, None, slice_get, arith}
+use Rattle.std.proofs.Common.{◌≡◌, ◌⊎◌, inl, inr, refl, sym, ap, ap₂, ◌∙◌, subst, ℕ, zero, suc, ◌+◌, ◌<◌, ◌≤◌, true, false, List, ◌∷◌, length, Option, Some, None, slice_get, arith}
 use Rattle.std.proofs.lemmas.Bool.{cases_eq}
+use Rattle.std.proofs.lemmas.Option.{slice_get_within}
 use Rattle.mir_syntax.specs.declared.types.FnId.{FnId}
 use Rattle.mir_syntax.specs.declared.body.Place.{Place}
 use Rattle.mir_syntax.specs.declared.body.Operand.{Operand}
 use Rattle.mir_syntax.specs.declared.body.Callee.TheVariants as callee
-use Rattle.mir_syntax.specs.declared.body.Term.TheVariants.{Call}
+use Rattle.mir_syntax.specs.declared.body.Term.{Term}
+use Rattle.mir_syntax.specs.declared.body.Term.TheVariants.{Return, Call}
 use Rattle.mir_syntax.specs.Tree.{Tree}
 use Rattle.mir_syntax.specs.Crate.{TypedStmt, TypedBlock, TypedBody, TypedFunction, Crate}
 use Rattle.mir_syntax.specs.Shapes.{Shape, place_ty}
@@ -14,10 +16,10 @@ use Rattle.mir_rules.specs.Valid.{Valid}
 use Rattle.mir_rules.proofs.ValidCrates.{body_formed_at, stmt_formed_at, term_formed_at, result_there}
 use Rattle.mir_semantics.specs.Values.{variant}
 use Rattle.mir_semantics.specs.Memory.{Memory}
-use Rattle.mir_semantics.specs.Step.{Code, code_of, Control, State, Next, on, stop, fail, finish, perform, step}
+use Rattle.mir_semantics.specs.Step.{Code, code_of, Control, State, Next, next_stmt, go_on, on, stop, fail, finish, perform, step}
 use Rattle.mir_renaming.specs.Renaming.{Renaming}
 use Rattle.mir_syntax.proofs.Binds.{some_bind}
-use Rattle.mir_renaming.proofs.Statements.{PayloadsOk}
+use Rattle.mir_renaming.proofs.Statements.{PayloadsOk, Linked}
 use Rattle.mir_renaming.proofs.Types.{HasTy, value_at_ty, resolve_ty, blank_fits}
 use Rattle.mir_renaming.proofs.Typed.{ValidCode, Typed, step_typed}
 use Rattle.mir_relate.specs.Simulation.{keep_on, moves}
@@ -31,11 +33,15 @@ use Rattle.mir_rules.specs.Drops.{is_drop}
 use Rattle.inline_pass.proofs.refines.Into.{Into, Stands, into, into_parts}
 use Rattle.inline_pass.proofs.Text.{sum_zero, stmt_ready, term_ready, itself, stmt_itself}
 use Rattle.inline_pass.proofs.refines.Stacks as stacks
-use Rattle.inline_pass.proofs.refines.Stacks.{Onward, own_onward, inner_onward, stack_onward, onward_less}
+use Rattle.inline_pass.proofs.refines.Stacks.{OneCall, Onward, own_onward, inner_onward, stack_onward, onward_less}
 use Rattle.inline_pass.proofs.refines.Follow as follow
 use Rattle.inline_pass.proofs.refines.Follow.{Longer, return_rel}
 use Rattle.inline_pass.proofs.refines.Running.{Off}
 use Rattle.inline_pass.proofs.Bodies.{b2, calling, own_locals, own_blocks, call_block}
+
+abbrev pub NoReturn : Term → Type 0
+NoReturn Return = ⊥
+NoReturn _ = Unit {0}
 
 -- a call that is replaced in a valid crate, and the target's bodies
 pub record Setting : Type 1 where
@@ -65,44 +71,52 @@ pub record Setting : Type 1 where
   pub p_ty : place_ty (code_of C).shapes fn.body.locals p ≡ Some tp
   pub result : (t : Tree) → place_ty (code_of C).shapes fn.body.locals p ≡ Some t → slice_get hn.body.locals 0 ≡ Some t
 
+-- the words in which a setting is spoken of: the code on both sides, the bodies of caller and callee, that of the caller without the call, how many
+-- blocks and locals the caller has, and what relates the sides
+pub record Words : Type 1 where
+  pub X : OneCall
+  pub C1 : Code
+  pub C2 : Code
+  pub D : List Shape
+  pub b1 : TypedBody
+  pub h : TypedBody
+  pub bt : TypedBody
+  pub B : ℕ
+  pub L : ℕ
+  -- the local that keeps the destination
+  pub d : ℕ
+  pub Rel : State → State → Type 0
+  pub Stack : Stands → Memory → Memory → ℕ → List Control → List Control → Type 0
+  pub Own : Stands → Memory → Memory → Control → Control → Type 0
+  pub Inner : Stands → Memory → Memory → Control → Control → Control → Type 0
+
+module _ (S : Setting) where
+  open S use {C, bodies2, f, fn, hn, g, i, k, is_k, p, os, next}
+
+  abbrev pub one_call : OneCall
+  one_call = record { C1 = code_of C; bodies2 = bodies2; f = f; g = g.0; b1 = fn.body; h = hn.body; p = p; next = next }
+
+  abbrev pub words : Words
+  words = record {
+    X = one_call;
+    C1 = code_of C;
+    C2 = record (code_of C) { bodies = bodies2 };
+    D = (code_of C).shapes;
+    b1 = fn.body;
+    h = hn.body;
+    bt = b2 fn.body hn.body i k is_k p os next;
+    B = length fn.body.blocks;
+    L = length fn.body.locals;
+    d = length fn.body.locals + length hn.body.locals;
+    Rel = stacks.Rel one_call;
+    Stack = stacks.Stack one_call;
+    Own = stacks.Own one_call;
+    Inner = stacks.Inner one_call;
+  }
+
 module _ (S : Setting) where
   open S use {C, valid, bodies2, f, fn, hn, fn_at, g, hn_at, apart, i, k, is_k, p, os, next, term_is, is2, others, valid2, calm, few, tp, p_ty}
-
-  abbrev pub C1 : Code
-  C1 = code_of C
-
-  abbrev pub C2 : Code
-  C2 = record C1 { bodies = bodies2 }
-
-  abbrev D : List Shape
-  D = C1.shapes
-
-  abbrev b1 : TypedBody
-  b1 = fn.body
-
-  abbrev h : TypedBody
-  h = hn.body
-
-  abbrev bt : TypedBody
-  bt = b2 b1 h i k is_k p os next
-
-  abbrev B : ℕ
-  B = length b1.blocks
-
-  abbrev L : ℕ
-  L = length b1.locals
-
-  abbrev pub Rel : State → State → Type 0
-  Rel = stacks.Rel C1 bodies2 f g.0 b1 h p next
-
-  abbrev Stack : Stands → Memory → Memory → ℕ → List Control → List Control → Type 0
-  Stack = stacks.Stack C1 bodies2 f g.0 b1 h p next
-
-  abbrev Own : Stands → Memory → Memory → Control → Control → Type 0
-  Own = stacks.Own C1 bodies2 f g.0 b1 h p next
-
-  abbrev Inner : Stands → Memory → Memory → Control → Control → Control → Type 0
-  Inner = stacks.Inner C1 bodies2 f g.0 b1 h p next
+  open words S use {X, C1, C2, D, b1, h, bt, B, L, Rel, Stack, Own, Inner}
 
   pub is1 : slice_get C1.bodies f ≡ Some b1
   is1 = body_there C.functions f fn fn_at
@@ -167,6 +181,14 @@ module _ (S : Setting) where
   pub stmt_copy : (m : ℕ) (n : TypedBlock) (a : ℕ) (st : TypedStmt) → slice_get h.blocks m ≡ Some n → slice_get n.stmts a ≡ Some st → StmtSame (Off L (length h.locals)) st (renamed_stmt (after L) st)
   stmt_copy m n a st e2 e3 = stmt_ready C h (Off L (length h.locals)) (after L) (λ x lt. (lt, refl)) st (stmt_formed_at C h (formed g.0 h is_h) m a n st e2 e3)
 
+  -- behind a statement there is the terminator at least
+  pub farther : (c : Control) (b : TypedBody) (n : TypedBlock) (st : TypedStmt) → slice_get C1.bodies c.function ≡ Some b → slice_get b.blocks c.block ≡ Some n → slice_get n.stmts c.at ≡ Some st → stacks.Reached X (next_stmt c)
+  farther c b n st is at_n at b' k' is' at' =
+      let same : b ≡ b' = some_val (sym is ∙ is') in
+      let same' : n ≡ k' = some_val (sym at_n ∙ ap (λ (b : TypedBody). slice_get b.blocks c.block) same ∙ at') in
+      let lt = slice_get_within n.stmts c.at st at in
+      subst (λ (n : TypedBlock). suc c.at ≤ length n.stmts) same' (omega (arith, lt))
+
   -- ---- what is owed
 
   abbrev pub Answer : State → Next → Type 0
@@ -177,7 +199,7 @@ module _ (S : Setting) where
   pub answer_at : (s2 : State) (x y : Next) → Some y ≡ Some x → Answer s2 y → Answer s2 x
   answer_at s2 x y e a = subst (Answer s2) (some_val e) a
 
-  pub by_step : (s2 : State) (x : Next) → follow.Follows C1 bodies2 f g.0 b1 h p next pairs (step C2 s2) x → Answer s2 x
+  pub by_step : (s2 : State) (x : Next) → follow.Follows X pairs (step C2 s2) x → Answer s2 x
   by_step s2 (stop o) a = a
   by_step s2 (fail t) a = tt
   by_step s2 (on s1) (s, e, r) = (0, s, ap (keep_on (moves C2 0)) e, r)
@@ -211,3 +233,29 @@ module _ (S : Setting) where
       let same : j ≡ j' = some_val (sym is ∙ is') in
       let z'' : j.offset + x' ≡ y = subst (λ (j : Into). j.offset + x' ≡ y) (sym same) z' in
       omega (arith, z, z'')
+
+-- two states that are related, at a step
+pub record Moment (S : Setting) : Type 0 where
+  pub s2 : State
+  pub s1 : State
+  pub r : (words S).Rel s2 s1
+  pub ty : Typed (words S).C2 S.valid2 s2
+  pub below : s2.top.frame < s2.next
+
+-- what stands where, as numbers of locals too, the target's frame, and what a step keeps of memory
+pub record Seen : Type 1 where
+  pub F : Stands
+  pub J : Renaming
+  pub a0 : ℕ
+  pub On : Memory → Memory → Type 0
+
+module _ (S : Setting) (now : Moment S) where
+  open now use {s2, s1, r}
+
+  abbrev pub seen : Seen
+  seen = record { F = r.stands; J = into r.stands; a0 = s2.top.frame; On = Onward r.stands s2.next s2.memory s1.memory }
+
+  -- a statement on both sides
+  pub stmt_answer : (x : Next) (k2 k1 : Memory) → step (words S).C2 s2 ≡ go_on s2 k2 (next_stmt s2.top) → Linked (into r.stands) (into r.stands) k2 k1 → (words S).Stack r.stands k2 k1 s2.next (next_stmt s2.top ∷ s2.callers) (next_stmt s1.top ∷ s1.callers) → go_on s1 k1 (next_stmt s1.top) ≡ Some x → Answer S s2 x
+  stmt_answer x k2 k1 moved l st e =
+      answer_at S s2 x _ e (0, _, ap (keep_on (moves (words S).C2 0)) moved, record { stands = r.stands; fresh = r.fresh; low = r.low; answers = r.answers; trace = r.trace; link = l; stack = st })

@@ -3,11 +3,10 @@ use Rattle.std.proofs.Common.{◌≡◌, ◌⊎◌, inl, inr, refl, sym, ap, ◌
 use Rattle.std.proofs.lemmas.Option.{slice_get_past}
 use Rattle.std.proofs.lemmas.List.{length-append}
 use Rattle.mir_syntax.specs.declared.body.Place.{Place}
-use Rattle.mir_syntax.specs.declared.body.Operand.{Operand}
 use Rattle.mir_syntax.specs.declared.body.Term.TheVariants.{Goto}
 use Rattle.mir_syntax.specs.Tree.{Tree}
-use Rattle.mir_syntax.specs.Crate.{TypedBlock, TypedBody}
-use Rattle.mir_syntax.specs.Shapes.{Shape, place_ty}
+use Rattle.mir_syntax.specs.Crate.{TypedBody}
+use Rattle.mir_syntax.specs.Shapes.{place_ty}
 use Rattle.mir_semantics.specs.Values.{Value, pointer, blank}
 use Rattle.mir_semantics.specs.Memory.{Memory, local_at, open_frame}
 use Rattle.mir_semantics.specs.Step.{Code, Dest, State, Next, on, stop, fail, Here, type_of, dest_of, read_all, to_block, new_slots, finish, perform, step}
@@ -22,14 +21,15 @@ use Rattle.mir_renaming.proofs.Frames.{open_other, new_control}
 use Rattle.mir_relate.specs.Simulation.{keep_on, moves}
 use Rattle.mir_relate.proofs.Leaves.{some_val}
 use Rattle.inline_pass.specs.Spliced.{kept, handed}
-use Rattle.inline_pass.proofs.refines.Into.{Into, Stands, placed, into, stand, stand_new, stand_old, stand_sub, into_parts, open_inner}
+use Rattle.inline_pass.proofs.refines.Into.{Into, Stands, placed, into, stand, stand_new, stand_old, stand_sub, into_parts, open_inner, new_apart}
 use Rattle.inline_pass.proofs.refines.Stacks as stacks
 use Rattle.inline_pass.proofs.refines.Stacks.{Onward, onward_trans, stack_onward, stack_up, dests_up, held_up, stays}
 use Rattle.inline_pass.proofs.refines.Onwards.{exec_all, StandFrom, farther, all_move}
 use Rattle.inline_pass.proofs.refines.Slots.{slot_cases}
-use Rattle.inline_pass.proofs.Bodies.{stand_end, b2, extra, calling, copy_locals, kept_there, call_block}
+use Rattle.inline_pass.proofs.Bodies.{stand_end, extra, calling, copy_locals, kept_there, call_block}
 use Rattle.inline_pass.proofs.refines.Hand.{Writes, writes_trans, writes_wide, writes_onward, exec_more, hand}
 use Rattle.inline_pass.proofs.refines.Keep.{keep, Kept}
+use Rattle.inline_pass.proofs.refines.Setting.{Setting, words, Moment, seen, is1}
 
 pub moves_last : (C : Code) (k : ℕ) (s s' t : State) → moves C k s ≡ Some s' → step C s' ≡ Some (on t) → moves C (suc k) s ≡ Some t
 moves_last C zero s s' t e f = ap (keep_on (moves C 0)) (subst (λ s. step C s ≡ Some (on t)) (sym (some_val e)) f)
@@ -55,49 +55,21 @@ dest_typed a m p to e =
 pub onward_inner : (F : Stands) (m2 m1 : Memory) (n : ℕ) (i : Into) (vs1 : List Value) → Onward (stand F n i) i.frame m2 m1 m2 (open_frame m1 n vs1)
 onward_inner F m2 m1 n i vs1 = record {
   room = λ a x w l e. (w, e);
-  back = λ e x a z u q l k. (u, sym (open_other m1 n vs1 e x (λ s. away e x a z q l s)) ∙ k);
+  back = λ e x a z u q l k. (u, sym (open_other m1 n vs1 e x (λ s. new_apart F n i e x a z q l s)) ∙ k);
   stay = λ a z w l free e. e;
 }
-  where
-    away : (e x a z : ℕ) → into (stand F n i) e x ≡ Some (a, z) → a < i.frame → n ≡ e → ⊥
-    away e x a z q l s =
-        let (j, h, _, r, _) = into_parts (stand F n i) e x a z q in
-        let same : j ≡ i = some_val (sym h ∙ ap (stand F n i) (sym s) ∙ stand_new F n i) in
-        let y : i.frame ≡ a = ap (λ (j : Into). j.frame) (sym same) ∙ r in
-        omega (arith, y, l)
 
-module _ (C1 : Code) (bodies2 : List TypedBody) (f g : ℕ) (b1 h : TypedBody) (p : Place) (next : ℕ) (i : ℕ) (k : TypedBlock) (is_k : slice_get b1.blocks i ≡ Some k) (os : List Operand) (is1 : slice_get C1.bodies f ≡ Some b1) (is2 : slice_get bodies2 f ≡ Some (b2 b1 h i k is_k p os next)) (few : suc (length os) ≤ length h.locals) (result : (t : Tree) → place_ty C1.shapes b1.locals p ≡ Some t → slice_get h.locals 0 ≡ Some t) where
-  abbrev C2 : Code
-  C2 = record C1 { bodies = bodies2 }
-
-  abbrev D : List Shape
-  D = C1.shapes
-
-  abbrev L : ℕ
-  L = length b1.locals
-
-  abbrev B : ℕ
-  B = length b1.blocks
-
-  abbrev d : ℕ
-  d = L + length h.locals
-
-  abbrev bt : TypedBody
-  bt = b2 b1 h i k is_k p os next
+module _ (S : Setting) where
+  open S use {bodies2, f, i, k, is_k, p, os, next, is2, few, result}
+  open words S use {X, X.{g}, C1, C2, D, b1, h, bt, B, L, d, Rel, Stack, Own, Inner}
 
   -- what the types of the target's states give
   abbrev pub Fits : State → Type 0
   Fits s = (x : ℕ) (t : Tree) (w : Value) → slice_get bt.locals x ≡ Some t → local_at s.memory s.top.frame x ≡ Some w → (j : Renaming) → ValueRel j (blank D t) w
 
-  module _ (s2 s1 : State) (r : stacks.Rel C1 bodies2 f g b1 h p next s2 s1) (own : stacks.Own C1 bodies2 f g b1 h p next r.stands s2.memory s1.memory s2.top s1.top) (below : s2.top.frame < s2.next) (more : stacks.Stack C1 bodies2 f g b1 h p next r.stands s2.memory s1.memory s2.top.frame s2.callers s1.callers) (in_f : s1.top.function ≡ f) (at_i : s1.top.block ≡ i) (at_end : s1.top.at ≡ length k.stmts) where
-    abbrev F : Stands
-    F = r.stands
-
-    abbrev J : Renaming
-    J = into F
-
-    abbrev a0 : ℕ
-    a0 = s2.top.frame
+  module _ (now : Moment S) (own : Own now.r.stands now.s2.memory now.s1.memory now.s2.top now.s1.top) (more : Stack now.r.stands now.s2.memory now.s1.memory now.s2.top.frame now.s2.callers now.s1.callers) (in_f : now.s1.top.function ≡ f) (at_i : now.s1.top.block ≡ i) (at_end : now.s1.top.at ≡ length k.stmts) where
+    open now use {s2, s1, r, below}
+    open seen S now use {F, J, a0}
 
     abbrev A1 : Here
     A1 = record { shapes = D; locals = b1.locals; frame = s1.top.frame }
@@ -106,7 +78,7 @@ module _ (C1 : Code) (bodies2 : List TypedBody) (f g : ℕ) (b1 h : TypedBody) (
     A2 = record { shapes = D; locals = bt.locals; frame = a0 }
 
     ghost : F s1.top.frame ≡ Some (record { frame = a0; offset = 0; size = L })
-    ghost = own.ghost ∙ ap (λ (b : TypedBody). Some (record { frame = a0; offset = 0; size = length b.locals })) (some_val (sym own.is_body ∙ ap (slice_get C1.bodies) in_f ∙ is1))
+    ghost = own.ghost ∙ ap (λ (b : TypedBody). Some (record { frame = a0; offset = 0; size = length b.locals })) (some_val (sym own.is_body ∙ ap (slice_get C1.bodies) in_f ∙ is1 S))
 
     -- what stands in the frame stands below the callee's locals
     low : (e x z : ℕ) (u : Value) → into F e x ≡ Some (a0, z) → local_at s1.memory e x ≡ Some u → z < L
@@ -142,7 +114,7 @@ module _ (C1 : Code) (bodies2 : List TypedBody) (f g : ℕ) (b1 h : TypedBody) (
         pub link : Linked J J memory args.1
         pub writes : Writes F s2.next a0 0 (suc d) s2.memory s1.memory memory args.1
         pub slots : (y : ℕ) (v : Value) → slice_get args.0 y ≡ Some v → SomeRel J v (local_at memory a0 (suc L + y))
-        pub held : stacks.Held C1 bodies2 f g b1 h p next (has_deref p.proj) F memory to a0 s1.top.frame
+        pub held : stacks.Held X (has_deref p.proj) F memory to a0 s1.top.frame
 
       before : Before
       before =
@@ -161,7 +133,7 @@ module _ (C1 : Code) (bodies2 : List TypedBody) (f g : ℕ) (b1 h : TypedBody) (
           there : has_deref p.proj ≡ true → (w : Value) × (local_at s2.memory a0 d ≡ Some w)
           there q = let (t, is) = dest_typed A1 s1.memory p to e_to in room d _ (kept_there b1 h i k is_k p os next q t (result t is))
 
-          held : (c : Bool) (k2 m2 : Memory) → ((w : Value) → local_at k2 a0 d ≡ Some w → local_at m2 a0 d ≡ Some w) → Kept D F s2.next b1.locals bt.locals s1.top.frame a0 below p d c k2 to → stacks.Held C1 bodies2 f g b1 h p next c F m2 to a0 s1.top.frame
+          held : (c : Bool) (k2 m2 : Memory) → ((w : Value) → local_at k2 a0 d ≡ Some w → local_at m2 a0 d ≡ Some w) → Kept D F s2.next b1.locals bt.locals s1.top.frame a0 below p d c k2 to → stacks.Held X c F m2 to a0 s1.top.frame
           held false k2 m2 same q = q
           held true k2 m2 same (b, t, at, ab, ty, gu) = (b, t, same (pointer b) at, ab, ty, gu)
 
@@ -226,7 +198,7 @@ module _ (C1 : Code) (bodies2 : List TypedBody) (f g : ℕ) (b1 h : TypedBody) (
       ends_after e j q at = go (same_or_not s1.next e)
         where
           long : length own.body.locals ≡ L
-          long = ap (λ (b : TypedBody). length b.locals) (some_val (sym own.is_body ∙ ap (slice_get C1.bodies) in_f ∙ is1))
+          long = ap (λ (b : TypedBody). length b.locals) (some_val (sym own.is_body ∙ ap (slice_get C1.bodies) in_f ∙ is1 S))
 
           old : (j.offset + j.size ≤ length own.body.locals) ⊎ (j.offset + j.size ≤ d) → j.offset + j.size ≤ d
           old (inl le) = let z = long in omega (arith, le, z)
@@ -236,7 +208,7 @@ module _ (C1 : Code) (bodies2 : List TypedBody) (f g : ℕ) (b1 h : TypedBody) (
           go (inl y) = let same : new ≡ j = some_val (sym (stand_new F s1.next new) ∙ ap K y.1 ∙ q) in subst (λ (j : Into). j.offset + j.size ≤ d) same (omega arith)
           go (inr y) = old (own.shape e j (sym (stand_old F s1.next new e y.1) ∙ q) at)
 
-      inner_after : (b : Before) → stacks.Inner C1 bodies2 f g b1 h p next K b.memory n1 (after2 b.memory).top after1.top (to_block next s1.top)
+      inner_after : (b : Before) → Inner K b.memory n1 (after2 b.memory).top after1.top (to_block next s1.top)
       inner_after b = record {
         function2 = own.function ∙ in_f;
         function1 = refl;
@@ -246,8 +218,8 @@ module _ (C1 : Code) (bodies2 : List TypedBody) (f g : ℕ) (b1 h : TypedBody) (
         block0 = refl;
         place0 = refl;
         ghost1 = stand_new F s1.next new;
-        ghost0 = stays C1 bodies2 f g b1 h p next F s1.next new none s1.top.frame _ ghost;
-        dest = dests_up C1 bodies2 f g b1 h p next F s1.next new none s1.top.dest s2.top.dest own.dest;
+        ghost0 = stays X F s1.next new none s1.top.frame _ ghost;
+        dest = dests_up X F s1.next new none s1.top.dest s2.top.dest own.dest;
         calm1 = refl;
         calm0 = refl;
         far = λ b k e q. omega arith;
@@ -256,7 +228,7 @@ module _ (C1 : Code) (bodies2 : List TypedBody) (f g : ℕ) (b1 h : TypedBody) (
         room = λ c is x t at. (let (w, e) = own.room c is x t at in b.writes.room a0 x w below e);
         to = to;
         is_to = refl;
-        held = held_up C1 bodies2 f g b1 h p next F s1.next new none (has_deref p.proj) b.memory to a0 s1.top.frame b.held;
+        held = held_up X F s1.next new none (has_deref p.proj) b.memory to a0 s1.top.frame b.held;
       }
 
       low_after : (e : ℕ) (j : Into) → K e ≡ Some j → j.frame < s2.next
@@ -266,7 +238,7 @@ module _ (C1 : Code) (bodies2 : List TypedBody) (f g : ℕ) (b1 h : TypedBody) (
           go (inl z) = let same : new ≡ j = some_val (sym (stand_new F s1.next new) ∙ ap K z.1 ∙ q) in subst (λ (j : Into). j.frame < s2.next) same below
           go (inr z) = r.low e j (sym (stand_old F s1.next new e z.1) ∙ q)
 
-      pub rel_after : (b : Before) → Fits (after2 b.memory) → stacks.Rel C1 bodies2 f g b1 h p next (after2 b.memory) after1
+      pub rel_after : (b : Before) → Fits (after2 b.memory) → Rel (after2 b.memory) after1
       rel_after b fits = record {
         stands = K;
         fresh = λ e le. stand_old F s1.next new e (λ z. omega (arith, z, le)) ∙ r.fresh e (omega (arith, le));
@@ -274,7 +246,7 @@ module _ (C1 : Code) (bodies2 : List TypedBody) (f g : ℕ) (b1 h : TypedBody) (
         answers = r.answers;
         trace = r.trace;
         link = link_after b fits;
-        stack = (below, inr (after1.top, to_block next s1.top, s1.callers, refl, inner_after b, stack_onward C1 bodies2 f g b1 h p next K a0 s2.memory s1.memory b.memory n1 s2.callers s1.callers (onward_trans K a0 s2.memory s1.memory b.memory args.1 b.memory n1 lower (onward_inner F b.memory args.1 s1.next new vs1)) (stack_up C1 bodies2 f g b1 h p next F s1.next new none s2.memory s1.memory a0 s2.callers s1.callers (omega arith) more)));
+        stack = (below, inr (after1.top, to_block next s1.top, s1.callers, refl, inner_after b, stack_onward X K a0 s2.memory s1.memory b.memory n1 s2.callers s1.callers (onward_trans K a0 s2.memory s1.memory b.memory args.1 b.memory n1 lower (onward_inner F b.memory args.1 s1.next new vs1)) (stack_up X F s1.next new none s2.memory s1.memory a0 s2.callers s1.callers (omega arith) more)));
       }
         where
           lower : Onward K a0 s2.memory s1.memory b.memory args.1
@@ -283,7 +255,7 @@ module _ (C1 : Code) (bodies2 : List TypedBody) (f g : ℕ) (b1 h : TypedBody) (
               record { room = o.room; back = λ e x a z u q l live. o.back e x a z u (old e x a z l q) l live; stay = λ a z w l free at. o.stay a z w l (λ e x q. free e x (stand_sub F s1.next new none e x _ q)) at }
             where
               old : (e x a z : ℕ) → a < a0 → into K e x ≡ Some (a, z) → into F e x ≡ Some (a, z)
-              old e x a z l q = stacks.below_old C1 bodies2 f g b1 h p next F s1.next new none e x a z l q
+              old e x a z l q = stacks.below_old X F s1.next new none e x a z l q
 
       moved : (b : Before) → moves C2 (suc (length (extra b1 h i k is_k p os next))) s2 ≡ Some (after2 b.memory)
       unfolding step perform finish
@@ -298,5 +270,5 @@ module _ (C1 : Code) (bodies2 : List TypedBody) (f g : ℕ) (b1 h : TypedBody) (
           moves_last C2 (length ex) s2 s' (after2 b.memory) e1 (ap (step C2) e2 ∙ some_bind _ here1 (some_bind _ here2 (ap (λ o. perform C2 (record { shapes = D; locals = bt.locals; frame = a0 }) (record s2 { memory = b.memory; top = farther s2.top (length ex) }) (Goto B) o) past)))
 
       -- the source's step is followed
-      pub site_rel : ((m : Memory) → moves C2 (suc (length (extra b1 h i k is_k p os next))) s2 ≡ Some (after2 m) → Fits (after2 m)) → (m : Memory) × (moves C2 (suc (length (extra b1 h i k is_k p os next))) s2 ≡ Some (after2 m)) × stacks.Rel C1 bodies2 f g b1 h p next (after2 m) after1
+      pub site_rel : ((m : Memory) → moves C2 (suc (length (extra b1 h i k is_k p os next))) s2 ≡ Some (after2 m) → Fits (after2 m)) → (m : Memory) × (moves C2 (suc (length (extra b1 h i k is_k p os next))) s2 ≡ Some (after2 m)) × Rel (after2 m) after1
       site_rel typed = let b = before in let e = moved b in (b.memory, e, rel_after b (typed b.memory e))

@@ -30,7 +30,21 @@ onward_trans F n m2 m1 k2 k1 l2 l1 o q = record {
   stay = λ a z w l free e. q.stay a z w l free (o.stay a z w l free e);
 }
 
-module _ (C1 : Code) (bodies2 : List TypedBody) (f g : ℕ) (b1 h : TypedBody) (p : Place) (next : ℕ) where
+-- a call that is replaced: the source's code and the target's bodies, who calls and who is called with their bodies, where the result goes, and
+-- the block to which the call returns
+pub record OneCall : Type 0 where
+  pub C1 : Code
+  pub bodies2 : List TypedBody
+  pub f : ℕ
+  pub g : ℕ
+  pub b1 : TypedBody
+  pub h : TypedBody
+  pub p : Place
+  pub next : ℕ
+
+module _ (X : OneCall) where
+  open X use {C1, bodies2, f, g, b1, h, p, next}
+
   abbrev pub D : List Shape
   D = C1.shapes
 

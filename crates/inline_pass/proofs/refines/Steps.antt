@@ -1,74 +1,23 @@
 -- Each step of the source is followed by steps of the target.
-use Rattle.std.proofs.Common.{◌≡◌, ◌⊎◌, inl, inr, refl, sym, ap, ◌∙◌, subst, ℕ, ◌+◌, ◌<◌, List, ◌∷◌, length, Option, Some, None, slice_get, arith}
+use Rattle.std.proofs.Common.{◌≡◌, ◌⊎◌, inl, inr, refl, sym, ap, ◌∙◌, subst, ℕ, ◌+◌, List, ◌∷◌, Option, Some, None, slice_get, arith}
 use Rattle.mir_syntax.specs.Tree.{Tree}
 use Rattle.mir_syntax.specs.Crate.{TypedStmt, TypedBlock, TypedBody}
-use Rattle.mir_syntax.specs.Shapes.{Shape}
-use Rattle.mir_semantics.specs.Memory.{Memory}
-use Rattle.mir_semantics.specs.Step.{Code, code_of, Control, State, Next, perform, step}
-use Rattle.mir_renaming.specs.Renaming.{Renaming}
+use Rattle.mir_semantics.specs.Step.{Control, State, Next, perform, step}
 use Rattle.mir_syntax.proofs.Binds.{bind_some}
 use Rattle.mir_renaming.proofs.Typed.{Typed}
 use Rattle.mir_renaming.proofs.Ghosts.{Flat}
 use Rattle.mir_relate.proofs.Leaves.{some_val}
-use Rattle.inline_pass.proofs.refines.Into.{Stands, into}
-use Rattle.inline_pass.proofs.refines.Stacks as stacks
-use Rattle.inline_pass.proofs.refines.Stacks.{Onward, own_onward, inner_onward, stack_onward, onward_less}
-use Rattle.inline_pass.proofs.Bodies.{b2}
-use Rattle.inline_pass.proofs.refines.Setting.{Setting, is_h, IsSite, own_block, Answer}
+use Rattle.inline_pass.proofs.refines.Setting.{Setting, words, Moment, seen, is_h, IsSite, own_block, Answer}
 use Rattle.inline_pass.proofs.refines.OwnSteps.{own_stmt, own_term}
 use Rattle.inline_pass.proofs.refines.InnerSteps.{inner_stmt, inner_term}
 
 module _ (S : Setting) where
   open S use {C, valid, bodies2, f, fn, hn, fn_at, g, hn_at, apart, i, k, is_k, p, os, next, term_is, is2, others, valid2, calm, few, tp, p_ty}
+  open words S use {X, C1, C2, D, b1, h, bt, B, L, Rel, Stack, Own, Inner}
 
-  abbrev pub C1 : Code
-  C1 = code_of C
-
-  abbrev pub C2 : Code
-  C2 = record C1 { bodies = bodies2 }
-
-  abbrev D : List Shape
-  D = C1.shapes
-
-  abbrev b1 : TypedBody
-  b1 = fn.body
-
-  abbrev h : TypedBody
-  h = hn.body
-
-  abbrev bt : TypedBody
-  bt = b2 b1 h i k is_k p os next
-
-  abbrev B : ℕ
-  B = length b1.blocks
-
-  abbrev L : ℕ
-  L = length b1.locals
-
-  abbrev pub Rel : State → State → Type 0
-  Rel = stacks.Rel C1 bodies2 f g.0 b1 h p next
-
-  abbrev Stack : Stands → Memory → Memory → ℕ → List Control → List Control → Type 0
-  Stack = stacks.Stack C1 bodies2 f g.0 b1 h p next
-
-  abbrev Own : Stands → Memory → Memory → Control → Control → Type 0
-  Own = stacks.Own C1 bodies2 f g.0 b1 h p next
-
-  abbrev Inner : Stands → Memory → Memory → Control → Control → Control → Type 0
-  Inner = stacks.Inner C1 bodies2 f g.0 b1 h p next
-
-  module _ (s2 s1 : State) (r : Rel s2 s1) (ty : Typed C2 valid2 s2) (below : s2.top.frame < s2.next) where
-    abbrev F : Stands
-    F = r.stands
-
-    abbrev J : Renaming
-    J = into F
-
-    abbrev a0 : ℕ
-    a0 = s2.top.frame
-
-    abbrev On : Memory → Memory → Type 0
-    On k2 k1 = Onward F s2.next s2.memory s1.memory k2 k1
+  module _ (now : Moment S) where
+    open now use {s2, s1, r, ty, below}
+    open seen S now use {F, J, a0, On}
 
     -- ---- a step
 
@@ -84,8 +33,8 @@ module _ (S : Setting) where
         go n n2 b at_n is_b at_n2 types same_stmts kind (slice_get n.stmts s1.top.at) refl k3
       where
         go : (n n2 : TypedBlock) (b : TypedBody) → slice_get own.body.blocks s1.top.block ≡ Some n → slice_get bodies2 s1.top.function ≡ Some b → slice_get b.blocks s1.top.block ≡ Some n2 → ((x : ℕ) (t : Tree) → slice_get own.body.locals x ≡ Some t → slice_get b.locals (0 + x) ≡ Some t) → ((a : ℕ) (st : TypedStmt) → slice_get n.stmts a ≡ Some st → slice_get n2.stmts a ≡ Some st) → IsSite S s1.top.function s1.top.block n ⊎ (n2 ≡ n) → (o : Option TypedStmt) → slice_get n.stmts s1.top.at ≡ o → perform C1 (record { shapes = D; locals = own.body.locals; frame = s1.top.frame }) s1 n.term o ≡ Some x → Answer S s2 x
-        go n n2 b at_n is_b at_n2 types same_stmts kind None past e = own_term S s2 s1 r ty below own more n n2 b at_n is_b at_n2 types same_stmts kind x past e fl
-        go n n2 b at_n is_b at_n2 types same_stmts kind (Some st) at e = own_stmt S s2 s1 r ty below own more n n2 b at_n is_b at_n2 types same_stmts kind st x at e
+        go n n2 b at_n is_b at_n2 types same_stmts kind None past e = own_term S now own more n n2 b at_n is_b at_n2 types same_stmts kind x past e fl
+        go n n2 b at_n is_b at_n2 types same_stmts kind (Some st) at e = own_stmt S now own more n n2 b at_n is_b at_n2 types same_stmts kind st x at e
 
     inner_step : (c0 : Control) (ds : List Control) → s1.callers ≡ c0 ∷ ds → (inner : Inner F s2.memory s1.memory s2.top s1.top c0) → Stack F s2.memory s1.memory a0 s2.callers ds → (x : Next) → step C1 s1 ≡ Some x → Answer S s2 x
     unfolding step perform
@@ -98,8 +47,8 @@ module _ (S : Setting) where
         go n at_n (slice_get n.stmts s1.top.at) refl k3
       where
         go : (n : TypedBlock) → slice_get h.blocks s1.top.block ≡ Some n → (o : Option TypedStmt) → slice_get n.stmts s1.top.at ≡ o → perform C1 (record { shapes = D; locals = h.locals; frame = s1.top.frame }) s1 n.term o ≡ Some x → Answer S s2 x
-        go n at_n None past e = inner_term S s2 s1 r ty below c0 ds q inner more n at_n x past e
-        go n at_n (Some st) at e = inner_stmt S s2 s1 r ty below c0 ds q inner more n at_n st x at e
+        go n at_n None past e = inner_term S now c0 ds q inner more n at_n x past e
+        go n at_n (Some st) at e = inner_stmt S now c0 ds q inner more n at_n st x at e
 
   parts : (c d : Control) (cs ds : List Control) → c ∷ cs ≡ d ∷ ds → (d ≡ c) × (cs ≡ ds)
   parts c d cs ds e = (grind arith, grind arith)
@@ -110,7 +59,7 @@ module _ (S : Setting) where
       go : Stack r.stands s2.memory s1.memory s2.next (s2.top ∷ s2.callers) (s1.top ∷ s1.callers) → Answer S s2 x
       go (below, inl (c1, ds, q, own, more)) =
           let (q1, q2) = parts s1.top c1 s1.callers ds q in
-          own_step s2 s1 r ty below (subst (Own r.stands s2.memory s1.memory s2.top) q1 own) (subst (Stack r.stands s2.memory s1.memory s2.top.frame s2.callers) (sym q2) more) x e fl
+          own_step (record { s2 = s2; s1 = s1; r = r; ty = ty; below = below }) (subst (Own r.stands s2.memory s1.memory s2.top) q1 own) (subst (Stack r.stands s2.memory s1.memory s2.top.frame s2.callers) (sym q2) more) x e fl
       go (below, inr (c1, c0, ds, q, inner, more)) =
           let (q1, q2) = parts s1.top c1 s1.callers (c0 ∷ ds) q in
-          inner_step s2 s1 r ty below c0 ds q2 (subst (λ c. Inner r.stands s2.memory s1.memory s2.top c c0) q1 inner) more x e
+          inner_step (record { s2 = s2; s1 = s1; r = r; ty = ty; below = below }) c0 ds q2 (subst (λ c. Inner r.stands s2.memory s1.memory s2.top c c0) q1 inner) more x e

@@ -22,7 +22,7 @@ use Rattle.mir_renaming.proofs.Typed.{TermTy}
 use Rattle.mir_renaming.proofs.Types.{TypeMap, AddrTy, dest_ty}
 use Rattle.mir_relate.specs.Alike.{Sides, Reads, AllRead}
 use Rattle.mir_relate.specs.Frames.{Change, target, Pass}
-use Rattle.mir_relate.specs.Pass.{GentleTo, Valids, MoveOk, AllMoves, TermMoves, FewTerm, Goes}
+use Rattle.mir_relate.specs.Pass.{GentleTo, Valids, MoveOk, AllMoves, TermMoves, ArgsTerm, Goes}
 use Rattle.mir_relate.proofs.Alone.{read_alone}
 use Rattle.mir_relate.proofs.Kept as kept
 use Rattle.mir_relate.proofs.Leaves.{some_val}
@@ -138,7 +138,7 @@ module _ {X : Change} {xs : List Reached} {V : Valids X} {Inv : State → Type 0
   abbrev GoalIf : (Memory → Type 0) → Dest → Dest → ℕ → ℕ → Type 0
   GoalIf = own.GoalIf X P V Inv (frames.frames X (words X xs) now.lasts V Inv) now.n now.s2 now.s1 now.r [] now.s1.callers refl (omega arith) now.below S Q left refl ended
 
-  same_goes : (t u : Term) (x : Next) → FewTerm X.source t → SameStepIf t u → finish X.source S.source s1 t ≡ Some x → Flat x → GentleTo X G f1 s1.memory x → Goes X P (finish (target X) S.target s2 u) x
+  same_goes : (t u : Term) (x : Next) → ArgsTerm X.source t → SameStepIf t u → finish X.source S.source s1 t ≡ Some x → Flat x → GentleTo X G f1 s1.memory x → Goes X P (finish (target X) S.target s2 u) x
   same_goes t u x few h e fl ge = own.step_if_goes X P V Inv (frames.frames X (words X xs) lasts V Inv) n s2 s1 r [] s1.callers refl (omega arith) now.below S Q left refl ended refl refl X.body1 (moment.eb now) (λ h x y v e q. ((moment.pl now).only h x y e).0) (λ h x y lt e. (let z = ((moment.pl now).only h x y e).0 in omega (arith, z, lt))) t u x few h e fl ge
 
   -- ---- edges
@@ -258,5 +258,5 @@ module _ {X : Change} {xs : List Reached} {V : Valids X} {Inv : State → Type 0
     λ i ok m2 m1 q read. edge u (ap (λ t. leads last t u) is ∙ can_leads c (known last p) i u (number_is last p (i, m1) ended.known read) ok) (still_if (Assert p c text os u) is refl) m2 m1 q,
   )
 
-  pub same_end : (x : Next) → is_drop k.term ≡ false → TermMoves S.source k.term → TermTy X.source S.source k.term → FewTerm X.source k.term → finish X.source S.source s1 k.term ≡ Some x → Flat x → GentleTo X G f1 s1.memory x → Goes X P (finish (target X) S.target s2 k.term) x
+  pub same_end : (x : Next) → is_drop k.term ≡ false → TermMoves S.source k.term → TermTy X.source S.source k.term → ArgsTerm X.source k.term → finish X.source S.source s1 k.term ≡ Some x → Flat x → GentleTo X G f1 s1.memory x → Goes X P (finish (target X) S.target s2 k.term) x
   same_end x nd mo ty few e fl ge = same_goes k.term k.term x few (same_step k.term refl nd mo ty) e fl ge

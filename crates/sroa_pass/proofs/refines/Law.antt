@@ -31,7 +31,7 @@ use Rattle.mir_relate.specs.Alike.{Between, Same, AllSame, Sides, AllRead}
 use Rattle.mir_rules.specs.Drops.{is_drop}
 use Rattle.mir_relate.specs.Leaves.{Leaves}
 use Rattle.mir_relate.specs.Frames.{Change, target, Pass, lowest, opened, Below}
-use Rattle.mir_relate.specs.Pass.{GentleTo, KnowsAll, Valids, AllMoves, TermMoves, FewTerm, KeptLaw, FrameLaws, Laws, Goes, Answers, Related}
+use Rattle.mir_relate.specs.Pass.{GentleTo, KnowsAll, Valids, AllMoves, TermMoves, ArgsTerm, KeptLaw, FrameLaws, Laws, Goes, Answers, Related}
 use Rattle.mir_relate.proofs.Leaves.{some_val, leaves_none, leaves_then}
 use Rattle.mir_relate.proofs.Opens.{opened_at, opened_parts, opened_up}
 use Rattle.mir_relate.proofs.Wholes.{read_at_whole}
@@ -199,9 +199,9 @@ module _ (X : Change) (P : Plan X.source.shapes X.body1.locals X.body2.locals) (
     kept = kept_law;
     once = λ x x' y e e'. sym (same_lent x y e) ∙ same_lent x' y e';
     slots = λ j vs ws hv few x y e v q. slot j vs ws hv few x y (P.lends x y e) v q;
-    begins = λ j k2 k1 d2 d1 m2 m1 vs ws hv few f1 f2 l. (
+    begins = λ j k2 k1 d2 d1 m2 m1 vs ws hv ar f1 f2 l. (
         let (n, h) = begins_at (new_control X.f k2 d2) (new_control X.f k1 d1) refl refl in
-        (n, (refl, record { function1 = refl; function2 = refl; block = refl; calm = refl; roots = begin_roots j k2 k1 f1 f2; here = h }, begin_own j k2 k1 d2 d1 m2 m1 vs ws (opened_up j k2 k1 P.lent f1 f2) hv few)));
+        (n, (refl, record { function1 = refl; function2 = refl; block = refl; calm = refl; roots = begin_roots j k2 k1 f1 f2; here = h }, begin_own j k2 k1 d2 d1 m2 m1 vs ws (opened_up j k2 k1 P.lent f1 f2) hv (let a = ar.all in omega (arith, a)))));
     resumes = λ n s2 s1 r m2 m1 c2 c1 gs ds cs2 v w x q q2 p2 p1 l wt be l1 l2 lo dt hv wh k ge. resumed n s2 s1 r m2 m1 c2 c1 gs ds cs2 v w x q l wt be l1 l2 dt hv k ge;
   }
 
@@ -362,7 +362,7 @@ module _ (X : Change) (P : Plan X.source.shapes X.body1.locals X.body2.locals) (
           let o' = owns m2' m1' q2 in
           subst (Answers X pass n s2) (some_val q) (length (st s), m, at_memory m2' k, mv, own.own_core X pass V Inv frames n s2 s1 r [] s1.callers refl (omega arith) be m m2' m1' c2' (next_stmt s1.top) refl refl refl refl (left m2' m1' q2) (gentle_on X G f1 s1.memory (record s1 { memory = m1'; top = next_stmt s1.top }) x ge q (omega arith)) (refl, sd', record { stays = o'.stays; fields = o'.fields }), inr less)
 
-      end_step : (x : Next) → slice_get k1.stmts s1.top.at ≡ None → is_drop k1.term ≡ false → TermMoves H1 k1.term → TermTy X.source H1 k1.term → FewTerm X.source k1.term → perform X.source H1 s1 k1.term None ≡ Some x → Flat x → GentleTo X G f1 s1.memory x → Answers X pass n s2 x
+      end_step : (x : Next) → slice_get k1.stmts s1.top.at ≡ None → is_drop k1.term ≡ false → TermMoves H1 k1.term → TermTy X.source H1 k1.term → ArgsTerm X.source k1.term → perform X.source H1 s1 k1.term None ≡ Some x → Flat x → GentleTo X G f1 s1.memory x → Answers X pass n s2 x
       unfolding perform
       end_step x none calm mo ty few e fl ge =
           let nil2 : drop s2.top.at k2.stmts ≡ [] = ss ∙ ap (flat_map st) (drop_none k1.stmts s1.top.at none) in

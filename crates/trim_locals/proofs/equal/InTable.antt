@@ -34,7 +34,7 @@ module _ (n : ℕ) where
   rvalue_same f (rvalue.Tuple parts) = refl
   rvalue_same f (rvalue.Build d v parts) = refl
 
-  stmt_same : (f : ℕ → ℕ) (s : Stmt) → stmt_below n (bare_renamed_stmt f s) ≡ stmt_below n s
+  pub stmt_same : (f : ℕ → ℕ) (s : Stmt) → stmt_below n (bare_renamed_stmt f s) ≡ stmt_below n s
   stmt_same f (stmt.Assign p r) = rvalue_same f r
   stmt_same f (stmt.StorageLive x) = refl
   stmt_same f (stmt.StorageDead x) = refl

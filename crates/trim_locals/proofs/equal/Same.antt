@@ -105,7 +105,7 @@ rvalue_renamed trees f (rvalue.Discriminant p) = refl
 rvalue_renamed trees f (rvalue.Tuple parts) = refl
 rvalue_renamed trees f (rvalue.Build d v parts) = refl
 
-stmt_renamed : (trees : List Tree) (f : ℕ → ℕ) (s : Stmt) → stmt_of trees (bare_renamed_stmt f s) ≡ renamed_stmt f (stmt_of trees s)
+pub stmt_renamed : (trees : List Tree) (f : ℕ → ℕ) (s : Stmt) → stmt_of trees (bare_renamed_stmt f s) ≡ renamed_stmt f (stmt_of trees s)
 stmt_renamed trees f (stmt.Assign p r) = ap (assign (record { local = f p.local; proj = p.proj })) (rvalue_renamed trees f r)
 stmt_renamed trees f (stmt.StorageLive x) = refl
 stmt_renamed trees f (stmt.StorageDead x) = refl

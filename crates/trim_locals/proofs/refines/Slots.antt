@@ -20,16 +20,16 @@ module _ (D : List Shape) where
   blank_at (t ∷ ts) zero v e = (t, refl, grind arith)
   blank_at (t ∷ ts) (suc x) v e = blank_at ts x v e
 
-  at_blank : (ts : List Tree) (x : ℕ) (t : Tree) → slice_get ts x ≡ Some t → slice_get (blanks D ts) x ≡ Some (blank D t)
+  pub at_blank : (ts : List Tree) (x : ℕ) (t : Tree) → slice_get ts x ≡ Some t → slice_get (blanks D ts) x ≡ Some (blank D t)
   at_blank [] x t e = absurd (grind arith)
   at_blank (u ∷ ts) zero t e = ap (λ t. Some (blank D t)) (let z : u ≡ t = grind arith in z)
   at_blank (u ∷ ts) (suc x) t e = at_blank ts x t e
 
   -- behind the result
-  abbrev rest : List Value → List Tree → List Value
+  abbrev pub rest : List Value → List Tree → List Value
   rest vs ts = vs ++ blanks D (drop (length vs) ts)
 
-  in_rest : (vs : List Value) (ts : List Tree) (x : ℕ) (v : Value) → slice_get (rest vs ts) x ≡ Some v → (slice_get vs x ≡ Some v) ⊎ ((length vs ≤ x) × ((t : Tree) × (slice_get ts x ≡ Some t) × (blank D t ≡ v)))
+  pub in_rest : (vs : List Value) (ts : List Tree) (x : ℕ) (v : Value) → slice_get (rest vs ts) x ≡ Some v → (slice_get vs x ≡ Some v) ⊎ ((length vs ≤ x) × ((t : Tree) × (slice_get ts x ≡ Some t) × (blank D t ≡ v)))
   in_rest [] ts x v e = inr (omega arith, blank_at ts x v e)
   in_rest (w ∷ vs) ts zero v e = inl e
   in_rest (w ∷ vs) [] (suc x) v e = go (in_rest vs [] x v (subst (λ ts. slice_get (vs ++ blanks D ts) x ≡ Some v) (sym (nothing (length vs))) e))
@@ -47,7 +47,7 @@ module _ (D : List Shape) where
       go (inl h) = inl h
       go (inr (l, h)) = inr (omega (arith, l), h)
 
-  rest_arg : (vs : List Value) (us : List Value) (x : ℕ) (v : Value) → slice_get vs x ≡ Some v → slice_get (vs ++ us) x ≡ Some v
+  pub rest_arg : (vs : List Value) (us : List Value) (x : ℕ) (v : Value) → slice_get vs x ≡ Some v → slice_get (vs ++ us) x ≡ Some v
   rest_arg [] us x v e = absurd (grind arith)
   rest_arg (w ∷ vs) us zero v e = e
   rest_arg (w ∷ vs) us (suc x) v e = rest_arg vs us x v e

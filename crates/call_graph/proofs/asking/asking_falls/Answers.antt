@@ -1,5 +1,5 @@
 use Rattle.call_graph.proofs.Falls.{weight_falls}
-use Rattle.call_graph.proofs.Components.{not_itself}
+use Rattle.call_graph.proofs.Told.{not_itself}
 use Rattle.call_graph.proofs.asking.asking_falls.Goals as goal
 
 pub returns-clause-falls : goal.returns-clause-falls

@@ -3,7 +3,7 @@ use Rattle.std.proofs.lemmas.List.{length-map}
 use Rattle.mir_syntax.specs.Tree.{trees_of}
 use Rattle.mir_syntax.specs.Crate.{crate_of, function_of}
 use Rattle.call_graph.specs.Graph.{graph_of}
-use Rattle.call_graph.proofs.Components.{asked_below_is, asked_back_is}
+use Rattle.call_graph.proofs.Told.{asked_below_is, asked_back_is}
 use Rattle.call_graph.proofs.asking.asks.Goals as goal
 
 pub returns-then-below : goal.returns-then-below

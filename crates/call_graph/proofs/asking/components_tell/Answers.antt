@@ -1,4 +1,4 @@
-use Rattle.call_graph.proofs.Components.{told}
+use Rattle.call_graph.proofs.Told.{told}
 use Rattle.call_graph.proofs.asking.components_tell.Goals as goal
 
 pub returns : goal.returns

@@ -1,4 +1,4 @@
-use Rattle.call_graph.proofs.Components.{in_order}
+use Rattle.call_graph.proofs.Told.{in_order}
 use Rattle.call_graph.proofs.asking.paths_are_in_order.Goals as goal
 
 pub returns : goal.returns

@@ -6,4 +6,4 @@ use Rattle.call_graph.specs.Cost.{stmt_cost}
 use Rattle.call_graph.proofs.costs.block_cost.Given as goal
 
 abbrev pub invariant-loop-stmt : goal.invariant-loop-stmt
-invariant-loop-stmt l = (trees : List Tree) → l.total ≡ min (sum_by stmt_cost (map (stmt_of trees) (take l.stmt-index l.block.stmts))) (2 ^ 64 - 1)
+invariant-loop-stmt l = (trees : List Tree) → l.total ≡ min (sum_by stmt_cost (map (stmt_of trees) (take l.stmt-index l.stmts))) (2 ^ 64 - 1)

@@ -2,7 +2,7 @@ use Rattle.std.proofs.Common.{◌≡◌, sym, ap, ◌∙◌, false, arith}
 use Rattle.mir_cfg.specs.Paths.{block_term}
 use Rattle.mir_syntax.specs.declared.body.Block.{Block}
 use Rattle.call_graph.specs.Qualif.{is_plain}
-use Rattle.call_graph.proofs.Ended.{all_not}
+use Rattle.call_graph.proofs.Tests.{all_not}
 use Rattle.call_graph.proofs.cycles.all_plain.Goals as goal
 
 pub returns-then-not-is_plain : goal.returns-then-not-is_plain

@@ -19,9 +19,9 @@ returns-in_err-body-clause-taken g c =
 pub returns-then-takes-clause-taken : goal.returns-then-takes-clause-taken
 returns-then-takes-clause-taken g c =
     let trees = trees_of c.args.program.now.types in
-    taken_if trees c.args.program.now.functions (crate_of c.args.program.now) refl c.args.large (g.C.CalleeBodies.lent c.args.bodies.now) (g.C.CalleeBodies.qualifies c.args.bodies.now) c.args.g.0 c.in_ok-function.function.now c.in_ok-function.ensures c.in_ok-body.body.now c.in_ok-body.ensures true (sym c.if-takes.true ∙ c.takes.ensures trees)
+    taken_if trees c.args.program.now.functions (crate_of c.args.program.now) refl c.args.large (g.C.CalleeBodies.lent c.args.bodies.now) (g.C.CalleeBodies.qualifies c.args.bodies.now) c.args.g.0 c.in_ok-function.function.now c.in_ok-function.ensures c.in_ok-body.body.now c.in_ok-body.ensures c.qualif.result true c.qualif.ensures (sym c.if-takes.true ∙ c.takes.ensures trees)
 
 pub returns-else-takes-clause-taken : goal.returns-else-takes-clause-taken
 returns-else-takes-clause-taken g c =
     let trees = trees_of c.args.program.now.types in
-    taken_if trees c.args.program.now.functions (crate_of c.args.program.now) refl c.args.large (g.C.CalleeBodies.lent c.args.bodies.now) (g.C.CalleeBodies.qualifies c.args.bodies.now) c.args.g.0 c.in_ok-function.function.now c.in_ok-function.ensures c.in_ok-body.body.now c.in_ok-body.ensures false (sym c.if-takes.false ∙ c.takes.ensures trees)
+    taken_if trees c.args.program.now.functions (crate_of c.args.program.now) refl c.args.large (g.C.CalleeBodies.lent c.args.bodies.now) (g.C.CalleeBodies.qualifies c.args.bodies.now) c.args.g.0 c.in_ok-function.function.now c.in_ok-function.ensures c.in_ok-body.body.now c.in_ok-body.ensures c.qualif.result false c.qualif.ensures (sym c.if-takes.false ∙ c.takes.ensures trees)

@@ -6,4 +6,4 @@ use Rattle.inline_pass.specs.Code.{capped, copied_in}
 use Rattle.inline_pass.proofs.size.all_copied.Given as goal
 
 abbrev pub invariant-loop-block : goal.invariant-loop-block
-invariant-loop-block l = (trees : List Tree) → l.total ≡ capped (sum_by copied_in (map (block_of trees) (take l.block-index l.blocks)))
+invariant-loop-block l = (trees : List Tree) → l.total ≡ capped (sum_by copied_in (map (block_of trees) (take l.block l.callee.blocks)))

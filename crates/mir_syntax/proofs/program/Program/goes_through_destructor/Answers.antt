@@ -1,4 +1,4 @@
-use Rattle.std.proofs.Common.{Some, None, sym, ap, ◌∙◌}
+use Rattle.std.proofs.Common.{sym, ap, ◌∙◌}
 use Rattle.std.specs.Option.{option_map}
 use Rattle.std.proofs.lemmas.Option.{slice_get-map}
 use Rattle.mir_syntax.specs.Tree.{at_id, trees_of}

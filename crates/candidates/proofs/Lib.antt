@@ -1,0 +1,4 @@
+pub mod Walking
+pub mod Layers
+pub mod Asked
+pub mod Ended

@@ -1,0 +1,10 @@
+pub mod Bodies
+pub mod Replace
+pub mod Calls
+pub mod Places
+pub mod Phases
+pub mod Inlined
+pub mod Rounds
+pub mod Sources
+pub mod Taken
+pub mod Tables

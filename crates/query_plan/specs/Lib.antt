@@ -1,0 +1,4 @@
+pub mod Queries
+pub mod Needs
+pub mod Order
+pub mod Source
