@@ -1,7 +1,8 @@
 use Rattle.std.proofs.Common.{sym, subst}
-use Rattle.std.specs.Prelude.{IfOk}
+use Rattle.std.specs.Prelude.{IfOk, IfErr}
 use Rattle.pipe_words.specs.declared.command.Command.{Command}
-use Rattle.mirpipe_cli.specs.Answer.{CanBeDone, Writes}
+use Rattle.mirpipe_cli.specs.Refused.{OfInput}
+use Rattle.mirpipe_cli.specs.Answer.{CanBeDone, Writes, Refuses}
 use Rattle.mirpipe_cli.specs.Output.{bytes_of}
 use Rattle.mirpipe_cli.proofs.command.work.Goals as goal
 
@@ -13,6 +14,10 @@ pub returns-in_ok-accepted-in-Seq-clause-writes : goal.returns-in_ok-accepted-in
 returns-in_ok-accepted-in-Seq-clause-writes g c = λ input left.
     subst (λ (k : Command). IfOk c.seq.result (λ output. Writes k input (bytes_of output))) (sym c.in-Seq.is) (c.seq.ensures.writes input (c.in_ok-accepted-in-Seq.ensures.accepted input left))
 
+pub returns-in_ok-accepted-in-Seq-clause-refused : goal.returns-in_ok-accepted-in-Seq-clause-refused
+returns-in_ok-accepted-in-Seq-clause-refused g c = λ input left.
+    subst (λ (k : Command). IfErr c.seq.result (OfInput (Refuses k input))) (sym c.in-Seq.is) (c.seq.ensures.refused input (c.in_ok-accepted-in-Seq.ensures.accepted input left))
+
 pub returns-in_ok-accepted-in-Run-clause-writes : goal.returns-in_ok-accepted-in-Run-clause-writes
 returns-in_ok-accepted-in-Run-clause-writes g c = λ input left.
     subst (λ (k : Command). IfOk c.run.result (λ output. Writes k input (bytes_of output))) (sym c.in-Run.is) (c.run.ensures.writes input (c.in_ok-accepted-in-Run.ensures.accepted input left))
@@ -20,6 +25,10 @@ returns-in_ok-accepted-in-Run-clause-writes g c = λ input left.
 pub returns-in_ok-accepted-in-Dump-clause-writes : goal.returns-in_ok-accepted-in-Dump-clause-writes
 returns-in_ok-accepted-in-Dump-clause-writes g c = λ input left.
     subst (λ (k : Command). IfOk c.dump.result (λ output. Writes k input (bytes_of output))) (sym c.in-Dump.is) (c.dump.ensures.writes input (c.in_ok-accepted-in-Dump.ensures.accepted input left))
+
+pub returns-in_ok-accepted-in-Dump-clause-refused : goal.returns-in_ok-accepted-in-Dump-clause-refused
+returns-in_ok-accepted-in-Dump-clause-refused g c = λ input left.
+    subst (λ (k : Command). IfErr c.dump.result (OfInput (Refuses k input))) (sym c.in-Dump.is) (c.dump.ensures.refused input (c.in_ok-accepted-in-Dump.ensures.accepted input left))
 
 pub dump-requires : goal.dump-requires
 dump-requires g c = record { step = subst CanBeDone c.in-Dump.is c.requires.can }
