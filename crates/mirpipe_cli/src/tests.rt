@@ -24,9 +24,6 @@ const BACK_TO_START: &str =
 const DROPS: &str =
     "struct G(u32);\nextern fn note(u32) -> ();\n\ndrop fn drop_g(_1: &mut G) -> () {\n    let mut _0: ();\n\n    bb0: {\n        _0 = note(copy ((*_1).0: u32)) -> [return: bb1, unwind unreachable];\n    }\n\n    bb1: {\n        return;\n    }\n}\n\n#[inline(never)]\nfn eat(_1: G) -> () {\n    let mut _0: ();\n\n    bb0: {\n        drop(_1) -> [return: bb1, unwind unreachable];\n    }\n\n    bb1: {\n        return;\n    }\n}\n";
 
-const MADE: &str =
-    "fn f00000(_1: u32, _2: u32) -> u32 {\n    let mut _0: u32;\n    let mut _3: u32;\n    let mut _4: u32;\n    let mut _5: bool;\n\n    bb0: {\n        _3 = const 38_u32;\n        _4 = Sub(copy _1, copy _3);\n        _5 = Lt(copy _3, const 13_u32);\n        switchInt(move _5) -> [0: bb2, otherwise: bb1];\n    }\n\n    bb1: {\n        _0 = f00000(copy _4, copy _2) -> [return: bb3, unwind unreachable];\n    }\n\n    bb2: {\n        _0 = f00000(copy _2, copy _4) -> [return: bb3, unwind unreachable];\n    }\n\n    bb3: {\n        return;\n    }\n}\n";
-
 const GOING: &str = "going\n";
 
 const RAN: &str = "call note(3) = ()\nreturned\n";
@@ -87,11 +84,6 @@ fn answers_by_words_and_input(rt: HostRuntime) -> Result<(), Fail> {
         ("dump built h", SKIPS, 1, "", "E01\n"),
         ("dump built eats", DROPS, 1, "", "S16 line 21\n"),
         ("dump halved g", SKIPS, 2, "", "word 2\n"),
-        ("gen 1 1", DROPS, 0, MADE, ""),
-        ("gen 2147483648 1", "", 2, "", "word 2\n"),
-        ("gen 0 0", "", 2, "", "word 3\n"),
-        ("gen 0 10001", "", 2, "", "word 3\n"),
-        ("gen 1", "", 2, "", "word 3\n"),
     ] {
         let (told, sink, notes) = told(&rt, asked, input)?;
         assert_eq!(rt; told, status);
