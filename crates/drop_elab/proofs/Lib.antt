@@ -7,3 +7,7 @@ pub mod refines
 pub mod valid
 pub mod Types
 pub mod InPlace
+pub mod Destructors
+pub mod Marking
+pub mod Fields
+pub mod equal

@@ -42,13 +42,13 @@ gathers_field old now e found new i ws left paths g el ep ee w nl np nn = record
         ∙ ap (λ (xs : List Place). xs ++ map (place_from e) ws) ep
         ∙ ap (λ (xs : List Place). now.places ++ xs) (from_field old e i (el ∙ g.same_local) (ee ∙ ap (λ ps. ps ++ Field i ∷ []) g.same_path) ws)
 
-snoc_front : {A : Type 0} (xs ys : List A) (x y : A) → xs ++ x ∷ [] ≡ ys ++ y ∷ [] → xs ≡ ys
+pub snoc_front : {A : Type 0} (xs ys : List A) (x y : A) → xs ++ x ∷ [] ≡ ys ++ y ∷ [] → xs ≡ ys
 snoc_front [] [] x y e = refl
 snoc_front [] (b ∷ ys) x y e = absurd (let long = ap length e in let more = length-append ys (y ∷ []) in omega arith)
 snoc_front (a ∷ xs) [] x y e = absurd (let long = ap length e in let more = length-append xs (x ∷ []) in omega arith)
 snoc_front (a ∷ xs) (b ∷ ys) x y e = (let one : a ≡ b = cc in let rest : xs ++ x ∷ [] ≡ ys ++ y ∷ [] = cc in rw one (ap (λ zs. b ∷ zs) (snoc_front xs ys x y rest)))
 
-popped : {A : Type 0} (o : Option A) (p q s : List A) (x : A) → MatchOption o ((p ≡ []) × (q ≡ [])) (λ last. p ≡ q ++ last ∷ []) → p ≡ s ++ x ∷ [] → q ≡ s
+pub popped : {A : Type 0} (o : Option A) (p q s : List A) (x : A) → MatchOption o ((p ≡ []) × (q ≡ [])) (λ last. p ≡ q ++ last ∷ []) → p ≡ s ++ x ∷ [] → q ≡ s
 popped None p q s x h e = absurd (let long = ap length (sym h.0 ∙ e) in let more = length-append s (x ∷ []) in omega arith)
 popped (Some last) p q s x h e = snoc_front q s last x (sym h ∙ e)
 
