@@ -1,5 +1,5 @@
 -- What the code makes of a body, over statements as the program holds them: copies, conflicts, homes, and the body with them.
-use Rattle.std.specs.Prelude.{◌≡◌, ◌↔◌, ◌<◌, ◌≤◌, ◌^◌, ◌+◌, ℕ, suc, Bool, true, false, not, nat_eq, nat_le, ◌&&◌, ◌||◌, if◌then◌else◌, IsTrue, List, [], ◌∷◌, map, set, drop, get_or, length, Option, Some, None, slice_get}
+use Rattle.std.specs.Prelude.{◌≡◌, ◌↔◌, ◌<◌, ◌≤◌, ◌^◌, ℕ, suc, Bool, true, false, not, nat_eq, nat_le, ◌&&◌, ◌||◌, if◌then◌else◌, IsTrue, List, [], ◌∷◌, map, set, drop, get_or, length, Option, Some, None, slice_get}
 use Rattle.std.specs.List.{filter, flat_map}
 use lib.Lanes.{zip2}
 use Rattle.bit_rows.specs.Rows.{row_at, flag, stands, HasSize}
@@ -18,7 +18,7 @@ use Rattle.mir_syntax.specs.declared.body.Block.{Block}
 use Rattle.mir_syntax.specs.Tree.{Tree}
 use Rattle.mir_syntax.specs.Crate.{TypedBody, stmt_of}
 use Rattle.mir_syntax.specs.Shapes.{Shape}
-use Rattle.liveness.specs.Rows.{before_all}
+use Rattle.liveness.specs.Rows.{before_all, end_row}
 use Rattle.dest_prop.specs.declared.candidates.LocalCopy.{LocalCopy}
 use Rattle.dest_prop.specs.declared.groups.Groups.{Groups}
 use Rattle.dest_prop.specs.Merged.{Pair, written, any_from, may_join, joined, place_home, operand_home, term_home}
@@ -105,6 +105,10 @@ term_hurts_by starts t x y = false
 abbrev pub block_hurts_by : List Tree → List (List Bool) → List Bool → Block → ℕ → ℕ → Bool
 block_hurts_by trees starts end k x y = stmts_hurt trees end k.stmts x y || term_hurts_by starts k.term x y
 
+-- the rows of what is live before the terminators, by those of what is live at the blocks' starts
+abbrev pub ends_of : List Shape → TypedBody → List (List Bool) → List (List Bool)
+ends_of D b starts = map (end_row D b.locals starts) b.blocks
+
 abbrev pub hurts_in : List Tree → List (List Bool) → List (List Bool) → ℕ → ℕ → ℕ → Block → Bool
 hurts_in trees starts ends x y i k = block_hurts_by trees starts (row_at ends i) k x y
 
@@ -129,28 +133,28 @@ moved_home gone keep h = if nat_eq h gone then keep else h
 abbrev pub or_into : List (List Bool) → ℕ → ℕ → List (List Bool)
 or_into rows into from = set rows into (zip2 (λ a b. a || b) (row_at rows into) (row_at rows from))
 
--- homes, rows of so many locals and as many rows again are there
+-- the homes and both tables have their sizes
 pub record IsSized (g : Groups) : Type 0 where
   pub few : g.locals < 2 ^ 30
   pub homes : length g.homes.items ≡ g.locals
   pub below : (x : ℕ) → x < g.locals → get_or g.homes.items x x < g.locals
-  pub rows : HasSize g.rows (g.locals + g.locals) g.locals
+  pub hurts : HasSize g.hurts g.locals g.locals
+  pub members : HasSize g.members g.locals g.locals
 
--- the homes are those of the function. Of each home, its row has what the members' writes conflict with, by the function, and the row that
--- stands so many rows behind has the members
+-- the homes are those of the function. Of each home, its rows have what the members' writes conflict with, by the function, and the members
 pub record IsGrouped (hurts : ℕ → ℕ → Bool) (home : ℕ → ℕ) (g : Groups) : Type 0 where
   pub again : (x : ℕ) → home (home x) ≡ home x
   pub least : (x : ℕ) → home x ≤ x
   pub past : (x : ℕ) → g.locals ≤ x → home x ≡ x
   pub homes : (x : ℕ) → x < g.locals → get_or g.homes.items x x ≡ home x
-  pub hurt : (r y : ℕ) → r < g.locals → y < g.locals → home r ≡ r → IsTrue (flag g.rows r y) ↔ ((x : ℕ) × (x < g.locals) × (home x ≡ r) × IsTrue (hurts x y))
-  pub members : (r y : ℕ) → r < g.locals → y < g.locals → home r ≡ r → flag g.rows (g.locals + r) y ≡ nat_eq (home y) r
+  pub hurt : (r y : ℕ) → r < g.locals → y < g.locals → home r ≡ r → IsTrue (flag g.hurts r y) ↔ ((x : ℕ) × (x < g.locals) × (home x ≡ r) × IsTrue (hurts x y))
+  pub members : (r y : ℕ) → r < g.locals → y < g.locals → home r ≡ r → flag g.members r y ≡ nat_eq (home y) r
 
 -- whether two groups may be one: at most one has a fixed local, and no member's write conflicts with a member of the other
 pub record MayUnite (g : Groups) (a b : ℕ) : Type 0 where
   pub one_fixed : a ≤ g.args → b ≤ g.args → ⊥
-  pub first : (y : ℕ) → IsTrue (flag g.rows a y) → IsTrue (flag g.rows (g.locals + b) y) → ⊥
-  pub second : (y : ℕ) → IsTrue (flag g.rows b y) → IsTrue (flag g.rows (g.locals + a) y) → ⊥
+  pub first : (y : ℕ) → IsTrue (flag g.hurts a y) → IsTrue (flag g.members b y) → ⊥
+  pub second : (y : ℕ) → IsTrue (flag g.hurts b y) → IsTrue (flag g.members a y) → ⊥
 
 -- the homes after one candidate
 abbrev pub next_home : List Shape → TypedBody → (ℕ → ℕ) → Pair → ℕ → ℕ

@@ -7,15 +7,16 @@ ghost use Rattle.mir_syntax.specs.Drops.{KnowsDrops};
 ghost use Rattle.mir_syntax.specs.Ids.{IdsInTable, BodyInTable};
 ghost use Rattle.mir_syntax.specs.Parts.{targets};
 ghost use Rattle.mir_syntax.specs.Tree.{Tree, trees_of};
-ghost use Rattle.mir_syntax.specs.Crate.{crate_of, body_of};
+ghost use Rattle.mir_syntax.specs.Crate.{crate_of, body_of, block_of};
 ghost use Rattle.mir_syntax.specs.Shapes.{shapes_of};
 ghost use Rattle.mir_cfg.specs.Paths.{terms_of, Closed};
 ghost use Rattle.dest_prop.specs.Merged as definition;
-ghost use Rattle.dest_prop.specs.Code.{Grows, stmt_hurts_by, stmts_hurt, term_hurts_by, block_hurts_by, blocks_hurt, argument_hurts};
+ghost use Rattle.dest_prop.specs.Code.{Grows, stmt_hurts_by, stmts_hurt, term_hurts_by, block_hurts_by, ends_of, blocks_hurt, argument_hurts};
+ghost use Rattle.liveness.specs.Rows.{end_row};
 
 use crate::candidates::{LocalCopy, copied};
 use bit_rows::BitRows;
-use liveness::{LiveRows, back, live};
+use liveness::{back, live_end, live_starts};
 use mir_syntax::{Block, Body, OutOfMemory, Place, Program, Stmt, Term};
 use std::alloc::Global;
 
@@ -99,48 +100,53 @@ fn note_term(hurts: &mut BitRows, locals: u32, term: &Term, starts: &BitRows)
     }
 }
 
-/// Marks what a block writes while others are live. The row `live` is room for a row.
+/// Marks what a block writes while others are live, given those that are live at the blocks' starts.
 fn note_block(
-    hurts: &mut BitRows,
-    locals: u32,
+    alloc: Global,
+    program: &Program,
+    body: &Body,
     block: &Block,
-    rows: &LiveRows,
-    at: u32,
-    live: &mut BitRows,
-)
-    requires size { HasSize hurts.old locals locals }
-    requires live_size { HasSize live.old 1 locals }
-    requires within { at < length rows.now.ends }
-    requires ends { length (row_at rows.now.ends at) ≡ locals }
-    requires targets { All (λ r. r < length rows.now.starts) (targets block.now.term) }
-    requires starts { (r : ℕ) → r < length rows.now.starts → length (row_at rows.now.starts r) ≡ locals }
-    ensures hurts { (trees : List Tree) → Grows locals (block_hurts_by trees rows.now.starts (row_at rows.now.ends at) block.now) hurts.old hurts.new }
-    ensures live { HasSize live.new 1 locals }
+    starts: &BitRows,
+    hurts: &mut BitRows,
+) -> Result<(), OutOfMemory>
+    requires knows { KnowsDrops program.now }
+    requires ids { IdsInTable program.now }
+    requires body_ids { BodyInTable program.now.types body.now }
+    requires few_locals { length body.now.locals < 2 ^ 30 }
+    requires targets { All (λ r. r < length starts.now) (targets block.now.term) }
+    requires starts { (r : ℕ) → r < length starts.now → length (row_at starts.now r) ≡ length body.now.locals }
+    requires size { HasSize hurts.old (length body.now.locals) (length body.now.locals) }
+    ensures { OnOk result ((trees : List Tree) → Grows (length body.now.locals) (block_hurts_by trees starts.now (end_row (shapes_of (crate_of program.now)) (body_of (trees_of program.now.types) body.now).locals starts.now (block_of (trees_of program.now.types) block.now)) block.now) hurts.old hurts.new) }
 {
-    live.copy_other(0, &rows.ends, at);
-    note_stmts(hurts, locals, block.stmts.as_slice(), live);
-    note_term(hurts, locals, &block.term, &rows.starts);
+    let locals = body.locals.len() as u32;
+    let mut live = live_end(alloc, program, body, block, starts)?;
+    note_stmts(hurts, locals, block.stmts.as_slice(), &mut live);
+    note_term(hurts, locals, &block.term, starts);
+    Ok(())
 }
 
-/// The same of blocks.
+/// The same of a body's blocks.
 fn note_blocks(
+    alloc: Global,
+    program: &Program,
+    body: &Body,
+    starts: &BitRows,
     hurts: &mut BitRows,
-    locals: u32,
-    blocks: &[Block],
-    rows: &LiveRows,
-    live: &mut BitRows,
-)
-    requires size { HasSize hurts.old locals locals }
-    requires live_size { HasSize live.old 1 locals }
-    requires few { length blocks.now < 2 ^ 30 }
-    requires ends { HasSize rows.now.ends (length blocks.now) locals }
-    requires starts { HasSize rows.now.starts (length blocks.now) locals }
-    requires targets { All (λ (k : Block). All (λ r. r < length blocks.now) (targets k.term)) blocks.now }
-    ensures { (trees : List Tree) → Grows locals (blocks_hurt trees rows.now.starts rows.now.ends blocks.now) hurts.old hurts.new }
+) -> Result<(), OutOfMemory>
+    requires knows { KnowsDrops program.now }
+    requires ids { IdsInTable program.now }
+    requires body_ids { BodyInTable program.now.types body.now }
+    requires few_locals { length body.now.locals < 2 ^ 30 }
+    requires targets { All (λ (k : Block). All (λ r. r < length body.now.blocks) (targets k.term)) body.now.blocks }
+    requires starts { HasSize starts.now (length body.now.blocks) (length body.now.locals) }
+    requires size { HasSize hurts.old (length body.now.locals) (length body.now.locals) }
+    ensures { OnOk result ((trees : List Tree) → Grows (length body.now.locals) (blocks_hurt trees starts.now (ends_of (shapes_of (crate_of program.now)) (body_of (trees_of program.now.types) body.now) starts.now) body.now.blocks) hurts.old hurts.new) }
 {
+    let blocks = body.blocks.as_slice();
     for at in (0..blocks.len()).rev() {
-        note_block(hurts, locals, &blocks[at], rows, at as u32, live);
+        note_block(alloc, program, body, &blocks[at], starts, hurts)?;
     }
+    Ok(())
 }
 
 /// Marks in the arguments' rows what is live at the start.
@@ -173,11 +179,10 @@ pub(crate) fn conflicts(
     ensures size { IfOk result (λ rows. HasSize rows (length body.now.locals) (length body.now.locals)) }
     ensures hurts { IfOk result (λ rows. (x y : ℕ) → x < length body.now.locals → y < length body.now.locals → flag rows x y ≡ definition.hurts (shapes_of (crate_of program.now)) (body_of (trees_of program.now.types) body.now) x y) }
 {
-    let rows = live(alloc, program, body)?;
+    let starts = live_starts(alloc, program, body)?;
     let locals = body.locals.len() as u32;
     let mut hurts = BitRows::new(alloc, locals, locals)?;
-    let mut room = BitRows::new(alloc, 1, locals)?;
-    note_blocks(&mut hurts, locals, body.blocks.as_slice(), &rows, &mut room);
-    note_arguments(&mut hurts, locals, body.args, &rows.starts);
+    note_blocks(alloc, program, body, &starts, &mut hurts)?;
+    note_arguments(&mut hurts, locals, body.args, &starts);
     Ok(hurts)
 }

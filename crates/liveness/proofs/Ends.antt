@@ -1,6 +1,8 @@
 -- The locals that are live before a terminator, from those that are live at the blocks' starts.
 use Rattle.std.proofs.Common.{◌≡◌, ◌⊎◌, inl, inr, refl, sym, ap, ◌∙◌, ℕ, ◌<◌, Bool, true, false, ◌||◌, List, [], ◌∷◌, length, get_or, Some, slice_get, IsTrue, ◌↔◌, arith}
-use Rattle.std.specs.List.{Contains}
+use Rattle.std.specs.List.{All, Contains}
+use Rattle.std.proofs.lemmas.List.Elements.{All-contains}
+use Rattle.mir_syntax.specs.Tree.{Tree}
 use Rattle.std.proofs.lemmas.Option.{slice_get-get_or}
 use Rattle.std.proofs.lemmas.List.{length-replicate}
 use Rattle.std.proofs.lemmas.Simd.{length-zip2, get_or-zip2}
@@ -49,6 +51,14 @@ or_joins rows row (u ∷ us) x v h l c e =
       | inl s ↦ or_keeps rows (zip2 (λ a b. a || b) row (row_at rows u)) us x (λ v c. h v (has_later u v us c) ∙ sym one) (omega arith) (get_or-zip2 (λ a b. a || b) row (row_at rows u) x false false false l (omega arith) ∙ or_right (get_or row x false) (flag rows u x) (ap (λ v. flag rows v x) s ∙ e))
       | inr q ↦ or_joins rows (zip2 (λ a b. a || b) row (row_at rows u)) us x v (λ v c. h v (has_later u v us c) ∙ sym one) (omega arith) q e
     ]
+
+-- the row before a terminator has a bit for each local
+pub end_wide : (D : List Shape) (locals : List Tree) (starts : List (List Bool)) (k : TypedBlock) → All (λ r. r < length starts) (targets k.term) → ((r : ℕ) → r < length starts → length (row_at starts r) ≡ length locals) → length (end_row D locals starts k) ≡ length locals
+end_wide D locals starts k all wide =
+    let row = or_rows starts (blank (length locals)) (targets k.term) in
+    let none = length-replicate (length locals) false in
+    length-marked (cleared row (term_fills k.term)) (term_reads D locals k.term) ∙ length-cleared row (term_fills k.term)
+    ∙ or_long starts (blank (length locals)) (targets k.term) (λ u c. wide u (All-contains (λ r. r < length starts) (targets k.term) u all c) ∙ sym none) ∙ none
 
 module _ (D : List Shape) (b : TypedBody) (n bits : ℕ) (nb : n ≡ length b.blocks) (nl : bits ≡ length b.locals) (closed : (i u : ℕ) → i < n → Contains (targets (block_at b.blocks i).term) u → u < n) (starts : List (List Bool)) (size : HasSize starts n bits) (live : (i x : ℕ) → i < n → x < bits → IsTrue (flag starts i x) ↔ Live D b i 0 x) where
   blank_long : length (blank (length b.locals)) ≡ bits

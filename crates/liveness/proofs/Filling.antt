@@ -1,16 +1,20 @@
 -- Tables whose rows are made one after another, and edges that are found block by block.
-use Rattle.std.proofs.Common.{◌≡◌, ◌⊎◌, inl, inr, refl, sym, ap, ◌∙◌, subst, ℕ, zero, suc, ◌+◌, ◌<◌, ◌≤◌, Bool, ◌||◌, List, [], ◌∷◌, ◌++◌, map, take, length, get_or, set, replicate, arith}
+use Rattle.std.proofs.Common.{◌≡◌, ◌⊎◌, inl, inr, refl, sym, ap, ◌∙◌, subst, ℕ, zero, suc, ◌+◌, ◌<◌, ◌≤◌, Bool, ◌||◌, List, [], ◌∷◌, ◌++◌, map, take, length, get_or, set, replicate, Option, Some, slice_get, length-append, arith}
 use Rattle.std.specs.List.{Contains}
 use Rattle.std.proofs.lemmas.Bool.{cases_eq}
 use Rattle.std.proofs.lemmas.List.{length-set, length-replicate, get_or-replicate, get_or-set_same, get_or-set_other, take_more, set-set, ext_get_or, length-map, get_or-map}
 use Rattle.std.proofs.lemmas.List.Elements.{Contains-append_left, Contains-append_right, Contains-append_cases}
 use Rattle.std.proofs.lemmas.Simd.{length-zip2}
 use lib.Lanes.{zip2}
-use Rattle.mir_syntax.specs.Crate.{TypedBlock}
+use Rattle.mir_syntax.specs.Tree.{Tree}
+use Rattle.mir_syntax.specs.Crate.{TypedBlock, body_of}
+use Rattle.mir_syntax.specs.declared.body.Body.{Body}
 use Rattle.mir_syntax.specs.Parts.{targets}
 use Rattle.bit_rows.specs.Rows.{row_at, HasSize}
 use Rattle.flow_engine.specs.declared.edges.Edge.{Edge}
-use Rattle.liveness.specs.Rows.{or_rows, edge_back, block_at, IsRows, IsTurned}
+use Rattle.flow_engine.proofs.Lists.{get_push}
+use Rattle.liveness.specs.Rows.{or_rows, kill_row, edge_back, block_at, IsRows, IsTurned}
+use Rattle.liveness.specs.Facts.{AreKills}
 
 -- the first rows are those that a function names, the others are still as they were
 pub record Filled (n at : ℕ) (f : ℕ → List Bool) (d : List Bool) (rows : List (List Bool)) : Type 0 where
@@ -38,6 +42,23 @@ filled_more n at f d rows rows2 v l w e is = record {
 
 pub filled_all : (n at : ℕ) (f : ℕ → List Bool) (d : List Bool) (rows : List (List Bool)) → n ≤ at → Filled n at f d rows → IsRows n f rows
 filled_all n at f d rows l w = record { long = w.long; each = λ r m. w.done r (omega arith) }
+
+-- the first rows are those that a function names, the others those of another table
+pub record Copied (old : List (List Bool)) (at : ℕ) (f : ℕ → List Bool) (rows : List (List Bool)) : Type 0 where
+  pub long : length rows ≡ length old
+  pub done : (r : ℕ) → r < at → row_at rows r ≡ f r
+  pub rest : (r : ℕ) → at ≤ r → row_at rows r ≡ row_at old r
+
+pub copied_more : (old : List (List Bool)) (at : ℕ) (f : ℕ → List Bool) (rows rows2 : List (List Bool)) → at < length old → Copied old at f rows → rows2 ≡ set rows at (f at) → Copied old (at + 1) f rows2
+copied_more old at f rows rows2 l w e = record {
+  long = ap length e ∙ length-set rows at (f at) ∙ w.long;
+  done = λ r m. ap (λ t. row_at t r) e ∙ found r m (cases_eq r at);
+  rest = λ r a. ap (λ t. row_at t r) e ∙ get_or-set_other rows at r (f at) [] (λ s. absurd (omega arith)) ∙ w.rest r (omega arith);
+}
+  where
+    found : (r : ℕ) → r < at + 1 → (r ≡ at) ⊎ (r ≡ at → ⊥) → row_at (set rows at (f at)) r ≡ f r
+    found r m (inl s) = ap (λ r. row_at (set rows at (f at)) r) s ∙ get_or-set_same rows at (f at) [] (omega (arith, w.long)) ∙ ap f (sym s)
+    found r m (inr ne) = get_or-set_other rows at r (f at) [] ne ∙ w.done r (omega arith)
 
 -- rows of one length
 pub rows_sized : (n bits : ℕ) (f : ℕ → List Bool) (rows : List (List Bool)) → ((r : ℕ) → length (f r) ≡ bits) → IsRows n f rows → HasSize rows n bits
@@ -96,3 +117,14 @@ turned_more blocks at edges edges2 us w is e = record { only = λ d p. only d (s
     all : (b u : ℕ) → b < at + 1 → Contains (targets (block_at blocks b).term) u → (b ≡ at) ⊎ (b ≡ at → ⊥) → Contains (edges ++ map (edge_back at) us) (edge_back b u)
     all b u l c (inl s) = Contains-append_right edges (map (edge_back at) us) (edge_back b u) (subst (λ i. Contains (map (edge_back at) us) (edge_back i u)) (sym s) (mapped_has at us u (subst (λ xs. Contains xs u) (ap (λ i. targets (block_at blocks i).term) s ∙ sym is) c)))
     all b u l c (inr ne) = Contains-append_left edges (map (edge_back at) us) (edge_back b u) (w.all b u (omega arith) c)
+
+-- ---- the rows that some blocks have
+
+pub kills_more : (body : Body) (kills kills2 : List (Option (List (List Bool)))) (o : Option (List (List Bool))) (at : ℕ) → length kills ≡ at → kills2 ≡ kills ++ o ∷ [] → AreKills body kills → ((row : List (List Bool)) → o ≡ Some row → (trees : List Tree) → row ≡ kill_row (body_of trees body).locals (block_at (body_of trees body).blocks at) ∷ []) → (length kills2 ≡ at + 1) × AreKills body kills2
+kills_more body kills kills2 o at long e are here = (
+  ap length e ∙ length-append kills (o ∷ []) ∙ (let z : length kills + 1 ≡ at + 1 = omega arith in z),
+  λ trees i row q. elim (get_push kills o i (Some row) at long (ap (λ ks. slice_get ks i) (sym e) ∙ q)) [
+    | inl new ↦ here row (sym new.1) trees ∙ ap (λ i. kill_row (body_of trees body).locals (block_at (body_of trees body).blocks i) ∷ []) (sym new.0)
+    | inr old ↦ are trees i row old
+  ],
+)

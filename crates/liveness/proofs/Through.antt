@@ -9,10 +9,12 @@ use Rattle.mir_syntax.specs.Crate.{TypedStmt, TypedBlock, TypedBody}
 use Rattle.mir_syntax.specs.Shapes.{Shape}
 use Rattle.mir_syntax.specs.Parts.{targets}
 use Rattle.bit_rows.specs.Rows.{marked, stands}
-use Rattle.bit_rows.proofs.Marks.{length-marked, marked-at}
+use Rattle.bit_rows.proofs.Marks.{marked-at}
 use Rattle.liveness.specs.Live.{stmt_reads, stmt_fills, term_reads, term_fills, LiveIn, Live}
-use Rattle.liveness.specs.Rows.{cleared, before_all, blank, gen_row, kill_row, block_fills}
+use Rattle.liveness.specs.Rows.{cleared, before_all, blank, gen_row}
 use Rattle.liveness.specs.Bits.{not_is, not_true, stands_has, has_stands, length-cleared, cleared-at, blank_bit}
+pub use Rattle.liveness.specs.Lattice.{length-before_all}
+use Rattle.liveness.specs.Lattice.{marked_long}
 use Rattle.liveness.proofs.Paths.{live_stmt, live_next, live_splits, live_solves}
 
 -- what holds of a local before statements, where E holds of it behind them: read, or not filled and so on
@@ -40,10 +42,6 @@ through_unfilled [] E x q e = e
 through_unfilled (s ∷ ss) E x q e = inr (λ p. q (Contains-append_left (stmt_fills s) (flat_map stmt_fills ss) x p), through_unfilled ss E x (λ p. q (Contains-append_right (stmt_fills s) (flat_map stmt_fills ss) x p)) e)
 
 -- ---- rows
-
-pub length-before_all : (ss : List TypedStmt) (row : List Bool) → length (before_all ss row) ≡ length row
-length-before_all [] row = refl
-length-before_all (s ∷ ss) row = length-marked (cleared (before_all ss row) (stmt_fills s)) (stmt_reads s) ∙ length-cleared (before_all ss row) (stmt_fills s) ∙ length-before_all ss row
 
 -- a row that is cleared and marked
 pub mixed_bit_is : (row : List Bool) (fills reads : List ℕ) (x : ℕ) → x < length row → get_or (marked (cleared row fills) reads) x false ≡ ((get_or row x false && not (stands x fills)) || stands x reads)
@@ -80,15 +78,6 @@ blank_has n xs x l e = elim (or_cases (get_or (blank n) x false) (stands x xs) (
 
 pub has_blank : (n : ℕ) (xs : List ℕ) (x : ℕ) → x < n → Contains xs x → get_or (marked (blank n) xs) x false ≡ true
 has_blank n xs x l c = marked-at (blank n) xs x (omega (arith, length-replicate n false)) ∙ or_right (get_or (blank n) x false) (stands x xs) (has_stands x xs c)
-
-marked_long : (n : ℕ) (xs : List ℕ) → length (marked (blank n) xs) ≡ n
-marked_long n xs = length-marked (blank n) xs ∙ length-replicate n false
-
-pub gen_long : (D : List Shape) (locals : List Tree) (k : TypedBlock) → length (gen_row D locals k) ≡ length locals
-gen_long D locals k = length-before_all k.stmts (marked (blank (length locals)) (term_reads D locals k.term)) ∙ marked_long (length locals) (term_reads D locals k.term)
-
-pub kill_long : (locals : List Tree) (k : TypedBlock) → length (kill_row locals k) ≡ length locals
-kill_long locals k = marked_long (length locals) (block_fills k)
 
 -- what a block reads before it fills it
 pub gen_through : (D : List Shape) (locals : List Tree) (k : TypedBlock) (x : ℕ) → x < length locals → get_or (gen_row D locals k) x false ≡ true → Through k.stmts (Contains (term_reads D locals k.term) x) x

@@ -16,13 +16,9 @@ use Rattle.bit_rows.specs.Rows.{row_at, flag, HasSize}
 use Rattle.flow_engine.specs.declared.edges.Edge.{Edge}
 use Rattle.flow_engine.specs.Flow.{Least, problem}
 use Rattle.liveness.specs.Live.{Live}
-use Rattle.liveness.specs.Rows.{gen_row, kill_row, end_row, block_at, no_block, IsRows, IsTurned}
-use Rattle.liveness.specs.Facts.{IsSized, IsBelow, count_ones, begun, joined, sent}
-use Rattle.liveness.specs.Lattice.{live_lawful}
-use Rattle.flow_engine.proofs.Least.{least_long}
-use Rattle.liveness.proofs.Filling.{rows_sized}
-use Rattle.liveness.proofs.Through.{gen_long, kill_long}
-use Rattle.liveness.proofs.Solved.{contains_at, solved}
+use Rattle.liveness.specs.Rows.{end_row, block_at, no_block, IsRows, IsTurned}
+use Rattle.liveness.specs.Facts.{IsBelow, begun, joined, sent}
+use Rattle.liveness.proofs.Solved.{contains_at, facts_long, solved}
 use Rattle.liveness.proofs.Ends.{ends_live, end_long}
 
 module _ (D : List Shape) (trees : List Tree) (body : Body) where
@@ -47,36 +43,29 @@ module _ (D : List Shape) (trees : List Tree) (body : Body) where
       none : Block
       none = record { stmts = []; term = Unreachable }
 
-  module _ (closed : Closed (terms_of body)) (edges : List Edge) (gens kills : List (List Bool)) (turned : IsTurned (map (block_of trees) body.blocks) (length body.blocks) edges) (gr : IsRows (length body.blocks) (λ i. gen_row D (body_of trees body).locals (block_at (body_of trees body).blocks i)) gens) (kr : IsRows (length body.blocks) (λ i. kill_row (body_of trees body).locals (block_at (body_of trees body).blocks i)) kills) where
-    pub sized : IsSized (length body.blocks) (length body.locals) edges gens kills
-    sized = record {
-      ends = λ i e at. (turned.only e (contains_at edges i e at)).0;
-      gens_size = rows_sized (length body.blocks) (length body.locals) (λ i. gen_row D b.locals (block_at b.blocks i)) gens (λ r. gen_long D b.locals (block_at b.blocks r) ∙ sym locals_long) gr;
-      kills_size = rows_sized (length body.blocks) (length body.locals) (λ i. kill_row b.locals (block_at b.blocks i)) kills (λ r. kill_long b.locals (block_at b.blocks r) ∙ sym locals_long) kr;
-    }
-
+  module _ (closed : Closed (terms_of body)) (edges : List Edge) (turned : IsTurned (map (block_of trees) body.blocks) (length body.blocks) edges) where
     pub inside : All (λ e. (e.from < length body.blocks) × (e.to < length body.blocks)) edges
     inside k d l = (let p = turned.only (get_or edges k d) (contains_at edges k (get_or edges k d) (slice_get-get_or edges k d l)) in (targets_in closed (get_or edges k d).to (get_or edges k d).from p.0 p.1, p.0))
 
-    module _ (facts : List (List (List Bool))) (least : Least (λ x. HasSize x 1 (length body.locals)) (IsBelow (length body.locals)) (problem joined (begun (length body.blocks) (length body.locals) gens) (sent (length body.locals) edges gens kills) (length body.blocks) edges) facts) where
-      pub facts_long : length facts ≡ length body.blocks
-      facts_long = least_long (λ x. HasSize x 1 (length body.locals)) (IsBelow (length body.locals)) count_ones (length body.locals) (begun (length body.blocks) (length body.locals) gens) joined (sent (length body.locals) edges gens kills) (live_lawful (length body.blocks) (length body.locals) edges gens kills sized) (length body.blocks) edges facts least
+    module _ (facts : List (List (List Bool))) (least : Least (λ x. HasSize x 1 (length (body_of trees body).locals)) (IsBelow (length (body_of trees body).locals)) (problem joined (begun D (body_of trees body)) (sent (body_of trees body) edges) (length body.blocks) edges) facts) where
+      pub long : length facts ≡ length body.blocks
+      long = facts_long D b (length body.blocks) blocks_long edges turned (targets_in closed) facts least
 
       pub facts_sized : All (λ x. HasSize x 1 (length body.locals)) facts
-      facts_sized k d l = least.facts k (get_or facts k d) (slice_get-get_or facts k d l)
+      facts_sized k d l = subst (λ n. HasSize (get_or facts k d) 1 n) (sym locals_long) (least.facts k (get_or facts k d) (slice_get-get_or facts k d l))
 
       module _ (table : List (List Bool)) (is : table ≡ map (λ row. row_at row 0) facts) where
         row_is : (i : ℕ) → i < length body.blocks → row_at table i ≡ row_at (get_or facts i []) 0
-        row_is i l = ap (λ t. row_at t i) is ∙ get_or-map (λ row. row_at row 0) facts i [] [] (omega (arith, facts_long))
+        row_is i l = ap (λ t. row_at t i) is ∙ get_or-map (λ row. row_at row 0) facts i [] [] (omega (arith, long))
 
         pub table_size : HasSize table (length body.blocks) (length body.locals)
         table_size = record {
-          count_is = ap length is ∙ length-map facts (λ row. row_at row 0) ∙ facts_long;
-          bits_is = λ i l. ap length (row_is i l) ∙ (facts_sized i [] (omega (arith, facts_long))).bits_is 0 (omega arith);
+          count_is = ap length is ∙ length-map facts (λ row. row_at row 0) ∙ long;
+          bits_is = λ i l. ap length (row_is i l) ∙ (facts_sized i [] (omega (arith, long))).bits_is 0 (omega arith);
         }
 
         pub table_live : (i x : ℕ) → i < length body.blocks → x < length body.locals → IsTrue (flag table i x) ↔ Live D (body_of trees body) i 0 x
-        table_live i x l low = subst (λ row. IsTrue (get_or row x false) ↔ Live D b i 0 x) (sym (row_is i l)) (solved D b (length body.blocks) (length body.locals) blocks_long locals_long edges gens kills turned gr kr (targets_in closed) sized facts least i x l low)
+        table_live i x l low = subst (λ row. IsTrue (get_or row x false) ↔ Live D b i 0 x) (sym (row_is i l)) (solved D b (length body.blocks) blocks_long edges turned (targets_in closed) facts least i x l (omega (arith, locals_long)))
 
   module _ (closed : Closed (terms_of body)) (starts ends : List (List Bool)) (size : HasSize starts (length body.blocks) (length body.locals)) (live : (i x : ℕ) → i < length body.blocks → x < length body.locals → IsTrue (flag starts i x) ↔ Live D (body_of trees body) i 0 x) (er : IsRows (length body.blocks) (λ i. end_row D (body_of trees body).locals starts (block_at (body_of trees body).blocks i)) ends) where
     pub ends_size : HasSize ends (length body.blocks) (length body.locals)
@@ -88,10 +77,9 @@ module _ (D : List Shape) (trees : List Tree) (body : Body) where
     pub ends_are : (i x : ℕ) → i < length body.blocks → x < length body.locals → IsTrue (flag ends i x) ↔ Live D (body_of trees body) i (length (block_at (body_of trees body).blocks i).stmts) x
     ends_are i x l low = subst (λ row. IsTrue (get_or row x false) ↔ Live D b i (length (block_at b.blocks i).stmts) x) (sym (er.each i l)) (ends_live D b (length body.blocks) (length body.locals) blocks_long locals_long (targets_in closed) starts size live i x l low)
 
-abbrev pub LeastOf : ℕ → ℕ → List Edge → List Edge → List (List Bool) → List (List Bool) → List (List (List Bool)) → Type 0
-LeastOf n bits es edges gens kills facts = Least (λ x. HasSize x 1 bits) (IsBelow bits) (problem joined (begun n bits gens) (sent bits edges gens kills) n es) facts
+abbrev pub LeastOf : List Shape → TypedBody → ℕ → List Edge → List Edge → List (List (List Bool)) → Type 0
+LeastOf D b n es edges facts = Least (λ x. HasSize x 1 (length b.locals)) (IsBelow (length b.locals)) (problem joined (begun D b) (sent b edges) n es) facts
 
 -- the same by other names
-pub least_moved : (n n2 bits bits2 : ℕ) (es edges : List Edge) (gens kills : List (List Bool)) (facts : List (List (List Bool))) → n ≡ n2 → bits ≡ bits2 → es ≡ edges → LeastOf n bits es edges gens kills facts → LeastOf n2 bits2 edges edges gens kills facts
-least_moved n n2 bits bits2 es edges gens kills facts en el ee l =
-    subst (λ m. LeastOf m bits2 edges edges gens kills facts) en (subst (λ k. LeastOf n k edges edges gens kills facts) el (subst (λ xs. LeastOf n bits xs edges gens kills facts) ee l))
+pub least_moved : (D : List Shape) (b : TypedBody) (n n2 : ℕ) (es edges : List Edge) (facts : List (List (List Bool))) → n ≡ n2 → es ≡ edges → LeastOf D b n es edges facts → LeastOf D b n2 edges edges facts
+least_moved D b n n2 es edges facts en ee l = subst (λ m. LeastOf D b m edges edges facts) en (subst (λ xs. LeastOf D b n xs edges facts) ee l)

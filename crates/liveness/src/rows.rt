@@ -1,8 +1,8 @@
-ghost use Rattle.std.specs.Prelude.{◌≡◌, ℕ, List, ◌<◌, ◌^◌, ◌↔◌, map, set, length, IfOk, OnOk, IsTrue};
+ghost use Rattle.std.specs.Prelude.{◌≡◌, ℕ, List, [], ◌∷◌, ◌<◌, ◌^◌, ◌↔◌, map, set, length, get_or, IfOk, OnOk, IsTrue};
 ghost use Rattle.std.specs.List.{All};
 ghost use Rattle.bit_rows.specs.Rows.{row_at, flag, marked, HasSize};
 ghost use Rattle.mir_syntax.specs.Tree.{trees_of};
-ghost use Rattle.mir_syntax.specs.Crate.{crate_of, body_of};
+ghost use Rattle.mir_syntax.specs.Crate.{crate_of, body_of, block_of};
 ghost use Rattle.mir_syntax.specs.Shapes.{shapes_of};
 ghost use Rattle.mir_syntax.specs.Drops.{KnowsDrops};
 ghost use Rattle.mir_syntax.specs.Ids.{IdsInTable, BodyInTable};
@@ -11,7 +11,7 @@ ghost use Rattle.mir_cfg.specs.Paths.{terms_of, Closed};
 ghost use Rattle.liveness.specs.Live.{Live, term_reads, term_fills};
 ghost use Rattle.liveness.specs.Rows.{cleared, or_rows, end_row, block_at, IsRows};
 
-use crate::effects::{gens, kills};
+use crate::effects::long_kills;
 use crate::flow::LiveFlow;
 use crate::terminator::{fill_term, read_term};
 use crate::turned::turned_edges;
@@ -28,17 +28,16 @@ pub struct LiveRows {
     pub ends: BitRows,
 }
 
-/// The one row of each of these, in one table.
-fn one_table(alloc: Global, rows: &[BitRows], bits: u32) -> Result<BitRows, OutOfMemory>
+/// Makes the rows of a table those of others, which have one row each.
+fn copy_rows(table: &mut BitRows, rows: &[BitRows])
     requires few { length rows.now < 2 ^ 30 }
-    requires sizes { All (λ row. HasSize row 1 bits) rows.now }
-    ensures { IfOk result (λ table. table ≡ map (λ row. row_at row 0) rows.now) }
+    requires long { length table.old ≡ length rows.now }
+    requires sizes { (r : ℕ) → r < length rows.now → HasSize (get_or rows.now r []) 1 (length (row_at table.old r)) }
+    ensures { table.new ≡ map (λ row. row_at row 0) rows.now }
 {
-    let mut table = BitRows::new(alloc, rows.len() as u32, bits)?;
     for (at, row) in rows.iter().enumerate() {
         table.copy_other(at as u32, row, 0);
     }
-    Ok(table)
 }
 
 /// Adds the ones of rows of another table.
@@ -78,6 +77,32 @@ fn end_block(
     Ok(())
 }
 
+/// One row, of the locals that are live before a block's terminator, given those that are live at the blocks' starts.
+///
+/// # Errors
+///
+/// `OutOfMemory`.
+pub fn live_end(
+    alloc: Global,
+    program: &Program,
+    body: &Body,
+    block: &Block,
+    starts: &BitRows,
+) -> Result<BitRows, OutOfMemory>
+    requires knows { KnowsDrops program.now }
+    requires ids { IdsInTable program.now }
+    requires body_ids { BodyInTable program.now.types body.now }
+    requires few_locals { length body.now.locals < 2 ^ 30 }
+    requires targets { All (λ r. r < length starts.now) (targets block.now.term) }
+    requires same_bits { (r : ℕ) → r < length starts.now → length (row_at starts.now r) ≡ length body.now.locals }
+    ensures size { IfOk result (λ row. HasSize row 1 (length body.now.locals)) }
+    ensures live { IfOk result (λ row. row ≡ end_row (shapes_of (crate_of program.now)) (body_of (trees_of program.now.types) body.now).locals starts.now (block_of (trees_of program.now.types) block.now) ∷ []) }
+{
+    let mut row = BitRows::new(alloc, 1, body.locals.len() as u32)?;
+    end_block(alloc, program, body, block, starts, &mut row, 0)?;
+    Ok(row)
+}
+
 /// The locals that are live before the blocks' terminators, given those that are live at their starts.
 fn ends(
     alloc: Global,
@@ -102,8 +127,13 @@ fn ends(
     Ok(rows)
 }
 
-/// Of each block the locals that are live before its first statement, as the least solution of the flow of live locals.
-fn starts(alloc: Global, program: &Program, body: &Body) -> Result<BitRows, OutOfMemory>
+/// Of each block the locals that are live before its first statement, for a body whose edges lead to its blocks: the least solution of the
+/// flow of live locals.
+///
+/// # Errors
+///
+/// `OutOfMemory`.
+pub fn live_starts(alloc: Global, program: &Program, body: &Body) -> Result<BitRows, OutOfMemory>
     requires knows { KnowsDrops program.now }
     requires ids { IdsInTable program.now }
     requires body_ids { BodyInTable program.now.types body.now }
@@ -114,19 +144,19 @@ fn starts(alloc: Global, program: &Program, body: &Body) -> Result<BitRows, OutO
     ensures live { IfOk result (λ rows. (b x : ℕ) → b < length body.now.blocks → x < length body.now.locals → IsTrue (flag rows b x) ↔ Live (shapes_of (crate_of program.now)) (body_of (trees_of program.now.types) body.now) b 0 x) }
 {
     let edges = turned_edges(alloc, body.blocks.as_slice())?;
-    let gens = gens(alloc, program, body)?;
-    let kills = kills(alloc, body)?;
+    let kills = long_kills(alloc, body)?;
     let blocks = body.blocks.len() as u32;
-    let bits = body.locals.len() as u32;
+    // The table is made before the facts, so that its place isn't behind the one that they leave.
+    let mut starts = BitRows::new(alloc, blocks, body.locals.len() as u32)?;
     let flow = LiveFlow {
-        blocks,
-        bits,
+        program,
+        body,
         edges,
-        gens,
         kills,
     };
     let facts = solve(alloc, &flow, blocks, flow.edges.as_slice())?;
-    one_table(alloc, facts.as_slice(), bits)
+    copy_rows(&mut starts, facts.as_slice());
+    Ok(starts)
 }
 
 /// The live locals of a body whose edges lead to its blocks.
@@ -146,7 +176,7 @@ pub fn live(alloc: Global, program: &Program, body: &Body) -> Result<LiveRows, O
     ensures ends_size { IfOk result (λ rows. HasSize rows.ends (length body.now.blocks) (length body.now.locals)) }
     ensures ends { IfOk result (λ rows. (b x : ℕ) → b < length body.now.blocks → x < length body.now.locals → IsTrue (flag rows.ends b x) ↔ Live (shapes_of (crate_of program.now)) (body_of (trees_of program.now.types) body.now) b (length (block_at (body_of (trees_of program.now.types) body.now).blocks b).stmts) x) }
 {
-    let starts = starts(alloc, program, body)?;
+    let starts = live_starts(alloc, program, body)?;
     let ends = ends(alloc, program, body, &starts)?;
     Ok(LiveRows { starts, ends })
 }

@@ -1,8 +1,8 @@
 -- The least solution of the flow of a status says exactly what the paths bring.
-use Rattle.std.proofs.Common.{◌≡◌, ◌⊎◌, inl, inr, refl, sym, ap, ◌∙◌, subst, ℕ, zero, suc, ◌<◌, ◌≤◌, Bool, true, false, not, ◌&&◌, ◌||◌, nat_eq, nat_lt, if◌then◌else◌, List, [], ◌∷◌, length, get_or, Option, Some, None, slice_get, IsTrue, ◌↔◌, arith}
+use Rattle.std.proofs.Common.{◌≡◌, inl, inr, refl, sym, ap, ◌∙◌, subst, ℕ, zero, suc, ◌<◌, Bool, true, false, not, ◌&&◌, ◌||◌, nat_eq, nat_lt, if◌then◌else◌, List, [], ◌∷◌, length, get_or, Some, slice_get, IsTrue, ◌↔◌, arith}
 use Rattle.std.specs.List.{Contains}
-use Rattle.std.proofs.lemmas.Bool.{cases_Bool, or_cases, both_ways}
-use Rattle.std.proofs.lemmas.List.{length-map, get_or-map, length-replicate, get_or-replicate, get_or_past}
+use Rattle.std.proofs.lemmas.Bool.{cases_Bool, or_cases}
+use Rattle.std.proofs.lemmas.List.{get_or-map, length-replicate, get_or-replicate, get_or_past}
 use Rattle.std.proofs.lemmas.Option.{slice_get_within, slice_get-get_or, get_or_from_slice_get}
 use Rattle.mir_syntax.specs.declared.body.Place.{Place}
 use Rattle.mir_syntax.specs.declared.body.Term.{Term}
@@ -15,14 +15,14 @@ use Rattle.flow_engine.specs.declared.edges.Edge.{Edge}
 use Rattle.flow_engine.specs.Flow.{Least, Lawful, problem}
 use Rattle.flow_engine.proofs.Least.{least_long, least_edge, least_start, least_holds}
 use Rattle.liveness.specs.Rows.{blank, block_at, no_block, IsRows}
-use Rattle.liveness.specs.Facts.{IsBelow, count_ones, joined, after}
-use Rattle.liveness.specs.Bits.{bit_within, blank_bit}
-use Rattle.liveness.specs.Lattice.{row_long, joined_bit, after_bit}
+use Rattle.liveness.specs.Facts.{IsBelow, count_ones, joined}
+use Rattle.liveness.specs.Bits.{blank_bit}
+use Rattle.liveness.specs.Lattice.{row_long, joined_bit}
 use Rattle.liveness.proofs.Solved.{contains_at, at_contains}
 use Rattle.move_paths.specs.Inits.{after_block, is_argument, ComesBy, Comes}
-use Rattle.move_paths.specs.Rows.{has, passed_block, each_unit, end_row, first_row, edge_on, IsOnward}
-use Rattle.move_paths.specs.Facts.{IsSized, begun, along, sent}
-use Rattle.move_paths.specs.Lattice.{status_lawful}
+use Rattle.move_paths.specs.Rows.{has, passed_block, end_row, first_row, edge_on, IsOnward}
+use Rattle.move_paths.specs.Facts.{IsSized, begun, after, along, sent}
+use Rattle.move_paths.specs.Lattice.{status_lawful, after_bit}
 use Rattle.move_paths.proofs.Each.{each_at}
 use Rattle.move_paths.proofs.Statuses.{kind_block, kind_split, kind_rises, has_is, has_self, has_block}
 

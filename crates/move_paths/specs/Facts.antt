@@ -1,9 +1,9 @@
 -- The facts of the flow of a status: one row, of the units that may have it at a block's start.
-use Rattle.std.specs.Prelude.{◌≡◌, ℕ, ◌<◌, Bool, nat_eq, if◌then◌else◌, List, [], ◌∷◌, Option, Some, None, slice_get}
-use Rattle.bit_rows.specs.Rows.{row_at, HasSize}
+use Rattle.std.specs.Prelude.{◌≡◌, ℕ, ◌<◌, Bool, ◌||◌, nat_eq, if◌then◌else◌, List, [], ◌∷◌, Option, Some, None, slice_get}
+use lib.Lanes.{zip2}
+use Rattle.bit_rows.specs.Rows.{row_at, and_not, HasSize}
 use Rattle.flow_engine.specs.declared.edges.Edge.{Edge}
 use Rattle.liveness.specs.Rows.{blank}
-use Rattle.liveness.specs.Facts.{after}
 
 -- edges come from blocks that have rows
 pub record IsSized (blocks bits : ℕ) (edges : List Edge) (first gens kills : List (List Bool)) : Type 0 where
@@ -14,6 +14,10 @@ pub record IsSized (blocks bits : ℕ) (edges : List Edge) (first gens kills : L
 
 abbrev pub begun : ℕ → List (List Bool) → ℕ → List (List Bool)
 begun bits first b = (if nat_eq b 0 then row_at first 0 else blank bits) ∷ []
+
+-- without the ones of a row, with those of another
+abbrev pub after : List Bool → List Bool → List Bool → List Bool
+after row kill gen = zip2 (λ a b. a || b) (zip2 and_not row kill) gen
 
 abbrev pub along : ℕ → List (List Bool) → List (List Bool) → List (List Bool) → Option Edge → List (List Bool)
 along bits gens kills x None = blank bits ∷ []

@@ -18,11 +18,11 @@ use Rattle.mir_cfg.specs.Paths.{block_term, terms_of, Closed}
 use Rattle.bit_rows.specs.Rows.{row_at, flag, stands, HasSize}
 use Rattle.liveness.specs.Live.{Live}
 use Rattle.liveness.specs.Decided.{is_live}
-use Rattle.liveness.specs.Rows.{before_all, block_at, no_block}
+use Rattle.liveness.specs.Rows.{before_all, end_row, block_at, no_block, IsRows}
 use Rattle.liveness.proofs.Decided.{live_told, told_live}
 use Rattle.liveness.proofs.Through.{point_live, live_point}
 use Rattle.dest_prop.specs.Merged.{written, stmt_writes, any_from, stmt_hurts, term_hurts, block_hurts, hurts}
-use Rattle.dest_prop.specs.Code.{makes_copy, bare_copy, hurts_among, term_hurts_by, hurts_in, blocks_hurt, argument_hurts}
+use Rattle.dest_prop.specs.Code.{makes_copy, bare_copy, hurts_among, term_hurts_by, hurts_in, blocks_hurt, argument_hurts, ends_of}
 use Rattle.dest_prop.proofs.equal.Effects.{writes_are, copy_is}
 
 -- the same test of items and of what they stand for
@@ -111,3 +111,18 @@ pub all_next : (body : Body) → Closed (terms_of body) → All (λ (k : Block).
 all_next body closed = λ i d l.
     let term : get_or (map block_term body.blocks) i Unreachable ≡ (get_or body.blocks i d).term = get_or-map block_term body.blocks i d Unreachable l in
     subst (λ (n : ℕ). All (λ r. r < n) (targets (get_or body.blocks i d).term)) (length-map body.blocks block_term) (subst (λ t. All (λ r. r < length (map block_term body.blocks)) (targets t)) term (closed i))
+
+-- ---- the rows before the terminators
+
+-- the row of one block
+pub end_at : (D : List Shape) (trees : List Tree) (body : Body) (starts : List (List Bool)) (i : ℕ) (d : Block) → i < length body.blocks → row_at (ends_of D (body_of trees body) starts) i ≡ end_row D (body_of trees body).locals starts (block_of trees (get_or body.blocks i d))
+end_at D trees body starts i d l =
+    get_or-map (end_row D (body_of trees body).locals starts) (map (block_of trees) body.blocks) i (block_of trees d) [] (omega (arith, l, length-map body.blocks (block_of trees)))
+    ∙ ap (end_row D (body_of trees body).locals starts) (get_or-map (block_of trees) body.blocks i d (block_of trees d) l)
+
+-- all of them
+pub ends_rows : (D : List Shape) (trees : List Tree) (body : Body) (starts : List (List Bool)) → IsRows (length body.blocks) (λ i. end_row D (body_of trees body).locals starts (block_at (body_of trees body).blocks i)) (ends_of D (body_of trees body) starts)
+ends_rows D trees body starts = record {
+  long = length-map (map (block_of trees) body.blocks) (end_row D (body_of trees body).locals starts) ∙ length-map body.blocks (block_of trees);
+  each = λ r l. get_or-map (end_row D (body_of trees body).locals starts) (map (block_of trees) body.blocks) r no_block [] (omega (arith, l, length-map body.blocks (block_of trees)));
+}

@@ -10,22 +10,22 @@ use Rattle.mir_syntax.specs.Crate.{TypedBody}
 use Rattle.mir_syntax.specs.Shapes.{Shape}
 use Rattle.mir_syntax.proofs.Bools.{if_true, if_false, same_tests}
 use Rattle.mir_renaming.proofs.Memory.{same_or_not}
-use Rattle.bit_rows.specs.Rows.{row_at, flag, HasSize}
+use Rattle.bit_rows.specs.Rows.{row_at, flag, and_not, HasSize}
 use Rattle.liveness.specs.Bits.{bit_within}
+use Rattle.liveness.specs.Lattice.{one_row, single, minus_long, minus_bit}
 use Rattle.dest_prop.specs.declared.candidates.LocalCopy.{LocalCopy}
 use Rattle.dest_prop.specs.declared.groups.Groups.{Groups}
 use Rattle.dest_prop.specs.Merged.{Pair, hurts, conflict, members, is_fixed, agree, may_join, joined, homes_after, home_of, candidates}
 use Rattle.dest_prop.specs.Code.{home_in, moved_home, or_into, next_home, pair_of, IsSized, IsGrouped, MayUnite}
-use Rattle.dest_prop.proofs.Homes.{above, all_at, not_true}
+use Rattle.dest_prop.proofs.Homes.{all_at, not_true}
 use Rattle.dest_prop.proofs.equal.Grown.{size_set, or_long}
 
 -- ---- each alone
 
--- the first so many locals have their rows
-pub record Alone (n : ℕ) (hurts : List (List Bool)) (done : ℕ) (rows : List (List Bool)) : Type 0 where
-  pub size : HasSize rows (n + n) n
-  pub hurt : (x y : ℕ) → x < done → y < n → flag rows x y ≡ flag hurts x y
-  pub member : (x y : ℕ) → x < n → y < n → flag rows (n + x) y ≡ (nat_lt x done && nat_eq y x)
+-- the first so many locals have themselves
+pub record Alone (n : ℕ) (done : ℕ) (rows : List (List Bool)) : Type 0 where
+  pub size : HasSize rows n n
+  pub member : (x y : ℕ) → x < n → y < n → flag rows x y ≡ (nat_lt x done && nat_eq y x)
 
 other_row : (rows : List (List Bool)) (i r y : ℕ) (row : List Bool) → (r ≡ i → ⊥) → flag (set rows i row) r y ≡ flag rows r y
 other_row rows i r y row ne = ap (λ (t : List Bool). get_or t y false) (get_or-set_other rows i r row [] ne)
@@ -33,110 +33,114 @@ other_row rows i r y row ne = ap (λ (t : List Bool). get_or t y false) (get_or-
 same_row : (rows : List (List Bool)) (i y : ℕ) (row : List Bool) → i < length rows → flag (set rows i row) i y ≡ get_or row y false
 same_row rows i y row l = ap (λ (t : List Bool). get_or t y false) (get_or-set_same rows i row [] l)
 
-pub alone_more : (n : ℕ) (hurts rows mid last : List (List Bool)) (i : ℕ) → HasSize hurts n n → i < n → Alone n hurts i rows → mid ≡ set rows i (row_at hurts i) → last ≡ set mid (n + i) (set (row_at mid (n + i)) i true) → Alone n hurts (i + 1) last
-alone_more n hurts rows mid last i size low so mid_is last_is = record {
-  size = subst (λ t. HasSize t (n + n) n) (sym last_is) (size_set mid (n + n) n (n + i) (set (row_at mid (n + i)) i true) mid_size (length-set (row_at mid (n + i)) i true ∙ mid_size.bits_is (n + i) (omega (arith, low))));
-  hurt = λ x y l m. ap (λ t. flag t x y) last_is ∙ other_row mid (n + i) x y (set (row_at mid (n + i)) i true) (λ e. absurd (omega (arith, l, low, e))) ∙ ap (λ t. flag t x y) mid_is ∙ first x y l m (same_or_not x i);
-  member = λ x y l m. ap (λ t. flag t (n + x) y) last_is ∙ second x y l m (same_or_not x i) (same_or_not y i);
+pub alone_more : (n : ℕ) (rows last : List (List Bool)) (i : ℕ) → i < n → Alone n i rows → last ≡ set rows i (set (row_at rows i) i true) → Alone n (i + 1) last
+alone_more n rows last i low so last_is = record {
+  size = subst (λ t. HasSize t n n) (sym last_is) (size_set rows n n i (set (row_at rows i) i true) so.size (length-set (row_at rows i) i true ∙ so.size.bits_is i low));
+  member = λ x y l m. ap (λ t. flag t x y) last_is ∙ second x y l m (same_or_not x i) (same_or_not y i);
 }
   where
-    mid_size : HasSize mid (n + n) n
-    mid_size = subst (λ t. HasSize t (n + n) n) (sym mid_is) (size_set rows (n + n) n i (row_at hurts i) so.size (size.bits_is i low))
-
-    first : (x y : ℕ) → x < i + 1 → y < n → ((nat_eq x i ≡ true) × (x ≡ i)) ⊎ ((nat_eq x i ≡ false) × (x ≡ i → ⊥)) → flag (set rows i (row_at hurts i)) x y ≡ flag hurts x y
-    first x y l m (inl e) = ap (λ x. flag (set rows i (row_at hurts i)) x y) e.1 ∙ same_row rows i y (row_at hurts i) (omega (arith, low, so.size.count_is)) ∙ ap (λ x. flag hurts x y) (sym e.1)
-    first x y l m (inr e) = other_row rows i x y (row_at hurts i) e.1 ∙ so.hurt x y (let ne = above i x in lower x l e.1) m
-      where
-        lower : (x : ℕ) → x < i + 1 → (x ≡ i → ⊥) → x < i
-        lower x l ne = elim (cases_lt x i) [ inl h ↦ h | inr h ↦ absurd (ne (omega (arith, l, h))) ]
-
-    mid_member : (x y : ℕ) → x < n → y < n → flag mid (n + x) y ≡ (nat_lt x i && nat_eq y x)
-    mid_member x y l m = ap (λ t. flag t (n + x) y) mid_is ∙ other_row rows i (n + x) y (row_at hurts i) (λ e. absurd (omega (arith, low, e))) ∙ so.member x y l m
-
-    second : (x y : ℕ) → x < n → y < n → ((nat_eq x i ≡ true) × (x ≡ i)) ⊎ ((nat_eq x i ≡ false) × (x ≡ i → ⊥)) → ((nat_eq y i ≡ true) × (y ≡ i)) ⊎ ((nat_eq y i ≡ false) × (y ≡ i → ⊥)) → flag (set mid (n + i) (set (row_at mid (n + i)) i true)) (n + x) y ≡ (nat_lt x (i + 1) && nat_eq y x)
+    second : (x y : ℕ) → x < n → y < n → ((nat_eq x i ≡ true) × (x ≡ i)) ⊎ ((nat_eq x i ≡ false) × (x ≡ i → ⊥)) → ((nat_eq y i ≡ true) × (y ≡ i)) ⊎ ((nat_eq y i ≡ false) × (y ≡ i → ⊥)) → flag (set rows i (set (row_at rows i) i true)) x y ≡ (nat_lt x (i + 1) && nat_eq y x)
     second x y l m (inl e) f =
-        ap (λ (x : ℕ). flag (set mid (n + i) (set (row_at mid (n + i)) i true)) (n + x) y) e.1
-        ∙ same_row mid (n + i) y (set (row_at mid (n + i)) i true) (omega (arith, low, mid_size.count_is))
+        ap (λ (x : ℕ). flag (set rows i (set (row_at rows i) i true)) x y) e.1
+        ∙ same_row rows i y (set (row_at rows i) i true) (omega (arith, low, so.size.count_is))
         ∙ bit f
         ∙ ap (λ b. b && nat_eq y i) (sym (lt-ltb x (i + 1) (omega (arith, e.1))))
         ∙ ap (λ (z : ℕ). nat_lt x (i + 1) && nat_eq y z) (sym e.1)
       where
-        bit : ((nat_eq y i ≡ true) × (y ≡ i)) ⊎ ((nat_eq y i ≡ false) × (y ≡ i → ⊥)) → get_or (set (row_at mid (n + i)) i true) y false ≡ (true && nat_eq y i)
-        bit (inl f) = ap (λ (y : ℕ). get_or (set (row_at mid (n + i)) i true) y false) f.1 ∙ get_or-set_same (row_at mid (n + i)) i true false (omega (arith, low, mid_size.bits_is (n + i) (omega (arith, low)))) ∙ sym f.0
-        bit (inr f) = get_or-set_other (row_at mid (n + i)) i y true false f.1 ∙ mid_member i y low m ∙ ap (λ b. b && nat_eq y i) (le-ltb i i (omega arith)) ∙ sym f.0
+        bit : ((nat_eq y i ≡ true) × (y ≡ i)) ⊎ ((nat_eq y i ≡ false) × (y ≡ i → ⊥)) → get_or (set (row_at rows i) i true) y false ≡ (true && nat_eq y i)
+        bit (inl f) = ap (λ (y : ℕ). get_or (set (row_at rows i) i true) y false) f.1 ∙ get_or-set_same (row_at rows i) i true false (omega (arith, low, so.size.bits_is i low)) ∙ sym f.0
+        bit (inr f) = get_or-set_other (row_at rows i) i y true false f.1 ∙ so.member i y low m ∙ ap (λ b. b && nat_eq y i) (le-ltb i i (omega arith)) ∙ sym f.0
     second x y l m (inr e) f =
-        other_row mid (n + i) (n + x) y (set (row_at mid (n + i)) i true) (λ h. e.1 (omega (arith, h)))
-        ∙ mid_member x y l m
+        other_row rows i x y (set (row_at rows i) i true) e.1
+        ∙ so.member x y l m
         ∙ ap (λ b. b && nat_eq y x) (same_tests (nat_lt x i) (nat_lt x (i + 1))
         (λ h. lt-ltb x (i + 1) (let q = ltb-true x i h in omega (arith, q)))
         (λ h. elim (cases_lt x i) [ inl q ↦ lt-ltb x i q | inr q ↦ absurd (e.1 (let z = ltb-true x (i + 1) h in omega (arith, q, z))) ]))
 
-pub alone_all : (n : ℕ) (hurts rows : List (List Bool)) (i : ℕ) → n ≤ i → Alone n hurts i rows → (x y : ℕ) → x < n → y < n → flag rows (n + x) y ≡ nat_eq y x
-alone_all n hurts rows i high so x y l m = so.member x y l m ∙ ap (λ b. b && nat_eq y x) (lt-ltb x i (omega (arith, l, high)))
+pub alone_all : (n : ℕ) (rows : List (List Bool)) (i : ℕ) → n ≤ i → Alone n i rows → (x y : ℕ) → x < n → y < n → flag rows x y ≡ nat_eq y x
+alone_all n rows i high so x y l m = so.member x y l m ∙ ap (λ b. b && nat_eq y x) (lt-ltb x i (omega (arith, l, high)))
 
-pub alone_grouped : (f : ℕ → ℕ → Bool) (g : Groups) → ((x y : ℕ) → x < g.locals → y < g.locals → flag g.rows x y ≡ f x y) → ((x y : ℕ) → x < g.locals → y < g.locals → flag g.rows (g.locals + x) y ≡ nat_eq y x) → ((x : ℕ) → x < g.locals → get_or g.homes.items x x ≡ x) → IsGrouped f (λ x. x) g
+pub alone_grouped : (f : ℕ → ℕ → Bool) (g : Groups) → ((x y : ℕ) → x < g.locals → y < g.locals → flag g.hurts x y ≡ f x y) → ((x y : ℕ) → x < g.locals → y < g.locals → flag g.members x y ≡ nat_eq y x) → ((x : ℕ) → x < g.locals → get_or g.homes.items x x ≡ x) → IsGrouped f (λ x. x) g
 alone_grouped f g hurt member homes = record {
   again = λ x. refl;
   least = λ x. omega arith;
   past = λ x l. refl;
   homes = homes;
-  hurt = λ r y l m e. ((λ t. (r, l, refl, sym (hurt r y l m) ∙ t)), (λ (x, lx, is, t). ap (λ (r : ℕ). flag g.rows r y) (sym is) ∙ hurt x y lx m ∙ t));
+  hurt = λ r y l m e. ((λ t. (r, l, refl, sym (hurt r y l m) ∙ t)), (λ (x, lx, is, t). ap (λ (r : ℕ). flag g.hurts r y) (sym is) ∙ hurt x y lx m ∙ t));
   members = λ r y l m e. member r y l m;
 }
 
+-- ---- two groups that meet
+
+-- a row has a one in common with another, or loses none to it
+common_or_same : (xs ys : List Bool) → length xs ≡ length ys → ((k : ℕ) × (get_or xs k false ≡ true) × (get_or ys k false ≡ true)) ⊎ (zip2 and_not xs ys ≡ xs)
+common_or_same [] [] e = inr refl
+common_or_same [] (y ∷ ys) e = absurd (omega arith)
+common_or_same (x ∷ xs) [] e = absurd (omega arith)
+common_or_same (x ∷ xs) (y ∷ ys) e = elim (common_or_same xs ys (omega arith)) [ inl (k, t, u) ↦ inl (suc k, t, u) | inr q ↦ here x y q ]
+  where
+    here : (x y : Bool) → zip2 and_not xs ys ≡ xs → ((k : ℕ) × (get_or (x ∷ xs) k false ≡ true) × (get_or (y ∷ ys) k false ≡ true)) ⊎ (zip2 and_not (x ∷ xs) (y ∷ ys) ≡ x ∷ xs)
+    here true true q = inl (0, refl, refl)
+    here true false q = inr (ap (λ (zs : List Bool). true ∷ zs) q)
+    here false y q = inr (ap (λ (zs : List Bool). false ∷ zs) q)
+
+module _ (n : ℕ) (room mid last hurts members : List (List Bool)) (a b : ℕ) (size : HasSize room 1 n) (long : length (row_at hurts a) ≡ n) (long2 : length (row_at members b) ≡ n) (mid_is : mid ≡ set room 0 (row_at hurts a)) (last_is : last ≡ set mid 0 (zip2 and_not (row_at mid 0) (row_at members b))) where
+  one_left : mid ≡ row_at hurts a ∷ []
+  one_left = mid_is ∙ ap (λ z. set z 0 (row_at hurts a)) (one_row n room size)
+
+  less_left : last ≡ zip2 and_not (row_at hurts a) (row_at members b) ∷ []
+  less_left = last_is ∙ ap (λ z. set z 0 (zip2 and_not (row_at z 0) (row_at members b))) one_left
+
+  pub room_left : HasSize last 1 n
+  room_left = subst (λ t. HasSize t 1 n) (sym less_left) (single n (zip2 and_not (row_at hurts a) (row_at members b)) (minus_long n (row_at hurts a) (row_at members b) long long2))
+
+pub meet_where_less : (n : ℕ) (room mid last hurts members : List (List Bool)) (a b : ℕ) (t : Bool) → HasSize room 1 n → length (row_at hurts a) ≡ n → length (row_at members b) ≡ n → mid ≡ set room 0 (row_at hurts a) → last ≡ set mid 0 (zip2 and_not (row_at mid 0) (row_at members b)) → IsTrue t ↔ (last ≡ mid → ⊥) → IsTrue t ↔ ((k : ℕ) × IsTrue (flag hurts a k) × IsTrue (flag members b k))
+meet_where_less n room mid last hurts members a b t size long long2 mid_is last_is changed = (to, λ (k, h, m). changed.1 (from k h m))
+  where
+    one : mid ≡ row_at hurts a ∷ []
+    one = one_left n room mid last hurts members a b size long long2 mid_is last_is
+
+    less : last ≡ zip2 and_not (row_at hurts a) (row_at members b) ∷ []
+    less = less_left n room mid last hurts members a b size long long2 mid_is last_is
+
+    to : IsTrue t → (k : ℕ) × IsTrue (flag hurts a k) × IsTrue (flag members b k)
+    to h = elim (common_or_same (row_at hurts a) (row_at members b) (long ∙ sym long2)) [ inl c ↦ c | inr e ↦ absurd (changed.0 h (less ∙ ap (λ (z : List Bool). z ∷ []) e ∙ sym one)) ]
+
+    from : (k : ℕ) → IsTrue (flag hurts a k) → IsTrue (flag members b k) → last ≡ mid → ⊥
+    from k h m e =
+        let low : k < n = (let w = bit_within (row_at hurts a) k h in omega (arith, w, long)) in
+        let cut : get_or (zip2 and_not (row_at hurts a) (row_at members b)) k false ≡ (true && not true) = minus_bit n (row_at hurts a) (row_at members b) long long2 k low ∙ ap₂ (λ p q. p && not q) h m in
+        absurd (let z : true ≡ false = sym (sym (ap (λ z. flag z 0 k) less) ∙ ap (λ z. flag z 0 k) e ∙ ap (λ z. flag z 0 k) one ∙ h) ∙ cut in grind arith)
+
 -- ---- one group of two
 
-module _ (keep gone : ℕ) (g g2 : Groups) (sized : IsSized g) (keep_in : keep < g.locals) (gone_in : gone < g.locals) (locals_same : g2.locals ≡ g.locals) (homes_are : g2.homes.items ≡ map (moved_home gone keep) g.homes.items) (rows_are : g2.rows ≡ or_into (or_into g.rows keep gone) (g.locals + keep) (g.locals + gone)) where
-  abbrev n : ℕ
-  n = g.locals
+module _ (n keep gone : ℕ) (rows : List (List Bool)) (size : HasSize rows n n) (keep_in : keep < n) (gone_in : gone < n) where
+  abbrev row : List Bool
+  row = zip2 (λ a b. a || b) (row_at rows keep) (row_at rows gone)
 
-  abbrev first : List (List Bool)
-  first = or_into g.rows keep gone
+  into_size : HasSize (or_into rows keep gone) n n
+  into_size = size_set rows n n keep row size (or_long (row_at rows keep) (row_at rows gone) n (size.bits_is keep keep_in) (size.bits_is gone gone_in))
 
-  abbrev both : List (List Bool)
-  both = or_into (or_into g.rows keep gone) (g.locals + keep) (g.locals + gone)
+  into_keep : (y : ℕ) → y < n → flag (or_into rows keep gone) keep y ≡ (flag rows keep y || flag rows gone y)
+  into_keep y m = same_row rows keep y row (omega (arith, keep_in, size.count_is)) ∙ get_or-zip2 (λ a b. a || b) (row_at rows keep) (row_at rows gone) y false false false (omega (arith, m, size.bits_is keep keep_in)) (omega (arith, m, size.bits_is gone gone_in))
 
-  wide : (r : ℕ) → r < n + n → length (row_at g.rows r) ≡ n
-  wide r l = sized.rows.bits_is r l
+  into_other : (r y : ℕ) → (r ≡ keep → ⊥) → flag (or_into rows keep gone) r y ≡ flag rows r y
+  into_other r y ne = other_row rows keep r y row ne
 
-  first_size : HasSize (or_into g.rows keep gone) (g.locals + g.locals) g.locals
-  first_size = size_set g.rows (n + n) n keep (zip2 (λ a b. a || b) (row_at g.rows keep) (row_at g.rows gone)) sized.rows (or_long (row_at g.rows keep) (row_at g.rows gone) n (wide keep (omega (arith, keep_in))) (wide gone (omega (arith, gone_in))))
+module _ (keep gone : ℕ) (g g2 : Groups) (sized : IsSized g) (keep_in : keep < g.locals) (gone_in : gone < g.locals) (locals_same : g2.locals ≡ g.locals) (homes_are : g2.homes.items ≡ map (moved_home gone keep) g.homes.items) (hurts_are : g2.hurts ≡ or_into g.hurts keep gone) (members_are : g2.members ≡ or_into g.members keep gone) where
+  abbrev hurts2 : List (List Bool)
+  hurts2 = or_into g.hurts keep gone
 
-  both_size : HasSize (or_into (or_into g.rows keep gone) (g.locals + keep) (g.locals + gone)) (g.locals + g.locals) g.locals
-  both_size = size_set first (n + n) n (n + keep) (zip2 (λ a b. a || b) (row_at first (n + keep)) (row_at first (n + gone))) first_size (or_long (row_at first (n + keep)) (row_at first (n + gone)) n (first_size.bits_is (n + keep) (omega (arith, keep_in))) (first_size.bits_is (n + gone) (omega (arith, gone_in))))
-
-  joined_bits : (a c : List Bool) (y : ℕ) → y < length a → y < length c → get_or (zip2 (λ a b. a || b) a c) y false ≡ (get_or a y false || get_or c y false)
-  joined_bits a c y l m = get_or-zip2 (λ a b. a || b) a c y false false false l m
-
-  low_keep : (y : ℕ) → y < g.locals → flag both keep y ≡ (flag g.rows keep y || flag g.rows gone y)
-  low_keep y m =
-      other_row first (n + keep) keep y (zip2 (λ a b. a || b) (row_at first (n + keep)) (row_at first (n + gone))) (λ e. absurd (omega (arith, keep_in, e)))
-      ∙ same_row g.rows keep y (zip2 (λ a b. a || b) (row_at g.rows keep) (row_at g.rows gone)) (omega (arith, keep_in, sized.rows.count_is))
-      ∙ joined_bits (row_at g.rows keep) (row_at g.rows gone) y (omega (arith, m, wide keep (omega (arith, keep_in)))) (omega (arith, m, wide gone (omega (arith, gone_in))))
-
-  low_other : (r y : ℕ) → r < g.locals → (r ≡ keep → ⊥) → flag both r y ≡ flag g.rows r y
-  low_other r y l ne =
-      other_row first (n + keep) r y (zip2 (λ a b. a || b) (row_at first (n + keep)) (row_at first (n + gone))) (λ e. absurd (omega (arith, l, e)))
-      ∙ other_row g.rows keep r y (zip2 (λ a b. a || b) (row_at g.rows keep) (row_at g.rows gone)) ne
-
-  first_high : (r y : ℕ) → flag first (g.locals + r) y ≡ flag g.rows (g.locals + r) y
-  first_high r y = other_row g.rows keep (n + r) y (zip2 (λ a b. a || b) (row_at g.rows keep) (row_at g.rows gone)) (λ e. absurd (omega (arith, keep_in, e)))
-
-  high_keep : (y : ℕ) → y < g.locals → flag both (g.locals + keep) y ≡ (flag g.rows (g.locals + keep) y || flag g.rows (g.locals + gone) y)
-  high_keep y m =
-      same_row first (n + keep) y (zip2 (λ a b. a || b) (row_at first (n + keep)) (row_at first (n + gone))) (omega (arith, keep_in, first_size.count_is))
-      ∙ joined_bits (row_at first (n + keep)) (row_at first (n + gone)) y (omega (arith, m, first_size.bits_is (n + keep) (omega (arith, keep_in)))) (omega (arith, m, first_size.bits_is (n + gone) (omega (arith, gone_in))))
-      ∙ ap₂ (λ a b. a || b) (first_high keep y) (first_high gone y)
-
-  high_other : (r y : ℕ) → (r ≡ keep → ⊥) → flag both (g.locals + r) y ≡ flag g.rows (g.locals + r) y
-  high_other r y ne = other_row first (n + keep) (n + r) y (zip2 (λ a b. a || b) (row_at first (n + keep)) (row_at first (n + gone))) (λ e. ne (omega (arith, e))) ∙ first_high r y
+  abbrev members2 : List (List Bool)
+  members2 = or_into g.members keep gone
 
   pub united_sized : IsSized g2
   united_sized = record {
     few = subst (λ (n : ℕ). n < 1073741824) (sym locals_same) sized.few;
     homes = ap length homes_are ∙ length-map g.homes.items (moved_home gone keep) ∙ sized.homes ∙ sym locals_same;
     below = λ x l. subst (λ (n : ℕ). get_or g2.homes.items x x < n) (sym locals_same) (subst (λ (hs : List ℕ). get_or hs x x < g.locals) (sym homes_are) (moved x (subst (λ (n : ℕ). x < n) locals_same l)));
-    rows = subst (λ (n : ℕ). HasSize g2.rows (n + n) n) (sym locals_same) (subst (λ t. HasSize t (g.locals + g.locals) g.locals) (sym rows_are) both_size);
+    hurts = subst (λ (n : ℕ). HasSize g2.hurts n n) (sym locals_same) (subst (λ t. HasSize t g.locals g.locals) (sym hurts_are) (into_size g.locals keep gone g.hurts sized.hurts keep_in gone_in));
+    members = subst (λ (n : ℕ). HasSize g2.members n n) (sym locals_same) (subst (λ t. HasSize t g.locals g.locals) (sym members_are) (into_size g.locals keep gone g.members sized.members keep_in gone_in));
   }
     where
       moved : (x : ℕ) → x < g.locals → get_or (map (moved_home gone keep) g.homes.items) x x < g.locals
@@ -206,44 +210,44 @@ module _ (keep gone : ℕ) (g g2 : Groups) (sized : IsSized g) (keep_in : keep <
         go (inl h) (inr e) = if_false keep (home x) e.0 ∙ elim h.0 [ inl q ↦ q | inr q ↦ absurd (e.1 q) ] ∙ sym h.1
         go (inr h) (inr e) = if_false keep (home x) e.0 ∙ sym h.1
 
-    hurt : (r y : ℕ) → r < g.locals → y < g.locals → after r ≡ r → IsTrue (flag both r y) ↔ ((x : ℕ) × (x < g.locals) × (after x ≡ r) × IsTrue (f x y))
+    hurt : (r y : ℕ) → r < g.locals → y < g.locals → after r ≡ r → IsTrue (flag hurts2 r y) ↔ ((x : ℕ) × (x < g.locals) × (after x ≡ r) × IsTrue (f x y))
     hurt r y l m e = go (root r e)
       where
-        kept : IsTrue (flag g.rows keep y) ↔ ((x : ℕ) × (x < g.locals) × (home x ≡ keep) × IsTrue (f x y))
+        kept : IsTrue (flag g.hurts keep y) ↔ ((x : ℕ) × (x < g.locals) × (home x ≡ keep) × IsTrue (f x y))
         kept = so.hurt keep y keep_in m keep_home
 
-        went : IsTrue (flag g.rows gone y) ↔ ((x : ℕ) × (x < g.locals) × (home x ≡ gone) × IsTrue (f x y))
+        went : IsTrue (flag g.hurts gone y) ↔ ((x : ℕ) × (x < g.locals) × (home x ≡ gone) × IsTrue (f x y))
         went = so.hurt gone y gone_in m gone_home
 
-        go : (r ≡ keep) ⊎ ((r ≡ keep → ⊥) × ((r ≡ gone → ⊥) × (home r ≡ r))) → IsTrue (flag both r y) ↔ ((x : ℕ) × (x < g.locals) × (after x ≡ r) × IsTrue (f x y))
+        go : (r ≡ keep) ⊎ ((r ≡ keep → ⊥) × ((r ≡ gone → ⊥) × (home r ≡ r))) → IsTrue (flag hurts2 r y) ↔ ((x : ℕ) × (x < g.locals) × (after x ≡ r) × IsTrue (f x y))
         go (inl q) = (
-          (λ t. elim (or_cases (flag g.rows keep y) (flag g.rows gone y) (sym (low_keep y m) ∙ ap (λ (r : ℕ). flag both r y) (sym q) ∙ t)) [
+          (λ t. elim (or_cases (flag g.hurts keep y) (flag g.hurts gone y) (sym (into_keep g.locals keep gone g.hurts sized.hurts keep_in gone_in y m) ∙ ap (λ (r : ℕ). flag hurts2 r y) (sym q) ∙ t)) [
             | inl t ↦ (let (x, lx, is, h) = kept.0 t in (x, lx, in_after x (inl is) ∙ sym q, h))
             | inr t ↦ (let (x, lx, is, h) = went.0 t in (x, lx, in_after x (inr is) ∙ sym q, h))
           ]),
-          (λ (x, lx, is, h). ap (λ (r : ℕ). flag both r y) q ∙ low_keep y m ∙ elim (after_in x (is ∙ q)) [
-            | inl p ↦ or_left (flag g.rows keep y) (flag g.rows gone y) (kept.1 (x, lx, p, h))
-            | inr p ↦ or_right (flag g.rows keep y) (flag g.rows gone y) (went.1 (x, lx, p, h))
+          (λ (x, lx, is, h). ap (λ (r : ℕ). flag hurts2 r y) q ∙ into_keep g.locals keep gone g.hurts sized.hurts keep_in gone_in y m ∙ elim (after_in x (is ∙ q)) [
+            | inl p ↦ or_left (flag g.hurts keep y) (flag g.hurts gone y) (kept.1 (x, lx, p, h))
+            | inr p ↦ or_right (flag g.hurts keep y) (flag g.hurts gone y) (went.1 (x, lx, p, h))
           ]),
         )
         go (inr q) = (
-          (λ t. (let (x, lx, is, h) = (so.hurt r y l m q.1.1).0 (sym (low_other r y l q.0) ∙ t) in (x, lx, after_other x r q.0 q.1.0 is, h))),
-          (λ (x, lx, is, h). low_other r y l q.0 ∙ (so.hurt r y l m q.1.1).1 (x, lx, other_after x r q.0 is, h)),
+          (λ t. (let (x, lx, is, h) = (so.hurt r y l m q.1.1).0 (sym (into_other g.locals keep gone g.hurts sized.hurts keep_in gone_in r y q.0) ∙ t) in (x, lx, after_other x r q.0 q.1.0 is, h))),
+          (λ (x, lx, is, h). into_other g.locals keep gone g.hurts sized.hurts keep_in gone_in r y q.0 ∙ (so.hurt r y l m q.1.1).1 (x, lx, other_after x r q.0 is, h)),
         )
 
-    member : (r y : ℕ) → r < g.locals → y < g.locals → after r ≡ r → flag both (g.locals + r) y ≡ nat_eq (after y) r
+    member : (r y : ℕ) → r < g.locals → y < g.locals → after r ≡ r → flag members2 r y ≡ nat_eq (after y) r
     member r y l m e = go (root r e)
       where
-        go : (r ≡ keep) ⊎ ((r ≡ keep → ⊥) × ((r ≡ gone → ⊥) × (home r ≡ r))) → flag both (g.locals + r) y ≡ nat_eq (after y) r
+        go : (r ≡ keep) ⊎ ((r ≡ keep → ⊥) × ((r ≡ gone → ⊥) × (home r ≡ r))) → flag members2 r y ≡ nat_eq (after y) r
         go (inl q) =
-            ap (λ (r : ℕ). flag both (n + r) y) q ∙ high_keep y m
+            ap (λ (r : ℕ). flag members2 r y) q ∙ into_keep g.locals keep gone g.members sized.members keep_in gone_in y m
             ∙ ap₂ (λ a b. a || b) (so.members keep y keep_in m keep_home) (so.members gone y gone_in m gone_home)
             ∙ same_tests (nat_eq (home y) keep || nat_eq (home y) gone) (nat_eq (after y) keep)
             (λ t. eq-eqb (after y) keep (in_after y (elim (or_cases (nat_eq (home y) keep) (nat_eq (home y) gone) t) [ inl a ↦ inl (eqb-true (home y) keep a) | inr a ↦ inr (eqb-true (home y) gone a) ])))
             (λ t. elim (after_in y (eqb-true (after y) keep t)) [ inl a ↦ or_left (nat_eq (home y) keep) (nat_eq (home y) gone) (eq-eqb (home y) keep a) | inr a ↦ or_right (nat_eq (home y) keep) (nat_eq (home y) gone) (eq-eqb (home y) gone a) ])
             ∙ ap (nat_eq (after y)) (sym q)
         go (inr q) =
-            high_other r y q.0 ∙ so.members r y l m q.1.1
+            into_other g.locals keep gone g.members sized.members keep_in gone_in r y q.0 ∙ so.members r y l m q.1.1
             ∙ same_tests (nat_eq (home y) r) (nat_eq (after y) r)
             (λ t. eq-eqb (after y) r (after_other y r q.0 q.1.0 (eqb-true (home y) r t)))
             (λ t. eq-eqb (home y) r (other_after y r q.0 (eqb-true (after y) r t)))
@@ -254,8 +258,8 @@ module _ (keep gone : ℕ) (g g2 : Groups) (sized : IsSized g) (keep_in : keep <
       least = least;
       past = λ x l. past x (subst (λ (n : ℕ). n ≤ x) locals_same l);
       homes = λ x l. ap (λ (hs : List ℕ). get_or hs x x) homes_are ∙ homes x (subst (λ (n : ℕ). x < n) locals_same l);
-      hurt = λ r y l m e. subst (λ (n : ℕ). IsTrue (flag g2.rows r y) ↔ ((x : ℕ) × (x < n) × (after x ≡ r) × IsTrue (f x y))) (sym locals_same) (subst (λ t. IsTrue (flag t r y) ↔ ((x : ℕ) × (x < g.locals) × (after x ≡ r) × IsTrue (f x y))) (sym rows_are) (hurt r y (subst (λ (n : ℕ). r < n) locals_same l) (subst (λ (n : ℕ). y < n) locals_same m) e));
-      members = λ r y l m e. ap₂ (λ (n : ℕ) t. flag t (n + r) y) locals_same rows_are ∙ member r y (subst (λ (n : ℕ). r < n) locals_same l) (subst (λ (n : ℕ). y < n) locals_same m) e;
+      hurt = λ r y l m e. subst (λ (n : ℕ). IsTrue (flag g2.hurts r y) ↔ ((x : ℕ) × (x < n) × (after x ≡ r) × IsTrue (f x y))) (sym locals_same) (subst (λ t. IsTrue (flag t r y) ↔ ((x : ℕ) × (x < g.locals) × (after x ≡ r) × IsTrue (f x y))) (sym hurts_are) (hurt r y (subst (λ (n : ℕ). r < n) locals_same l) (subst (λ (n : ℕ). y < n) locals_same m) e));
+      members = λ r y l m e. ap (λ t. flag t r y) members_are ∙ member r y (subst (λ (n : ℕ). r < n) locals_same l) (subst (λ (n : ℕ). y < n) locals_same m) e;
     }
 
 -- ---- one candidate
@@ -309,11 +313,11 @@ module _ (D : List Shape) (b : TypedBody) (home : ℕ → ℕ) (c : Pair) where
     second_in : home c.1 < g.locals
     second_in = (let l = so.least c.1 in omega (arith, l, from_in))
 
-    within : (r y : ℕ) → r < g.locals + g.locals → IsTrue (flag g.rows r y) → y < g.locals
-    within r y l t = (let w = bit_within (row_at g.rows r) y t in omega (arith, w, sized.rows.bits_is r l))
+    within : (r y : ℕ) → r < g.locals → IsTrue (flag g.hurts r y) → y < g.locals
+    within r y l t = (let w = bit_within (row_at g.hurts r) y t in omega (arith, w, sized.hurts.bits_is r l))
 
     -- a write of a member of the one is a mark of its row, and a member of the other is one of that's
-    meets : (p q : ℕ) → p < g.locals → q < g.locals → home p ≡ p → home q ≡ q → ((y : ℕ) → IsTrue (flag g.rows p y) → IsTrue (flag g.rows (g.locals + q) y) → ⊥) → (x y : ℕ) → x < g.locals → y < g.locals → home x ≡ p → home y ≡ q → hurts D b x y ≡ false
+    meets : (p q : ℕ) → p < g.locals → q < g.locals → home p ≡ p → home q ≡ q → ((y : ℕ) → IsTrue (flag g.hurts p y) → IsTrue (flag g.members q y) → ⊥) → (x y : ℕ) → x < g.locals → y < g.locals → home x ≡ p → home y ≡ q → hurts D b x y ≡ false
     meets p q lp lq hp hq apart x y lx ly ex ey = is_false (hurts D b x y) (λ t. apart y ((so.hurt p y lp ly hp).1 (x, lx, ex, t)) (so.members q y lq ly hq ∙ eq-eqb (home y) q ey))
 
     pub unite_joins : MayUnite g (home c.0) (home c.1) → may_join D b home c ≡ true
@@ -338,9 +342,9 @@ module _ (D : List Shape) (b : TypedBody) (home : ℕ → ℕ) (c : Pair) where
     unfolding conflict
     joins_unite join = record {
       one_fixed = λ l m. absurd (let z : true ≡ false = sym (ap₂ (λ a c. a && c) (le-leb (home c.0) b.args (omega (arith, l, args_same))) (le-leb (home c.1) b.args (omega (arith, m, args_same)))) ∙ fixed_apart in grind arith);
-      first = λ y t u. (let ly = within (home c.0) y (omega (arith, first_in)) t in let (x, lx, ex, h) = (so.hurt (home c.0) y first_in ly (so.again c.0)).0 t in
+      first = λ y t u. (let ly = within (home c.0) y first_in t in let (x, lx, ex, h) = (so.hurt (home c.0) y first_in ly (so.again c.0)).0 t in
           absurd (let z : true ≡ false = sym h ∙ or_none_left (hurts D b x y) (hurts D b y x) (free x y lx ly ex (eqb-true (home y) (home c.1) (sym (so.members (home c.1) y second_in ly (so.again c.1)) ∙ u))) in grind arith));
-      second = λ x t u. (let lx = within (home c.1) x (omega (arith, second_in)) t in let (y, ly, ey, h) = (so.hurt (home c.1) x second_in lx (so.again c.1)).0 t in
+      second = λ x t u. (let lx = within (home c.1) x second_in t in let (y, ly, ey, h) = (so.hurt (home c.1) x second_in lx (so.again c.1)).0 t in
           absurd (let z : true ≡ false = sym h ∙ or_none_right (hurts D b x y) (hurts D b y x) (free x y lx ly (eqb-true (home x) (home c.0) (sym (so.members (home c.0) x first_in lx (so.again c.0)) ∙ u)) ey) in grind arith));
     }
       where
@@ -379,20 +383,20 @@ module _ (D : List Shape) (b : TypedBody) (home : ℕ → ℕ) (c : Pair) where
         back (inr e) = elim two [ inl t ↦ inr (e ∙ t.1) | inr t ↦ inl (e ∙ t.1) ]
 
     -- the groups of a candidate are joined
-    pub joined_groups : (a z keep gone : ℕ) (g2 : Groups) → a ≡ home c.0 → z ≡ home c.1 → MayUnite g a z → keep ≡ min a z → gone ≡ max a z → g2.locals ≡ g.locals → g2.homes.items ≡ map (moved_home gone keep) g.homes.items → g2.rows ≡ or_into (or_into g.rows keep gone) (g.locals + keep) (g.locals + gone) → IsGrouped (hurts D b) (next_home D b home c) g2
-    joined_groups a z keep gone g2 a_is z_is may keep_is gone_is same homes_are rows_are =
+    pub joined_groups : (a z keep gone : ℕ) (g2 : Groups) → a ≡ home c.0 → z ≡ home c.1 → MayUnite g a z → keep ≡ min a z → gone ≡ max a z → g2.locals ≡ g.locals → g2.homes.items ≡ map (moved_home gone keep) g.homes.items → g2.hurts ≡ or_into g.hurts keep gone → g2.members ≡ or_into g.members keep gone → IsGrouped (hurts D b) (next_home D b home c) g2
+    joined_groups a z keep gone g2 a_is z_is may keep_is gone_is same homes_are hurts_are members_are =
         subst (λ (h : ℕ → ℕ). IsGrouped (hurts D b) h g2) (sym (if_true (joined home c) home (unite_joins (subst (λ z. MayUnite g (home c.0) z) z_is (subst (λ a. MayUnite g a z) a_is may))))) (go (cases_lt (home c.0) (home c.1)))
       where
         go : (home c.0 < home c.1) ⊎ (home c.1 ≤ home c.0) → IsGrouped (hurts D b) (joined home c) g2
         go (inl l) =
             let k : keep ≡ home c.0 = omega (arith, keep_is, a_is, z_is, l) in
             let w : gone ≡ home c.1 = omega (arith, gone_is, a_is, z_is, l) in
-            united keep gone g g2 sized (omega (arith, k, first_in)) (omega (arith, w, second_in)) same homes_are rows_are (hurts D b) home (joined home c) so (omega (arith, k, w, l)) (ap home k ∙ so.again c.0 ∙ sym k) (ap home w ∙ so.again c.1 ∙ sym w)
+            united keep gone g g2 sized (omega (arith, k, first_in)) (omega (arith, w, second_in)) same homes_are hurts_are members_are (hurts D b) home (joined home c) so (omega (arith, k, w, l)) (ap home k ∙ so.again c.0 ∙ sym k) (ap home w ∙ so.again c.1 ∙ sym w)
             (placed_as keep gone (inl (k, w)) (omega (arith, k, l)))
         go (inr l) =
             let k : keep ≡ home c.1 = omega (arith, keep_is, a_is, z_is, l) in
             let w : gone ≡ home c.0 = omega (arith, gone_is, a_is, z_is, l) in
-            united keep gone g g2 sized (omega (arith, k, second_in)) (omega (arith, w, first_in)) same homes_are rows_are (hurts D b) home (joined home c) so (omega (arith, k, w, l)) (ap home k ∙ so.again c.1 ∙ sym k) (ap home w ∙ so.again c.0 ∙ sym w)
+            united keep gone g g2 sized (omega (arith, k, second_in)) (omega (arith, w, first_in)) same homes_are hurts_are members_are (hurts D b) home (joined home c) so (omega (arith, k, w, l)) (ap home k ∙ so.again c.1 ∙ sym k) (ap home w ∙ so.again c.0 ∙ sym w)
             (placed_as keep gone (inr (k, w)) (omega (arith, k, l)))
 
     -- or they stay, where they may not be one

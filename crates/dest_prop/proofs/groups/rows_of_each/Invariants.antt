@@ -1,5 +1,0 @@
-use Rattle.dest_prop.proofs.equal.Grouping.{Alone}
-use Rattle.dest_prop.proofs.groups.rows_of_each.Given as goal
-
-abbrev pub invariant-loop-local : goal.invariant-loop-local
-invariant-loop-local l = Alone l.locals l.hurts l.local l.rows
