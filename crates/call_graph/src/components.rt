@@ -223,6 +223,10 @@ impl Model for Components {
 
 impl Components {
     /// The components of the graph in which the targets of each node are listed, in time that is linear in the lists.
+    ///
+    /// # Errors
+    ///
+    /// `OutOfMemory`.
     pub fn new<T: Node>(alloc: Global, targets: &[List<T>]) -> Result<Components, OutOfMemory>
         requires few { length targets.now < 2 ^ 32 }
         requires inside { StaysInside T.number targets.now }

@@ -74,6 +74,10 @@ fn functions_of(
 }
 
 /// The crate of so many functions that is made from a number, with the lines of its text.
+///
+/// # Errors
+///
+/// `OutOfMemory`.
 pub fn generate(alloc: Global, start: u32, functions: u32) -> Result<Generated, OutOfMemory>
     requires some { 0 < functions }
     requires few { functions ≤ 10000 }

@@ -27,6 +27,10 @@ impl Random {
 }
 
 /// The turns of workers, numbered from 0: 4,096 draws below their number.
+///
+/// # Errors
+///
+/// `OutOfMemory`.
 pub fn schedule(alloc: Global, start: u32, workers: u32) -> Result<List<u32>, OutOfMemory>
     requires { 0 < workers }
     ensures { IfOk result (λ turns. turns ≡ draws workers 4096 start) }

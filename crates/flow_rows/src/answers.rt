@@ -140,6 +140,10 @@ pub fn written(alloc: Global, body: &Body, block: usize) -> Result<Vec<u32>, Out
 }
 
 /// The body in one table, if the body is ready.
+///
+/// # Errors
+///
+/// `OutOfMemory`.
 pub fn flat_if_ready(
     alloc: Global,
     program: &Program,
@@ -152,6 +156,10 @@ pub fn flat_if_ready(
 }
 
 /// How many statements each block of a body in one table has.
+///
+/// # Errors
+///
+/// `OutOfMemory`.
 pub fn stmt_counts(alloc: Global, flat: &FlatBody) -> Result<Vec<usize>, OutOfMemory> {
     let mut counts = Vec::new(alloc);
     for block in 0..flat.blocks() {

@@ -66,6 +66,10 @@ pub fn read_enum<'a>(
 }
 
 /// `-> type`
+///
+/// # Errors
+///
+/// `Fault` with the first fault, where no such part stands at the front; `OutOfMemory`.
 #[tactic(auto, unfolding(crate::specs::Items::result_type))]
 pub fn read_result<'a>(
     alloc: Global,

@@ -125,6 +125,10 @@ fn read_turn<'a, R: ReadItem>(
 }
 
 /// Reads items with commas between up to the bracket that closes their list, and answers what stands past that.
+///
+/// # Errors
+///
+/// `Fault` with the first fault, where no such list stands at the front; `OutOfMemory`.
 #[tactic(auto, unfolding(crate::specs::Lists::items_from))]
 pub fn read_items<'a, R: ReadItem>(
     alloc: Global,

@@ -49,6 +49,10 @@ fn range(stmts: &[Stmt], start: usize, end: usize) -> &[Stmt]
 
 impl FlatBody {
     /// The same body; its statements and terminators are moved.
+    ///
+    /// # Errors
+    ///
+    /// `OutOfMemory`.
     pub fn of(alloc: Global, body: Body) -> Result<FlatBody, OutOfMemory>
         requires few { length body.blocks < 2 ^ 32 }
         ensures { IfOk result (λ flat. flat ≡ body) }
@@ -71,6 +75,10 @@ impl FlatBody {
     }
 
     /// An equal body, in memory of its own.
+    ///
+    /// # Errors
+    ///
+    /// `OutOfMemory`.
     pub fn copy(&self, alloc: Global) -> Result<FlatBody, OutOfMemory>
         ensures { IfOk result (λ copy. copy ≡ self.now) }
     {
@@ -84,6 +92,10 @@ impl FlatBody {
     }
 
     /// An equal body whose blocks have lists of their own.
+    ///
+    /// # Errors
+    ///
+    /// `OutOfMemory`.
     pub fn to_body(&self, alloc: Global) -> Result<Body, OutOfMemory>
         ensures { IfOk result (λ body. body ≡ self.now) }
     {

@@ -93,6 +93,7 @@ impl Passing<'_> {
         }
     }
 
+    /// Carries a row of units over statements, from before the first to behind the last.
     pub fn pass_stmts(&self, stmts: &[Stmt], rows: &mut BitRows, row: u32)
         requires within { row < length rows.old }
         requires bits { length (row_at rows.old row) ≡ length self.now.units.now.places }
